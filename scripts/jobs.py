@@ -142,7 +142,8 @@ class Tried(Job):
         data = files_below(f"{folder}/data")
         sources = [f"{ROOT}/crates.txt", *below, *beside, *data]
         super().__init__(f"{what} of {crate}", folder, [], sources)
-        self.words = ["rt", "try", "--seconds", SECONDS]
+        path = f"PATH={SCRIPTS}/without-hint:{os.environ['PATH']}"
+        self.words = ["env", path, "rt", "try", "--seconds", SECONDS]
         for path in filter(is_utf8, data):
             self.words += ["--data", f"{os.path.relpath(path, f'{folder}/data')}={path}"]
         self.words += words

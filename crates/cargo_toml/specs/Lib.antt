@@ -62,8 +62,10 @@ pub use Rattle.cargo_toml_discovery.specs.Sorting
 pub use Rattle.cargo_toml_discovery.specs.Told as ToldFolders
 pub use Rattle.cargo_toml_workspace.specs.Sharing
 pub use Rattle.cargo_toml_workspace.specs.Workspaces
+pub use Rattle.cargo_toml_write.specs.Asked
 pub use Rattle.cargo_toml_write.specs.NoFloats
 pub use Rattle.cargo_toml_write.specs.Requirements
+pub use Rattle.cargo_toml_write.specs.Reread
 pub use Rattle.cargo_toml_write.specs.Ways
 pub use Rattle.cargo_toml_write.specs.WrittenBadges
 pub use Rattle.cargo_toml_write.specs.WrittenDependencies

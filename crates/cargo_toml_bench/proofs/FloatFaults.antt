@@ -1,14 +1,16 @@
--- What the writer of a package refuses, other than for want of memory, are floats.
-use Rattle.std.proofs.Common.{◌≡◌, ◌⊎◌, inl, inr, List, [], ◌∷◌, Option, Some, None, Err}
+-- What the writers of a package and of a lint refuse, other than for want of memory, are floats.
+use Rattle.std.proofs.Common.{◌≡◌, ◌⊎◌, inl, inr, ℕ, Bool, true, false, List, [], ◌∷◌, ◌++◌, MatchBool, Option, Some, None, Err}
 use Rattle.toml.specs.Data.{Data}
 use Rattle.cargo_toml.specs.Error.{Error, Memory}
 use Rattle.cargo_toml.specs.Faults.{IsOther, floats_unsupported}
+use Rattle.cargo_toml.specs.Lints.{LintMeaning}
 use Rattle.cargo_toml.specs.Packages.{PackageMeaning}
 use Rattle.cargo_toml.specs.Settings.{Registries, everywhere, among}
-use Rattle.cargo_toml.specs.Ways.{free_way, inheritable_way, list_way, text_way, texts_way, truth_way, version_way}
+use Rattle.cargo_toml.specs.Ways.{entry_rows, free_way, inheritable_way, list_way, small_way, text_way, texts_way, truth_way, version_way}
 use Rattle.cargo_toml.specs.Writes.{AreRefused, IsRefused, IsWriting, Row, Way}
+use Rattle.cargo_toml.specs.WrittenLints.{is_level_alone, lint_rows, lint_way}
 use Rattle.cargo_toml.specs.WrittenPackages.{package_rows, package_way}
-use Rattle.cargo_toml.specs.WrittenSettings.{edition_way, file_way, publish_way, resolver_way}
+use Rattle.cargo_toml.specs.WrittenSettings.{edition_way, file_way, level_way, publish_way, resolver_way}
 use Rattle.cargo_toml_parts.specs.declared.inheritable.Inheritable.{Inheritable}
 use Rattle.cargo_toml_parts.specs.declared.inheritable.Inheritable.TheVariants.{Set, Inherited}
 
@@ -102,3 +104,25 @@ package_rows_only p =
 pub package_refused : (p : PackageMeaning Data) (e : Error) → IsWriting (package_way free_way) p (Err e) → (e ≡ Memory) ⊎ IsFloat e
 package_refused p e (inl memory) = inl memory
 package_refused p e (inr h) = inr (rows_only (package_rows free_way p) (package_rows_only p) e h.1)
+
+-- a refusal to write a lint, too
+entries_only : (es : List (List ℕ × Data)) (rows : List Row) → AreOnly rows → AreOnly (entry_rows free_way es ++ rows)
+entries_only [] rows o = o
+entries_only (e ∷ es) rows o = (free_only, entries_only es rows o)
+
+level_only : Only level_way
+level_only = record { faults = λ x e h. absurd h }
+
+small_only : Only small_way
+small_only = record { faults = λ x e h. absurd h }
+
+lint_rows_only : (l : LintMeaning) → AreOnly (lint_rows l)
+lint_rows_only l = entries_only l.config _ (level_only, (small_only, tt))
+
+lint_fault : (b : Bool) (l : LintMeaning) (e : Error) → MatchBool b ⊥ (AreRefused (lint_rows l) e) → IsFloat e
+lint_fault true l e h = absurd h
+lint_fault false l e h = rows_only (lint_rows l) (lint_rows_only l) e h
+
+pub lint_refused : (l : LintMeaning) (e : Error) → IsWriting lint_way l (Err e) → (e ≡ Memory) ⊎ IsFloat e
+lint_refused l e (inl memory) = inl memory
+lint_refused l e (inr h) = inr (lint_fault (is_level_alone l) l e h.1)

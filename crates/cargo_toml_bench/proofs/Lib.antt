@@ -4,6 +4,7 @@ pub mod Unreferenced
 pub mod Enabling
 pub mod MemberFeatures
 mod Rewriting
+mod WithVersion
 mod FloatFaults
 pub mod ToldAt
 pub mod RootTold

@@ -8,6 +8,7 @@ pub mod Enabled
 pub mod Members
 pub mod Completing
 pub mod Rewriting
+pub mod Versioned
 pub mod InMemory
 -- the code's own steps, in contracts of inner functions and of `plain` alone: no caller's promise
 -- rests on these

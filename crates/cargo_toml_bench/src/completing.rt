@@ -143,7 +143,8 @@ pub fn edition_of_file<'a, R: Files + AllocGlobal>(
     path: &'a str,
 ) -> Result<Option<Edition>, Error>
     ensures edition { IfOk result
-        (λ e. (m : Manifest Value) × IsReadAndCompleted path.now view (manifest_reads any_tree) m
+        (λ e. (m : Manifest Value)
+        × IsReadAndCompleted (manifest_meaning view) (manifest_reads any_tree) m
         × (e ≡ option_and_then (λ p. value_of p.edition) m.«package»)) }
     ensures named { OnOk result (IsSome (path_parent path.now)) }
     ensures refused { IfErr result (IsPathFault path.now (manifest_meaning view)

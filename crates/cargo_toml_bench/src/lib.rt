@@ -16,4 +16,5 @@ pub mod plain;
 pub mod report;
 pub mod round_trip;
 mod sets;
+pub mod versioned;
 pub mod whole;

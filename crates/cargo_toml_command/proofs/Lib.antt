@@ -1,2 +1,1 @@
-mod FileFaults
 mod Products

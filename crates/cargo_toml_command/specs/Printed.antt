@@ -7,7 +7,7 @@ use Rattle.cargo_toml_manifest.specs.declared.manifest.Manifest.{Manifest}
 use Rattle.cargo_toml_manifest.specs.Manifests.{held, manifest_meaning, manifest_reads}
 use Rattle.cargo_toml_manifest.specs.Manifests.{ManifestRefuses}
 use Rattle.cargo_toml_manifest.specs.RealFiles.{IsPathFault, IsReadFromText}
-use Rattle.cargo_toml_manifest.specs.RealFiles.{RootFoundAround, real_folders, real_roots}
+use Rattle.cargo_toml_manifest.specs.RealFiles.{any_root, real_folders, real_roots}
 use Rattle.cargo_toml_manifest.specs.Roots.{IsFromSlice}
 use Rattle.cargo_toml_manifest.specs.Texts.{AnyRefuses, any_tree}
 use Rattle.cargo_toml_parts.specs.declared.error.Error.{Error}
@@ -22,12 +22,12 @@ IsOfBytes IsText bytes text = (m : Manifest Value) × IsFromSlice bytes (Ok m) �
 abbrev pub IsSpelled : Manifest Value → Type 0
 IsSpelled = IsReadFromText (manifest_meaning view) (manifest_reads any_tree)
 
--- the text is that of a manifest which some text spells, as completing it around this path leaves
+-- the text is that of a manifest which some text spells, as completing it among real files leaves
 -- it
-abbrev pub IsOfCompleted : List ℕ → Text → Type 0
-IsOfCompleted path text =
+abbrev pub IsOfCompleted : Text → Type 0
+IsOfCompleted text =
     (old : Manifest Value) × IsSpelled old × (new : Manifest Value)
-    × IsCompleted old None real_roots (RootFoundAround path) real_folders new
+    × IsCompleted old None real_roots any_root real_folders new
     × (text ≡ completion_text (held new))
 
 -- why the file at this path gives no completed manifest

@@ -25,7 +25,7 @@ pub fn print_completed<R: Files + AllocGlobal, W: Write>(
     file: &str,
     output: &mut W,
 ) -> Result<(), Error>
-    ensures printed { OnOk result ((text : Text) × IsOfCompleted file.now text
+    ensures printed { OnOk result ((text : Text) × IsOfCompleted text
         × Appends (W.contents output.old) (W.contents output.new) text) }
     ensures named { OnOk result (IsSome (path_parent file.now)) }
     ensures unwritten { IfErr result (λ e. IsOfManifest e
@@ -46,7 +46,7 @@ fn completed_lines<R: Files + AllocGlobal>(
     manifest: &mut Manifest,
 ) -> Result<String, Error>
     ensures lines { IsSpelled manifest.old → IfOk result
-        (λ text. IsOfCompleted file.now (string_bytes text)) }
+        (λ text. IsOfCompleted (string_bytes text)) }
     ensures named { OnOk result (IsSome (path_parent file.now)) }
     ensures refused { IsSpelled manifest.old → IfErr result (IsFileFault file.now) }
 {

@@ -78,13 +78,16 @@ abbrev is_missing : ErrorKind → Bool
 is_missing NotFound = true
 is_missing kind = false
 
+pub has_memory : ¬ (NotFound ≡ OutOfMemory)
+has_memory h = let clash : false ≡ true = ap is_memory h in cc
+
 -- and one of listing a folder
 pub from_listing : (f : IoError) (e : Error) → IsListingFault f e → (e ≡ Memory) ⊎ IsListingInput (fault_of e)
 from_listing f e (inl absent) =
     inr (
       NotFound,
       (
-        (λ h. let clash : false ≡ true = ap is_memory h in cc),
+        has_memory,
         ((λ h. let clash : false ≡ true = ap is_no_folder h in cc), absent.1),
       ),
     )
@@ -108,17 +111,3 @@ entry_present found fault is (inr file) = no_file found fault is file
 pub from_entry : (f : IoError) (e : Error) → ¬ SaysAbsent (error_kind f) → IsFromIo f e → (e ≡ Memory) ⊎ IsListingInput (fault_of e)
 from_entry f e present (inl h) = inl h.1
 from_entry f e present (inr h) = inr (error_kind f, (h.0, ((λ file. present (inr file)), ap fault_of h.1 ∙ fault_of-io f)))
-
--- that a folder is absent comes of a fault of that kind
-pub of_absence : (f : IoError) (e : Error) → IsFromIo f e → fault_of e ≡ io NotFound → error_kind f ≡ NotFound
-of_absence f e (inl h) is = let clash : memory ≡ io NotFound = sym (ap fault_of h.1 ∙ fault_of-memory) ∙ is in cc
-of_absence f e (inr h) is = let same : io (error_kind f) ≡ io NotFound = sym (ap fault_of h.1 ∙ fault_of-io f) ∙ is in cc
-
-pub absent_folder : (f : IoError) (e : Error) → IsListingFault f e → fault_of e ≡ io NotFound → SaysAbsent (error_kind f)
-absent_folder f e (inl absent) is = inr absent.0
-absent_folder f e (inr (_, from)) is = inl (of_absence f e from is)
-
--- nor does want of memory
-pub memory_present : (f : IoError) → error_kind f ≡ OutOfMemory → ¬ SaysAbsent (error_kind f)
-memory_present f is (inl missing) = let clash : false ≡ true = ap is_missing (sym is ∙ missing) in cc
-memory_present f is (inr file) = let clash : false ≡ true = ap is_no_folder (sym is ∙ file) in cc

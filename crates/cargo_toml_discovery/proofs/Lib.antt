@@ -4,7 +4,6 @@ pub mod Ascend
 pub mod Ascends
 pub mod Copies
 pub mod Dashes
-pub mod EntryNames
 pub mod Extends
 pub mod Faults
 pub mod Heard

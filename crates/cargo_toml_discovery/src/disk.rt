@@ -1,15 +1,10 @@
 //! The names in folders on the disk.
-ghost use Rattle.std.specs.Iterator.{IsFinite};
-ghost use Rattle.std.specs.Prelude.{◌≡◌, ◌⊎◌, IfErr, IfOk};
-ghost use Rattle.cargo_toml_parts.specs.declared.error.Error.{Memory};
 ghost use Rattle.std.specs.IoError.{error_kind};
-ghost use Rattle.std.specs.declared.io.ErrorKind.TheVariants.{NotFound};
-ghost use Rattle.cargo_toml_parts.specs.FaultValues.{fault_of, io};
-ghost use Rattle.cargo_toml_discovery.specs.Disk.{AreNamesOf, GivesEntryFault, GivesNames};
+ghost use Rattle.std.specs.Iterator.{IsFinite};
+ghost use Rattle.std.specs.Prelude.{◌≡◌, IfErr};
 ghost use Rattle.cargo_toml_discovery.specs.Disk.{IsEntryFault, IsListingFault, IsListingInput};
-ghost use Rattle.cargo_toml_discovery.specs.Disk.{IsOfListing, IsWantOfMemory, SaysAbsent};
-ghost use Rattle.cargo_toml_discovery.specs.Disk.{SaysNoFolder, or_here};
-ghost use Rattle.cargo_toml_discovery.specs.Folders.{HasTexts};
+ghost use Rattle.cargo_toml_discovery.specs.Disk.{SaysAbsent, or_here};
+ghost use Rattle.cargo_toml_discovery.specs.Folders.{RefusesBy};
 
 use cargo_toml_parts::Error;
 use std::alloc::{Allocator, Global};
@@ -54,32 +49,15 @@ fn entry_fault(fault: io::Error) -> io::Error
 ///
 /// Refused by `Error::Io` where the folder or an entry can't be read or a name isn't UTF-8, and by
 /// `Error::Memory`. The fault of an entry never counts as an absent folder. That the system was
-/// asked for this folder no contract says.
+/// asked for this folder, and that these are its names, no contract says.
 pub fn names_in<R: Files + AllocGlobal>(
     rt: &R,
     alloc: Global,
     folder: &str,
 ) -> Result<HashSet<String>, Error>
-    ensures listed { IfOk result
-        (IsOfListing ⟦<fs::ReadDir<&'static R> as Iterator>⟧.next_gives) }
-    ensures refused { IfErr result (λ e. (e ≡ Memory) ⊎ IsListingInput (fault_of e)) }
+    ensures { RefusesBy IsListingInput result }
 {
-    listed_names(alloc, fs::read_dir(&rt, folder))
-}
-
-// The names in a folder, by what the system answered when it was asked for its entries.
-fn listed_names<R: Files + AllocGlobal>(
-    alloc: Global,
-    answer: io::Result<fs::ReadDir<&R>>,
-) -> Result<HashSet<String>, Error>
-    ensures made { AreNamesOf ⟦<fs::ReadDir<&'static R> as Iterator>⟧.next_gives
-        answer.entry result }
-    ensures listed { IfOk result
-        (IsOfListing ⟦<fs::ReadDir<&'static R> as Iterator>⟧.next_gives) }
-    ensures refused { IfErr result (λ e. (e ≡ Memory) ⊎ IsListingInput (fault_of e)) }
-    ensures absent { IfErr result (λ e. fault_of e ≡ io NotFound → SaysNoFolder answer.entry) }
-{
-    match answer {
+    match fs::read_dir(&rt, folder) {
         Ok(entries) => match entry_names(alloc, entries) {
             Ok(names) => Ok(names),
             Err(fault) => Err(Error::from(fault)),
@@ -99,10 +77,7 @@ where
     I: Iterator<Item = io::Result<DirEntry<R, A>>> + Drop,
     requires can { I.can_next entries }
     requires ends { IsFinite (I.remaining entries) }
-    ensures names { IfOk result (λ set. GivesNames I.next_gives entries (HasTexts set)) }
-    ensures refused { IfErr result
-        (λ fault. IsWantOfMemory fault ⊎ GivesEntryFault I.next_gives entries fault) }
-    ensures present { IfErr result (λ fault. ¬ SaysAbsent (error_kind fault)) }
+    ensures { IfErr result (λ fault. ¬ SaysAbsent (error_kind fault)) }
 {
     let mut names = HashSet::new(alloc);
     for entry in entries {

@@ -10,6 +10,7 @@ pub mod entries;
 pub mod examples;
 pub mod features;
 pub mod laws;
+pub mod node;
 pub mod questions;
 pub mod recursive;
 pub mod texts;

@@ -67,7 +67,7 @@ module _ (entries : Text → List Entry) (old new : List Feature) (h : ThinnedAl
   has_thinned = has_along (λ f. Thinned entries) old new h.at
 
   names_thinned : (f x : Text) → (table_among new).names f x ≡ (table_among old).names f x
-  names_thinned = names_along (λ f. Thinned entries) old new h.at (λ f a b r. r.names)
+  names_thinned = names_along (λ f. Thinned entries) old new h.at (λ f a b r. ap (λ (q : Feature). q.enables_features) r.same)
 
   action_thinned : (f k : Text) → (table_among new).action f k ≡ option_map (without_redundant (first_target (entries k))) ((table_among old).action f k)
   action_thinned f k = along (λ f. Thinned entries) old new h.at f
@@ -79,7 +79,7 @@ module _ (entries : Text → List Entry) (old new : List Feature) (h : ThinnedAl
       (λ o o'. ((a : Feature) → o ≡ Some a → IsFresh f (detail_listed listed details f) a) → IfSome o' (IsFresh f (detail_listed listed details f))) (λ k. tt)
       (λ a b r all.
       let k = all a refl in
-      record { key = ap (λ q. q.now) r.key ∙ k.key; marks = r.marks ∙ k.marks; enabled_by = ap (λ q. q.keys) r.enabled_by ∙ k.enabled_by; bins = ap (λ q. q.items) r.bins ∙ k.bins })
+      record { key = ap (λ (q : Feature). q.key.now) r.same ∙ k.key; marks = ap marks_of r.same ∙ k.marks; enabled_by = ap (λ (q : Feature). q.enabled_by.keys) r.same ∙ k.enabled_by; bins = ap (λ (q : Feature). q.required_by_bins.items) r.same ∙ k.bins })
       (fresh f))
 
 -- the table with the implied features
@@ -126,15 +126,15 @@ module _ (own : Text → List Text) (old new : List Feature) (h : RequiredAll ow
   action_required : (f k : Text) → (table_among new).action f k ≡ (table_among old).action f k
   action_required f k = along (λ f. Required (own f)) old new h.at f
       (λ o o'. option_map_or (λ v. action_at v.enables_deps k) o' None ≡ option_map_or (λ v. action_at v.enables_deps k) o None) refl
-      (λ a b r. ap (λ m. action_at m k) r.actions)
+      (λ a b r. ap (λ (q : Feature). action_at q.enables_deps k) r.same)
 
   told_required : (f : Text) (these : FeatureMarks) → IfSome (feature_at old f) (IsMarked f these) → IfSome (feature_at new f) (IsTold f these (own f))
   told_required f these = along (λ f. Required (own f)) old new h.at f (λ o o'. IfSome o (IsMarked f these) → IfSome o' (IsTold f these (own f))) (λ m. tt)
       (λ a b r m. record {
-        key = ap (λ q. q.now) r.key ∙ m.key;
-        enabled_by = ap (λ q. q.keys) r.enabled_by ∙ m.enabled_by;
+        key = ap (λ (q : Feature). q.key.now) r.same ∙ m.key;
+        enabled_by = ap (λ (q : Feature). q.enabled_by.keys) r.same ∙ m.enabled_by;
         bins = r.bins ∙ ap (λ xs. map (λ (b : Bor Text). b.now) xs ++ own f) m.bins;
-        marks = r.marks ∙ m.marks;
+        marks = ap marks_of r.same ∙ m.marks;
       })
 
 -- what the answer tells of them, and of dependencies
@@ -201,7 +201,7 @@ module _ (listed : Listed) (entries : List Entry) (details : NamedDetails) (own 
   same_last : Same (table_among last) t
   same_last = record {
     has = λ f. has_along (λ q. Required (own q)) implied last b.at f ∙ same.has f;
-    names = λ f x. names_along (λ q. Required (own q)) implied last b.at (λ q v w r. r.names) f x ∙ same.names f x;
+    names = λ f x. names_along (λ q. Required (own q)) implied last b.at (λ q v w r. ap (λ (u : Feature). u.enables_features) r.same) f x ∙ same.names f x;
     action = λ f k. action_required own implied last b f k ∙ same.action f k;
   }
 

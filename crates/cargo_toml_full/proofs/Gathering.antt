@@ -1,4 +1,4 @@
--- The names of a feature's list, gathered beside the feature, and the set that is made of them.
+-- One more text of a feature's list, and sets of texts.
 use Rattle.std.proofs.Common.{◌≡◌, Bool, true, false, cond, ◌||◌, List, [], ◌∷◌, ◌++◌, map, is_some, Option, Some, None, bytes_eq, Bor, take, length, get_or, ℕ, ◌+◌, ◌<◌, Result, Ok, Err, IfOk, refl, sym, ap, ap₂, ◌∙◌}
 use Rattle.std.proofs.Math.Bool.{or-false}
 use Rattle.std.proofs.lemmas.List.Folds.{list_any-append}
@@ -19,7 +19,7 @@ use Rattle.cargo_toml_graph.specs.Action.Item.{Name, On}
 use Rattle.cargo_toml_graph.specs.Admitted.{action_on, item_names}
 use Rattle.cargo_toml_features.specs.ActionText.{action_in, item_in}
 use Rattle.cargo_toml_features.specs.Views.{action_at, set_has}
-use Rattle.cargo_toml_full.specs.ReadFeature.{IsGathered, IsReadFeature, joined_in}
+use Rattle.cargo_toml_full.specs.ReadFeature.{IsReadFeature, joined_in}
 use Rattle.cargo_toml_full.proofs.TakenMore.{taken_more}
 
 pub acting : (t : ActionText) → true ≡ (t.is_dep_only || is_some t.dep_feature) → item_in t ≡ On t.target.now (action_in t)
@@ -32,28 +32,28 @@ join_none : (o : Option Action) → join_option o None ≡ o
 join_none None = refl
 join_none (Some a) = refl
 
-module _ (f : Text) (d : Detail) (items : List Item) (named : List Text) (v : Feature) (h : IsGathered f d items named v) where
+module _ (f : Text) (d : Detail) (items : List Item) (v : Feature) (h : IsReadFeature f d items v) where
   joined : (i : Item) (k : Text) → joined_in (items ++ i ∷ []) k ≡ join_option (joined_in items k) (action_on k i)
   joined i k = fold_push (λ o j. join_option o (action_on k j)) None items i
 
+  named : (i : Item) (x : Text) → list_any (item_names x) (items ++ i ∷ []) ≡ (list_any (item_names x) items || item_names x i)
+  named i x = list_any-append (item_names x) items (i ∷ []) ∙ ap (λ b. list_any (item_names x) items || b) (or-false _)
+
   -- one more action
-  pub gathered_on : (i : Item) (key : Text) (a : Action) → i ≡ On key a → (deps : BTreeMap (Bor Text) DepAction)
-      → ((q : Text) → action_at deps q ≡ join_option (action_at v.enables_deps q) (cond (bytes_eq q key) (Some a) None)) → IsGathered f d (items ++ i ∷ []) named (record v { enables_deps = deps })
-  gathered_on i key a is deps more = record {
+  pub read_on : (i : Item) (key : Text) (a : Action) → i ≡ On key a → (deps : BTreeMap (Bor Text) DepAction)
+      → ((q : Text) → action_at deps q ≡ join_option (action_at v.enables_deps q) (cond (bytes_eq q key) (Some a) None)) → IsReadFeature f d (items ++ i ∷ []) (record v { enables_deps = deps })
+  read_on i key a is deps more = record {
     fresh = record { key = h.fresh.key; marks = h.fresh.marks; enabled_by = h.fresh.enabled_by; bins = h.fresh.bins };
-    unnamed = h.unnamed;
-    names = λ x. h.names x ∙ sym (list_any-append (item_names x) items (i ∷ []) ∙ ap (λ j. list_any (item_names x) items || (item_names x j || false)) is ∙ or-false _);
+    names = λ x. h.names x ∙ sym (named i x ∙ ap (λ j. list_any (item_names x) items || item_names x j) is ∙ or-false _);
     action = λ k. more k ∙ ap (λ o. join_option o (cond (bytes_eq k key) (Some a) None)) (h.action k) ∙ sym (joined i k ∙ ap (λ j. join_option (joined_in items k) (action_on k j)) is);
   }
 
   -- one more name
-  pub gathered_name : (i : Item) (y : Text) → i ≡ Name y → (more : List Text) → more ≡ named ++ y ∷ [] → IsGathered f d (items ++ i ∷ []) more v
-  gathered_name i y is more more_is = record {
-    fresh = h.fresh;
-    unnamed = h.unnamed;
-    names = λ x.
-        ap (list_any (bytes_eq x)) more_is ∙ list_any-append (bytes_eq x) named (y ∷ [])
-        ∙ ap₂ (λ b j. b || (item_names x j || false)) (h.names x) (sym is) ∙ sym (list_any-append (item_names x) items (i ∷ []));
+  pub read_name : (i : Item) (y : Text) → i ≡ Name y → (names : BTreeSet (Bor Text)) → ((x : Text) → set_has names x ≡ (set_has v.enables_features x || bytes_eq x y))
+      → IsReadFeature f d (items ++ i ∷ []) (record v { enables_features = names })
+  read_name i y is names more = record {
+    fresh = record { key = h.fresh.key; marks = h.fresh.marks; enabled_by = h.fresh.enabled_by; bins = h.fresh.bins };
+    names = λ x. more x ∙ ap (λ b. b || bytes_eq x y) (h.names x) ∙ sym (named i x ∙ ap (λ j. list_any (item_names x) items || item_names x j) is);
     action = λ k. h.action k ∙ sym (joined i k ∙ ap (λ j. join_option (joined_in items k) (action_on k j)) is ∙ join_none (joined_in items k));
   }
 
@@ -83,20 +83,3 @@ more_texts ks i s n lt h more x =
     more x ∙ ap (λ b. b || bytes_eq x (get_or ks i no_text).now) (h x)
     ∙ sym (ap (list_any (bytes_eq x)) (taken_more (λ (u : Bor Text). u.now) ks i (get_or ks i no_text) no_text lt refl)
     ∙ list_any-append (bytes_eq x) (map (λ u. u.now) (take i ks)) ((get_or ks i no_text).now ∷ []) ∙ ap (λ b. list_any (bytes_eq x) (map (λ u. u.now) (take i ks)) || b) (or-false _))
-
--- a feature whose names were gathered, once it has them
-pub has_gathered : (f : Text) (d : Detail) (items : List Item) (named : List Text) (v : Feature) (s : BTreeSet (Bor Text)) → IsGathered f d items named v
-    → ((x : Text) → set_has s x ≡ list_any (bytes_eq x) named) → IsReadFeature f d items (record v { enables_features = s })
-has_gathered f d items named v s h has = record {
-  fresh = record { key = h.fresh.key; marks = h.fresh.marks; enabled_by = h.fresh.enabled_by; bins = h.fresh.bins };
-  names = λ x. has x ∙ h.names x;
-  action = h.action;
-}
-
--- a feature whose names were gathered, where there are none
-pub is_gathered : (f : Text) (d : Detail) (items : List Item) (named : List Text) (v : Feature) → IsGathered f d items named v → named ≡ [] → IsReadFeature f d items v
-is_gathered f d items named v h none = record {
-  fresh = h.fresh;
-  names = λ x. h.unnamed x ∙ sym (ap (list_any (bytes_eq x)) none) ∙ h.names x;
-  action = h.action;
-}

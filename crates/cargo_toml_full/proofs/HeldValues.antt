@@ -69,9 +69,6 @@ module _ {V : Type 0} where
   pub same_then : (a b c : Slots V) → HaveSameNames a b → HaveSameNames b c → HaveSameNames a c
   same_then a b c h k = record { names = k.names ∙ h.names; count = k.count ∙ h.count }
 
-  pub same_self : (a : Slots V) → HaveSameNames a a
-  same_self a = record { names = refl; count = refl }
-
   -- the same of slots: what stands at a place, and what a new value there makes
   module _ (s : Slots V) (i : ℕ) (below : i < length s.names.items) where
     inside : i < length (names_in s)

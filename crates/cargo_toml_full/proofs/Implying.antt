@@ -90,10 +90,6 @@ module _ where
   pub implied_there : (key : Text) (m : List Feature) → is_some (feature_at m key) ≡ true → ImpliesAll (λ q. bytes_eq q key) m m
   implied_there key m there = record { at = λ q. stays (bytes_eq q key) q (feature_at m q) (λ y. subst (λ v. is_some (feature_at m v) ≡ true) (sym ((bytes_eq-Decides q key).0 y)) there) }
 
-  -- an entry that isn't optional, or is reserved, implies nothing
-  pub offers_none : (e : Entry) (reserved : Text → Bool) (m : List Feature) → ((q : Text) → is_offered reserved (e ∷ []) q ≡ false) → ImpliesAll (is_offered reserved (e ∷ [])) m m
-  offers_none e reserved m off = record { at = λ q. stays (is_offered reserved (e ∷ []) q) q (feature_at m q) (λ y. absurd (false≢true (sym (off q) ∙ y))) }
-
 -- the one plain action
 pub plain_made : (key : Text) (m n : BTreeMap (Bor Text) DepAction) (s : BTreeSet (Bor Text)) → m.entries ≡ [] → s.keys ≡ []
     → tree.UpdatesBy (λ x y. slice_cmp nat_cmp x.now y.now) (λ q. slice_cmp nat_cmp key q.now) m n (Some (record { is_conditional = false; is_dep_only = false; dep_features = s }))
@@ -106,10 +102,6 @@ plain_made key m n s none empty u k =
     go : (t : Bool) → option_map action_of (cond t (Some (record { is_conditional = false; is_dep_only = false; dep_features = s })) None) ≡ cond t (Some plain_action) None
     go true = λ i. Some (record { is_conditional = false; is_dep_only = false; features = λ x. none_in s empty x i })
     go false = refl
-
--- the same tests
-pub implied_same : (p r : Text → Bool) (a b : List Feature) → ((q : Text) → r q ≡ p q) → ImpliesAll p a b → ImpliesAll r a b
-implied_same p r a b same h = record { at = λ q. subst (λ t. Becomes t q (feature_at a q) (feature_at b q)) (sym (same q)) (h.at q) }
 
 -- no entries offer anything
 pub offers_nothing : (reserved : Text → Bool) (vs : List Feature) → ImpliesAll (is_offered reserved []) vs vs
@@ -133,10 +125,6 @@ offered_one reserved e q = ap (λ b. ((b && is_optional e.dependency) || false) 
     go : (b : Bool) → bytes_eq q e.key ≡ b → (((b && is_optional e.dependency) || false) && not (reserved q)) ≡ cond (is_optional e.dependency && not (reserved e.key)) b false
     go true on = ap (λ x. ((true && is_optional e.dependency) || false) && not (reserved x)) ((bytes_eq-Decides q e.key).0 on) ∙ both (is_optional e.dependency) (reserved e.key)
     go false off = neither (is_optional e.dependency) (reserved e.key)
-
--- no name is implied yet
-pub implied_none : (vs : List Feature) → ImpliesAll (is_one_of []) vs vs
-implied_none vs = record { at = λ q. stays false q (feature_at vs q) (λ y. absurd (false≢true y)) }
 
 -- one more key of a list
 pub implied_one_more : (ks : List (Bor Text)) (i : ℕ) (k d : Bor Text) (started a b : List Feature) → i < length ks → k ≡ get_or ks i d → ImpliesAll (is_one_of (map (λ t. t.now) (take i ks))) started a
@@ -188,17 +176,6 @@ free_more vs new old t put gone free q on = go (has_key old q) refl (bytes_eq q 
     go true there b same h = free q there
     go false there true same h = subst (λ x. feature_at vs x ≡ None) (sym ((bytes_eq-Decides q t.now).0 same)) (none_from (feature_at vs t.now) gone)
     go false there false same h = absurd (false≢true h)
-
--- other tests of the names without a feature
-pub implied_as : (p r : Text → Bool) (a b : List Feature) → ((q : Text) → feature_at a q ≡ None → p q ≡ r q) → ImpliesAll p a b → ImpliesAll r a b
-implied_as p r a b same h = record { at = λ q. go q (p q) (r q) (feature_at a q) (feature_at b q) (same q) (h.at q) }
-  where
-    go : (q : Text) (t s : Bool) (o o' : Option Feature) → (o ≡ None → t ≡ s) → Becomes t q o o' → Becomes s q o o'
-    go q t s None o' e k = subst (λ u. Becomes u q None o') (e refl) k
-    go q true true (Some v) o' e k = k
-    go q true false (Some v) o' e k = k
-    go q false true (Some v) o' e k = k
-    go q false false (Some v) o' e k = k
 
 -- a feature that is there is none of those that are implied
 pub listed_free : (ks : List (Bor Text)) (i : ℕ) (done rest : List Feature) (v : Feature) → ((q : Text) → is_one_of (map (λ k. k.now) ks) q ≡ true → feature_at (done ++ v ∷ rest) q ≡ None)

@@ -1,4 +1,5 @@
 pub mod Thinning
+pub mod Redundancy
 pub mod Counting
 pub mod Recording
 pub mod PlaceByPlace

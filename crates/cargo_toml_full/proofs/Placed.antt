@@ -2,12 +2,13 @@
 use Rattle.std.proofs.Common.{◌≡◌, ◌⊎◌, ◌||◌, ◌+◌, ◌<◌, ◌≤◌, ℕ, zero, suc, Bool, true, false, cond, List, [], ◌∷◌, ◌++◌, length, set, get_or, Option, Some, None, is_some, bytes_eq, refl, sym, ap, ap₂, subst, inl, inr, arith, ◌∙◌}
 use Rattle.std.proofs.lemmas.Bool.{false≢true, cases_order}
 use Rattle.std.proofs.lemmas.Cmp.{nat_list_cmp_total}
-use Rattle.std.proofs.lemmas.List.{length-map}
+use Rattle.std.proofs.lemmas.List.{get_or-map, length-map}
 use Rattle.std.proofs.lemmas.List.Edits.{insert_end}
 use Rattle.std.proofs.lemmas.Map.Lookups.{exact_bytes}
 use Rattle.std.proofs.lemmas.Slice.Eq.{bytes_eq-Decides}
 use Rattle.std.specs.Cmp.Lexicographic.{slice_cmp}
 use Rattle.std.specs.List.{insert, list_any}
+use Rattle.std.specs.List.Sorted.{IsPartitionPoint, IsPartitionedBy}
 use Rattle.std.specs.Option.{option_or}
 use Rattle.std.specs.Ordering.{nat_cmp, is_lt, ordering_reverse}
 use Rattle.std.specs.declared.cmp.Ordering.{Ordering}
@@ -130,6 +131,36 @@ below_through vs f i up inside here k under = elim (cases_order k i) [
   ]
 ]
 
+-- halving finds the bound
+pub bound_by_point : (vs : List Feature) (f : Text) (i : ℕ) → AreInOrder vs → i ≤ length vs
+    → (IsPartitionedBy (λ v. is_below v.key.now f) vs
+    → IsPartitionPoint (λ v. is_below v.key.now f ≡ true) (λ v. is_below v.key.now f ≡ false) vs i)
+    → IsBoundOf vs i f
+bound_by_point vs f i up within point = record {
+  within = within;
+  below = λ k less. by_name k (omega (arith, less, within)) true (λ d. halves.0 k d (omega arith) less);
+  above = λ past. by_name i past false (λ d. halves.1 i d (omega arith) past);
+}
+  where
+    name_at : (k : ℕ) (d : Feature) → k < length vs → nth_text (names_of vs) k ≡ (get_or vs k d).key.now
+    name_at k d inside = get_or-map (λ (v : Feature). v.key.now) vs k d [] inside
+
+    some : (k : ℕ) → k < length vs → Feature
+    some k inside = first vs inside
+      where
+        first : (us : List Feature) → k < length us → Feature
+        first [] inside = absurd (omega (arith, inside))
+        first (u ∷ us) inside = u
+
+    by_name : (k : ℕ) → k < length vs → (b : Bool) → ((d : Feature) → is_below (get_or vs k d).key.now f ≡ b) → is_below (nth_text (names_of vs) k) f ≡ b
+    by_name k inside b is = ap (λ n. is_below n f) (name_at k (some k inside) inside) ∙ is (some k inside)
+
+    halves : IsPartitionPoint (λ v. is_below v.key.now f ≡ true) (λ v. is_below v.key.now f ≡ false) vs i
+    halves = point (λ a b d before inside here.
+        let under : a < length vs = omega (arith, before, inside) in
+        sym (ap (λ n. is_below n f) (name_at a d under))
+        ∙ below_through vs f b up inside (ap (λ n. is_below n f) (name_at b d inside) ∙ here) a (omega (arith, before)))
+
 -- a feature that stands somewhere is found
 pub feature_there : (vs : List Feature) (i : ℕ) (f : Text) → i < length vs → nth_text (names_of vs) i ≡ f → is_some (feature_at vs f) ≡ true
 feature_there [] i f below same = absurd (omega (arith, below))
@@ -250,10 +281,6 @@ module _ (vs : List Feature) (i : ℕ) (w : Feature) (new : List Feature) (f : T
   pub last_missing : feature_at vs f ≡ None
   last_missing = subst (λ k. feature_at vs k ≡ None) key missing
 
-get_last : (vs : List Feature) (v d : Feature) → get_or (vs ++ v ∷ []) (length vs) d ≡ v
-get_last [] v d = refl
-get_last (u ∷ vs) v d = get_last vs v d
-
 -- behind all others one is pushed, which then becomes another
 module _ (vs : List Feature) (i : ℕ) (v : Feature) (pushed : List Feature) (f : Text) (up : AreInOrder vs) (behind : IsBehind vs i f) (put : pushed ≡ vs ++ v ∷ []) where
   last : i ≡ length vs
@@ -261,9 +288,6 @@ module _ (vs : List Feature) (i : ℕ) (v : Feature) (pushed : List Feature) (f 
       let within = behind.bound.within in
       let past = behind.past in
       omega (arith, past, within)
-
-  pub pushed_there : (d : Feature) → get_or pushed i d ≡ v
-  pushed_there d = ap₂ (λ us k. get_or us k d) put last ∙ get_last vs v d
 
   module _ (w : Feature) (key : w.key.now ≡ f) where
     filled : set pushed i w ≡ vs ++ w ∷ []

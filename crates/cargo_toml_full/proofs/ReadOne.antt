@@ -1,5 +1,5 @@
 -- One more text of a feature's list.
-use Rattle.std.proofs.Common.{◌≡◌, Bool, true, false, cond, ◌||◌, ◌&&◌, List, [], ◌∷◌, ◌++◌, map, Option, Some, None, bytes_eq, Bor, ℕ, ◌+◌, ◌<◌, take, length, get_or, is_some, String, string_bytes, Vec, refl, sym, ap, ◌∙◌}
+use Rattle.std.proofs.Common.{◌≡◌, Bool, true, false, ◌||◌, List, [], ◌∷◌, ◌++◌, map, Option, Some, None, bytes_eq, Bor, ℕ, ◌+◌, ◌<◌, take, length, get_or, is_some, String, string_bytes, Vec, refl, sym, ap, ◌∙◌}
 use Rattle.std.proofs.Math.Bool.{or-false}
 use Rattle.std.specs.declared.alloc.Global.{Global}
 use Rattle.std.specs.List.{list_any}
@@ -9,8 +9,6 @@ use Rattle.std.proofs.lemmas.List.Folds.{list_any-append}
 use Rattle.std.proofs.lemmas.List.Sums.{fold_push}
 use Rattle.cargo_toml_graph.specs.Action.{Text, Action, Item, join_option, item_of}
 use Rattle.cargo_toml_graph.specs.Admitted.{action_on}
-use Rattle.cargo_toml_features.specs.ActionText.{action_in}
-use Rattle.cargo_toml_features.specs.declared.action.ActionText.{ActionText}
 use Rattle.cargo_toml_full.specs.Acting.{Notes}
 use Rattle.cargo_toml_full.specs.ReadFeature.{joined_in}
 use Rattle.cargo_toml_full.specs.Searching.{has_key}
@@ -60,20 +58,3 @@ noted_none a = record { keys = λ k. sym (or-false _); reserved = λ k. sym (or-
 pub has_more : (new old : Vec (Bor Text) Global) (t : Bor Text) → new.items ≡ old.items ++ t ∷ [] → (k : Text) → has_key new k ≡ (has_key old k || bytes_eq k t.now)
 has_more new old t put k = ap (λ ts. list_any (bytes_eq k) (map (λ (u : Bor Text). u.now) ts)) put ∙ ap (list_any (bytes_eq k)) (map_push (λ (u : Bor Text). u.now) old.items t) ∙ list_any-append (bytes_eq k) (map (λ u. u.now) old.items) (t.now ∷ [])
     ∙ ap (λ b. list_any (bytes_eq k) (map (λ u. u.now) old.items) || b) (or-false _)
-
--- an action is noted: `b` says whether it is dep-only, and then the key is among the reserved
-pub action_noted : (old new : Acting) (t : ActionText) → ((k : Text) → has_key new.keys k ≡ (has_key old.keys k || bytes_eq k t.target.now))
-    → ((k : Text) → has_key new.reserved k ≡ (has_key old.reserved k || (bytes_eq k t.target.now && t.is_dep_only)))
-    → Notes (λ k. cond (bytes_eq k t.target.now) (Some (action_in t)) None) old new
-action_noted old new t keys reserved = record {
-  keys = λ k. keys k ∙ ap (λ b. has_key old.keys k || b) (sym (some_at (bytes_eq k t.target.now)));
-  reserved = λ k. reserved k ∙ ap (λ b. has_key old.reserved k || b) (sym (dep_only_at (bytes_eq k t.target.now)));
-}
-  where
-    some_at : (b : Bool) → is_some (cond b (Some (action_in t)) None) ≡ b
-    some_at true = refl
-    some_at false = refl
-
-    dep_only_at : (b : Bool) → option_map_or (λ a. a.is_dep_only) (cond b (Some (action_in t)) None) false ≡ (b && t.is_dep_only)
-    dep_only_at true = refl
-    dep_only_at false = refl

@@ -17,11 +17,7 @@ use Rattle.cargo_toml_full.proofs.TakenMore.{taken_more}
 nothing : (own : List Text) → own ≡ [] → (o : Option Feature) → Relates (Required own) o o
 nothing own none None = tt
 nothing own none (Some a) = record {
-  key = refl;
-  names = refl;
-  actions = refl;
-  enabled_by = refl;
-  marks = refl;
+  same = refl;
   bins = sym (ap (λ xs. map (λ (b : Bor Text). b.now) a.required_by_bins.items ++ xs) none ∙ append-nil _);
 }
 
@@ -32,11 +28,7 @@ both p q r same None (Some b) c h k = absurd h
 both p q r same (Some a) None c h k = absurd h
 both p q r same (Some a) (Some b) None h k = absurd k
 both p q r same (Some a) (Some b) (Some c) h k = record {
-  key = k.key ∙ h.key;
-  names = k.names ∙ h.names;
-  actions = k.actions ∙ h.actions;
-  enabled_by = k.enabled_by ∙ h.enabled_by;
-  marks = k.marks ∙ h.marks;
+  same = k.same ∙ ap (λ (v : Feature). record v { required_by_bins = c.required_by_bins }) h.same;
   bins = k.bins ∙ ap (λ xs. xs ++ q) h.bins ∙ append_assoc (map (λ (t : Bor Text). t.now) a.required_by_bins.items) p q ∙ ap (λ xs. map (λ (t : Bor Text). t.now) a.required_by_bins.items ++ xs) (sym same);
 }
 

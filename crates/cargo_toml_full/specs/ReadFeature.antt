@@ -1,5 +1,5 @@
 -- One feature as its list is read.
-use Rattle.std.specs.Prelude.{◌≡◌, List, Option, None, bytes_eq, false, fold}
+use Rattle.std.specs.Prelude.{◌≡◌, List, Option, None, fold}
 use Rattle.std.specs.List.{list_any}
 use Rattle.cargo_toml_dependencies.specs.Details.{Detail}
 use Rattle.cargo_toml_features.specs.declared.features.Feature.{Feature}
@@ -16,12 +16,4 @@ joined_in items k = fold (λ o i. join_option o (action_on k i)) None items
 pub record IsReadFeature (f : Text) (d : Detail) (items : List Item) (v : Feature) : Type 0 where
   pub fresh : IsFresh f d v
   pub names : (x : Text) → set_has v.enables_features x ≡ list_any (item_names x) items
-  pub action : (k : Text) → action_at v.enables_deps k ≡ joined_in items k
-
--- the same while the names that the list gives are gathered beside the feature, which has none yet
-pub record IsGathered (f : Text) (d : Detail) (items : List Item) (named : List Text)
-    (v : Feature) : Type 0 where
-  pub fresh : IsFresh f d v
-  pub unnamed : (x : Text) → set_has v.enables_features x ≡ false
-  pub names : (x : Text) → list_any (bytes_eq x) named ≡ list_any (item_names x) items
   pub action : (k : Text) → action_at v.enables_deps k ≡ joined_in items k

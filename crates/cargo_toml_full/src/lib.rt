@@ -8,13 +8,13 @@
 mod acted;
 mod acting;
 mod imply;
-pub mod key;
 mod names;
 mod ordered;
 pub mod places;
 mod read;
 pub mod record;
 mod redundant;
+mod redundant_features;
 pub mod required;
 pub mod sets;
 pub mod slots;

@@ -10,12 +10,7 @@ use cargo_toml_features::texts::in_order;
 fn ascends(texts: &[&str]) -> bool
     ensures { IsTrue result → Ascend (map (λ t. t.now) texts.now) }
 {
-    for i in 1..texts.len() {
-        if texts[i - 1] >= texts[i] {
-            return false;
-        }
-    }
-    true
+    texts.is_sorted_by(|text, next| *text < *next)
 }
 
 /// The texts in byte order, each once. Texts that stand so already aren't sorted again.

@@ -9,8 +9,8 @@ ghost use Rattle.cargo_toml_full.specs.Placing.{IsBoundOf, IsPlaceOf};
 ghost use Rattle.cargo_toml_features.specs.Places.{nth_text};
 
 use cargo_toml_features::features::Feature;
+use cargo_toml_features::node::Node;
 use cargo_toml_features::texts::{FEW, is_same};
-use cargo_toml_walk::node::Node;
 use std::alloc::AllocError;
 
 // Whether the name of the feature at this place is below another.
@@ -30,17 +30,7 @@ pub fn lower_bound(features: &[Feature<'_>], name: &str) -> usize
     if count > 0 && is_below(features, count - 1, name) {
         return count;
     }
-    let mut low = 0;
-    let mut high = count;
-    while low < high {
-        let middle = low + (high - low) / 2;
-        if is_below(features, middle, name) {
-            low = middle + 1;
-        } else {
-            high = middle;
-        }
-    }
-    low
+    features.partition_point(|feature| feature.key < name)
 }
 
 /// Whether the feature at this place has the name.

@@ -13,15 +13,14 @@ ghost use Rattle.cargo_toml_features.specs.Marks.{detail_in, named_details};
 ghost use Rattle.cargo_toml_features.specs.Views.{listed_of};
 ghost use Rattle.cargo_toml_full.specs.Acting.{Notes};
 ghost use Rattle.cargo_toml_full.specs.Reading.{IsRead, AreFresh};
-ghost use Rattle.cargo_toml_full.specs.ReadFeature.{joined_in, IsGathered, IsReadFeature};
+ghost use Rattle.cargo_toml_full.specs.ReadFeature.{joined_in, IsReadFeature};
 ghost use Rattle.cargo_toml_full.specs.Searching.{has_key};
 
 use crate::acted::Acted;
 use crate::acting::Acting;
 use crate::ordered::{lower_bound, put_feature};
-use crate::sets::{FEW, set_of};
 use cargo_toml_dependencies::FeatureDetail;
-use cargo_toml_features::action::{join_action, read_action};
+use cargo_toml_features::action::{add_text, join_action, read_action};
 use cargo_toml_features::admit::Listing;
 use cargo_toml_features::features::Feature;
 use std::alloc::{AllocError, Global};
@@ -56,18 +55,16 @@ fn empty_feature<'m>(alloc: Global, key: &'m str, detail: Option<&'m FeatureDeta
     }
 }
 
-// Reads one more text of the feature's list. A name goes to the end of `named`.
+// Reads one more text of the feature's list.
 fn add_item<'m>(
     alloc: Global,
     feature: &mut Feature<'m>,
-    named: &mut Vec<&'m str>,
     acting: &mut Acting<'m>,
     text: &'m str,
 ) -> Result<(), AllocError>
-    ensures gathered { OnOk result ((f : Text) (d : Detail) (items : List Item)
-        → IsGathered f d items (map (λ t. t.now) named.old.items) feature.old
-        → IsGathered f d (items ++ item_of text.now ∷ [])
-        (map (λ t. t.now) named.new.items) feature.new) }
+    ensures read { OnOk result ((f : Text) (d : Detail) (items : List Item)
+        → IsReadFeature f d items feature.old
+        → IsReadFeature f d (items ++ item_of text.now ∷ []) feature.new) }
     ensures noted { OnOk result
         (Notes (λ k. action_on k (item_of text.now)) acting.old acting.new) }
 {
@@ -76,17 +73,15 @@ fn add_item<'m>(
         join_action(alloc, &mut feature.enables_deps, action)?;
         acting.note(action)?;
     } else {
-        named.push(action.target)?;
+        add_text(&mut feature.enables_features, action.target)?;
     }
     Ok(())
 }
 
-// Reads the list of one feature, of which nothing was read. The names that it has are gathered in
-// `named`, whatever was there.
+// Reads the list of one feature, of which nothing was read.
 fn read_list<'m>(
     alloc: Global,
     feature: &mut Feature<'m>,
-    named: &mut Vec<&'m str>,
     acting: &mut Acting<'m>,
     listing: Listing<'m>,
 ) -> Result<(), AllocError>
@@ -98,16 +93,9 @@ fn read_list<'m>(
         (Notes (joined_in (map item_of (map string_bytes listing.entry.actions.now))) acting.old
         acting.new) }
 {
-    named.clear();
     for text in listing.actions {
-        add_item(alloc, feature, named, acting, text.as_str())?;
+        add_item(alloc, feature, acting, text.as_str())?;
     }
-    // Where nothing is named, the feature keeps the empty set that it has.
-    let names = named.as_slice();
-    if names.is_empty() {
-        return Ok(());
-    }
-    feature.enables_features = set_of(alloc, names)?;
     Ok(())
 }
 
@@ -115,7 +103,6 @@ fn read_list<'m>(
 fn read_listing<'m>(
     alloc: Global,
     features: &mut Vec<Feature<'m>>,
-    named: &mut Vec<&'m str>,
     acting: &mut Acting<'m>,
     listing: Listing<'m>,
 ) -> Result<(), AllocError>
@@ -132,7 +119,7 @@ fn read_listing<'m>(
     let place = lower_bound(features.as_slice(), listing.name);
     if place < features.len() {
         let mut feature = empty_feature(alloc, listing.name, listing.detail);
-        read_list(alloc, &mut feature, named, acting, listing)?;
+        read_list(alloc, &mut feature, acting, listing)?;
         put_feature(features, feature)?;
         return Ok(());
     }
@@ -142,7 +129,7 @@ fn read_listing<'m>(
     if listing.actions.is_empty() {
         return Ok(());
     }
-    read_list(alloc, &mut features[place], named, acting, listing)?;
+    read_list(alloc, &mut features[place], acting, listing)?;
     Ok(())
 }
 
@@ -181,10 +168,8 @@ pub fn read_features<'m>(
     let room = listings.len().saturating_add(1).saturating_add(more);
     let mut features = Vec::with_capacity(alloc, room)?;
     let mut acting = Acting::new(alloc);
-    // One block for the names of each list in turn. Most lists name few, so that it seldom grows.
-    let mut named = Vec::with_capacity(alloc, FEW)?;
     for listing in listings {
-        read_listing(alloc, &mut features, &mut named, &mut acting, *listing)?;
+        read_listing(alloc, &mut features, &mut acting, *listing)?;
     }
     add_default(alloc, &mut features)?;
     Ok(Mentions {

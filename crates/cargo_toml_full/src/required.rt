@@ -7,7 +7,7 @@ ghost use Rattle.cargo_toml_features.specs.Places.{nth_text};
 
 use crate::ordered::node_among;
 use cargo_toml_features::features::Feature;
-use cargo_toml_walk::node::Node;
+use cargo_toml_features::node::Node;
 use std::alloc::AllocError;
 
 /// A feature that a binary requires.

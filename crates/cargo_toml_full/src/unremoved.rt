@@ -60,7 +60,7 @@ pub fn resolve_all<'m: 'd, 'd>(
     // optional entry of its key that comes later had made a feature of that name.
     let dependencies = record_dependencies(alloc, &mentions, entries)?;
     let Mentions { features, acted } = mentions;
-    let thinned = without_redundant(features, &dependencies);
+    let thinned = without_redundant(alloc, features, &dependencies)?;
     let implied = with_implied(alloc, thinned, &acted, entries, optional)?;
     let features = with_bins(implied, requirements)?;
     Ok(Unremoved {

@@ -69,7 +69,8 @@ impl HeldManifest {
         path: &'a str,
     ) -> Result<HeldManifest, Error>
         ensures given { IfOk result
-            (λ h. IsReadAndCompleted path.now view (manifest_reads any_tree) h.manifest.value) }
+            (λ h. IsReadAndCompleted (manifest_meaning view) (manifest_reads any_tree)
+            h.manifest.value) }
         ensures named { OnOk result (IsSome (path_parent path.now)) }
         ensures needs { IfOk result (λ h. needs (held h.manifest.value) ≡ false) }
         ensures filled { IfOk result (λ h. IfSome h.manifest.value.«package» IsFilled) }

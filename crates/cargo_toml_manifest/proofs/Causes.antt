@@ -14,11 +14,11 @@ use Rattle.cargo_toml_manifest.specs.Choosing.{Choice, Handed, MayFind, RootsTol
 use Rattle.cargo_toml_manifest.specs.Inheriting.{needs}
 use Rattle.cargo_toml_manifest.specs.Manifests.{ManifestMeaning, manifest_meaning}
 use Rattle.cargo_toml_discovery.specs.Folders.{IsListed, RefusesBy}
-use Rattle.cargo_toml_manifest.specs.Refusing.{IsCause, IsRefusedAt, IsRefusedBy, IsRefusedByRoot, IsToldWith, MayLose, ReadsBy}
+use Rattle.cargo_toml_manifest.specs.Refusing.{IsCause, IsRefusedAt, IsToldWith, MayLose, ReadsBy}
 use Rattle.cargo_toml_manifest.specs.Roots.{IsRootAt}
 use Rattle.cargo_toml_manifest.specs.Told.{ToldRoot, root, no_root, open_root, AnswersRoot}
 use Rattle.cargo_toml_discovery.proofs.Faults.{fault_of-io}
-use Rattle.cargo_toml_manifest.proofs.Meeting.{found_answer, found_choice, hint_alone, own_by_root, Found}
+use Rattle.cargo_toml_manifest.proofs.Meeting.{Found}
 use Rattle.cargo_toml_manifest.proofs.Rooted.{Read, memory_wrapped}
 
 -- no root is read by a call that is left out
@@ -78,39 +78,6 @@ pub caused : {M : Type 0} (path : Option (List ℕ)) (names : List ℕ → Fault
 caused {M = M} path names stated m e is h =
     subst (λ (r : Result (ManifestMeaning M) Fault). (e ≡ Memory) ⊎ IsToldWith path (IsCause r names) e) (sym is) h
 
-chosen_so : {M : Type 0} (m : ManifestMeaning M) (roots : Option (List ℕ) → Fault → Type 0) (names : List ℕ → Fault → Type 0) (c d : Choice) (e : Error) → c ≡ d →
+pub chosen_so : {M : Type 0} (m : ManifestMeaning M) (roots : Option (List ℕ) → Fault → Type 0) (names : List ℕ → Fault → Type 0) (c d : Choice) (e : Error) → c ≡ d →
     IsRefusedAt m roots names d e → IsRefusedAt m roots names c e
 chosen_so m roots names c d e same h = subst (λ (x : Choice). IsRefusedAt m roots names x e) (sym same) h
-
-module _ {M : Type 0} (m : ManifestMeaning M) (roots : Option (List ℕ) → Fault → Type 0) (names : List ℕ → Fault → Type 0) (e : Error) where
-  -- by a root that was found
-  pub refused_by_root : (root_told : ToldRoot) (found : ManifestMeaning Data → List ℕ → Type 0) (x : Found) → AnswersRoot root_told (Ok x) →
-      found (manifest_meaning view x.0) (string_bytes x.1) →
-      (e ≡ Memory) ⊎ IsRefusedAt m roots names (from (shared_of x.0.workspace) (string_bytes x.1)) e → IsRefusedByRoot m root_told found roots names e
-  refused_by_root root_told found x a there (inl memory) = inl memory
-  refused_by_root root_told found x a there (inr h) =
-      inr (root (manifest_meaning view x.0) (string_bytes x.1), (found_answer found root_told x a there, chosen_so m roots names _ _ e (found_choice x) h))
-
-  -- because none was
-  pub refused_lost : (root_told : ToldRoot) (found : ManifestMeaning Data → List ℕ → Type 0) (own : Error) → AnswersRoot root_told (Err own) →
-      (own ≡ Memory) ⊎ roots (hint_of m) (fault_of own) →
-      (e ≡ Memory) ⊎ (fault_of e ≡ wrap (hint_of m) (fault_of own)) → IsRefusedByRoot m root_told found roots names e
-  refused_lost root_told found own a h (inl memory) = inl memory
-  refused_lost root_told found own a (inl memory) (inr same) = inl (memory_wrapped (hint_of m) own e memory same)
-  refused_lost (root r path) found own a (inr fault) (inr same) = inl (memory_wrapped (hint_of m) own e a same)
-  refused_lost no_root found own a (inr fault) (inr same) = inr (no_root, (inl refl, (fault_of own, (fault, same))))
-  refused_lost open_root found own a (inr fault) (inr same) = inr (no_root, (inr (refl, tt), (fault_of own, (fault, same))))
-
-  -- by what is told of roots alone
-  pub refused_as_told : (handed : Option Handed) (told : RootsTold) (found : MayFind) (c : Choice) → choice m handed told ≡ c →
-      (e ≡ Memory) ⊎ IsRefusedAt m roots names c e → IsRefusedBy m handed told found roots names e
-  refused_as_told handed told found c same (inl memory) = inl memory
-  refused_as_told handed told found c same (inr h) =
-      inr (told (hint_of m), (inl refl, chosen_so m roots names _ _ e (hint_alone m handed told ∙ same) h))
-
-  -- by the root of its hint, where it has no table and needs one
-  pub refused_by_hint : (told : RootsTold) (found : MayFind) → m.workspace ≡ None → needs m ≡ true →
-      IsRefusedByRoot m (told (hint_of m)) (found (hint_of m)) roots names e → IsRefusedBy m None told found roots names e
-  refused_by_hint told found table needed (inl memory) = inl memory
-  refused_by_hint told found table needed (inr (answer, (known, h))) =
-      inr (answer, (known, chosen_so m roots names _ _ e (own_by_root m.workspace (needs m) _ _ table needed refl) h))

@@ -144,7 +144,7 @@ then-completed path told (Ok k) n well h =
 then-completed path told (Err e) n well h = cc
 
 from-completed : {M : Type 0} (workspace : Option Shared) (path : List ℕ) (m n : ManifestMeaning M) (told : Name → Told) →
-    complete_by m (from workspace path) told ≡ gives n → Completed n told
+    complete_by m (from (Some (workspace, path))) told ≡ gives n → Completed n told
 from-completed workspace path m n told h =
     then-completed (Some path) told (inherited_manifest workspace (workspace_folder path) m) n
     (inherited-done (option_map (λ w. w.dependencies) workspace) (option_map (λ w. w.lints) workspace)

@@ -61,7 +61,7 @@ nothing_left workspace base m none =
 -- a manifest that leaves nothing, and in which everything is found, stays
 module _ {M : Type 0} (n : ManifestMeaning M) (told : Name → Told) (none : needs n ≡ false)
     (again : found_around n told ≡ seen n) where
-  from-stays : (workspace : Option Shared) (path : List ℕ) → complete_by n (from workspace path) told ≡ gives n
+  from-stays : (workspace : Option Shared) (path : List ℕ) → complete_by n (from (Some (workspace, path))) told ≡ gives n
   from-stays workspace path =
       ap (then_found (Some path) told) (nothing_left workspace (workspace_folder path) n none) ∙ ap (seen_at (Some path)) again
 

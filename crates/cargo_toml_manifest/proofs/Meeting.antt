@@ -1,6 +1,6 @@
 -- Which outcome an answer meets.
 use Rattle.std.proofs.Common.{◌≡◌, ◌⊎◌, inl, inr, sym, ap, ◌∙◌, refl, subst, ℕ, List, Bool, true, false, map, Option, Some, None, Result, Ok, Err, [], String, string_bytes}
-use Rattle.std.specs.Prelude.{option_map}
+use Rattle.std.specs.Prelude.{is_some, option_map}
 use Rattle.std.specs.declared.alloc.Global.{Global}
 use Rattle.toml.specs.Data.{Data}
 use Rattle.toml.specs.View.{view}
@@ -14,9 +14,9 @@ use Rattle.cargo_toml_discovery.specs.Seen.{IsOneOf, Seen, Tells, seen, faulty, 
 use Rattle.cargo_toml_discovery.specs.Told.{Told}
 use Rattle.cargo_toml_discovery.proofs.Extends.{tell-at}
 use Rattle.cargo_toml_workspace.specs.Sharing.{shared_of, Shared, shared}
-use Rattle.cargo_toml_manifest.specs.Choosing.{AnswersHint, Choice, Handed, MayFind, RootsTold, alone, choice, from, hint_of, own_choice, told_choice}
+use Rattle.cargo_toml_manifest.specs.Choosing.{AnswersHint, Choice, Handed, MayFind, RootsTold, choice, from, hint_of, own_choice, told_choice}
 use Rattle.cargo_toml_manifest.specs.Completed.{IsCompleted}
-use Rattle.cargo_toml_manifest.specs.Completing.{GivenBy, GivenByRoot, Meets, Outcome, complete_by, gives, no_workspace, refuses, seen_at, then_found, untold}
+use Rattle.cargo_toml_manifest.specs.Completing.{GivenBy, Meets, Outcome, complete_by, gives, no_workspace, refuses, seen_at, then_found, untold}
 use Rattle.cargo_toml_manifest.specs.Finding.{with_found}
 use Rattle.cargo_toml_manifest.specs.Inheriting.{needs}
 use Rattle.cargo_toml_manifest.specs.Installing.{installed, with_completion}
@@ -63,22 +63,25 @@ met_found {A = A} f path s t (inl h) = subst (λ (s : Seen A). Meets f (seen_at 
 met_found {A = A} f path s t (inr h) = subst (λ (s : Seen A). Meets f (seen_at path s) (Ok t)) (sym h) refl
 
 -- what a root shares is what its workspace does
-sharing : (workspace : Option (Workspace Value)) → option_map shared (option_map (workspace_meaning view) workspace) ≡ shared_of workspace
-sharing None = refl
-sharing (Some w) = refl
+sharing : {X M : Type 0} (f : X → M) (workspace : Option (Workspace X)) → option_map shared (option_map (workspace_meaning f) workspace) ≡ shared_of workspace
+sharing f None = refl
+sharing f (Some w) = refl
 
 abbrev pub Found : Type 0
 Found = Manifest Value × String Global
 
-pub found_choice : (x : Found) → told_choice (root (manifest_meaning view x.0) (string_bytes x.1)) ≡ from (shared_of x.0.workspace) (string_bytes x.1)
-found_choice x = ap (λ (s : Option Shared). from s (string_bytes x.1)) (sharing x.0.workspace)
+abbrev pub found_at : Found → Choice
+found_at x = from (Some (shared_of x.0.workspace, string_bytes x.1))
+
+pub found_choice : (x : Found) → told_choice (root (manifest_meaning view x.0) (string_bytes x.1)) ≡ found_at x
+found_choice x = ap (λ (s : Option Shared). from (Some (s, string_bytes x.1))) (sharing view x.0.workspace)
 
 pub as_told : (m : ManifestMeaning _) (path : List ℕ) (x : Found) → (manifest_meaning view x.0 ≡ m) × (string_bytes x.1 ≡ path) → root m path ≡ root (manifest_meaning view x.0) (string_bytes x.1)
 as_told m path x h = sym (ap (λ (n : ManifestMeaning _). root n (string_bytes x.1)) h.0 ∙ ap (λ (p : List ℕ). root m p) h.1)
 
 -- completion by a root that was found
 pub root_found : {T M : Type 0} (f : T → ManifestMeaning M) (m : ManifestMeaning M) (root_told : ToldRoot) (told : Name → Told) (x : Found) (r : Result T Error) →
-    AnswersRoot root_told (Ok x) → Meets f (complete_by m (from (shared_of x.0.workspace) (string_bytes x.1)) told) r →
+    AnswersRoot root_told (Ok x) → Meets f (complete_by m (found_at x) told) r →
     Meets f (complete_by m (told_choice root_told) told) r
 root_found f m (root n path) told x r a h =
     subst (λ (c : Choice). Meets f (complete_by m c told) r) (sym (ap told_choice (as_told n path x a) ∙ found_choice x)) h
@@ -109,13 +112,6 @@ found_answer found (root r path) x a there = inl (as_told r path x a)
 found_answer found no_root x a there = cc
 found_answer found open_root x a there = inr (refl, there)
 
--- the value that a root gives
-pub given_by_root : {M : Type 0} (m n : ManifestMeaning M) (root_told : ToldRoot) (found : ManifestMeaning Data → List ℕ → Type 0) (told : Name → Told) (x : Found) →
-    AnswersRoot root_told (Ok x) → found (manifest_meaning view x.0) (string_bytes x.1) →
-    GivenFrom m (from (shared_of x.0.workspace) (string_bytes x.1)) told n → GivenByRoot m root_told found told n
-given_by_root m n root_told found told x a there h =
-    (root (manifest_meaning view x.0) (string_bytes x.1), found_answer found root_told x a there, chosen m n told _ _ (found_choice x) h)
-
 -- only the root of its hint counts
 pub hint_alone : {M : Type 0} (m : ManifestMeaning M) (handed : Option Handed) (roots : RootsTold) → choice m handed (λ _. roots (hint_of m)) ≡ choice m handed roots
 hint_alone m (Some handed) roots = refl
@@ -130,39 +126,17 @@ given_as_told m n handed roots found told h = (roots (hint_of m), inl refl, chos
 pub own_by_root : {M : Type 0} (o : Option (WorkspaceMeaning M)) (b : Bool) (t u : ToldRoot) → o ≡ None → b ≡ true → t ≡ u → own_choice (option_map shared o) b t ≡ told_choice u
 own_by_root o b t u table needed same = rw (table, needed, same) refl
 
-pub own_alone : {M : Type 0} (o : Option (WorkspaceMeaning M)) (b : Bool) (t : ToldRoot) → o ≡ None → b ≡ false → own_choice (option_map shared o) b t ≡ alone
+pub own_alone : {M : Type 0} (o : Option (WorkspaceMeaning M)) (b : Bool) (t : ToldRoot) → o ≡ None → b ≡ false → own_choice (option_map shared o) b t ≡ from None
 own_alone o b t table needed = rw (table, needed) refl
 
-pub own_by_table : {M : Type 0} (o : Option (WorkspaceMeaning M)) (w : WorkspaceMeaning M) (b : Bool) (t : ToldRoot) → o ≡ Some w → own_choice (option_map shared o) b t ≡ from (Some (shared w)) []
-own_by_table o w b t table = rw table refl
+pub own_by_table : {M : Type 0} (o : Option (Workspace M)) (b : Bool) (t : ToldRoot) → is_some o ≡ true →
+    own_choice (option_map shared (option_map (workspace_meaning (λ x. x)) o)) b t ≡ from (Some (shared_of o, []))
+own_by_table None b t there = absurd cc
+own_by_table (Some w) b t there = refl
 
--- by the root of its hint, where it has no table and needs one
-pub given_by_hint : {M : Type 0} (m n : ManifestMeaning M) (roots : RootsTold) (found : MayFind) (told : Name → Told) →
-    m.workspace ≡ None → needs m ≡ true → GivenByRoot m (roots (hint_of m)) (found (hint_of m)) told n → GivenBy m None roots found told n
-given_by_hint m n roots found told table needed (answer, known, h) =
-    (answer, known, chosen m n told _ _ (own_by_root m.workspace (needs m) _ _ table needed refl) h)
-
--- what may be found of all, where more may be
-pub found_weaker : {f g : ManifestMeaning Data → List ℕ → Type 0} (told answer : ToldRoot) → ((r : ManifestMeaning Data) (path : List ℕ) → f r path → g r path) →
-    AnswersHint told f answer → AnswersHint told g answer
-found_weaker told answer more (inl same) = inl same
-found_weaker told (root r path) more (inr (is_open, there)) = inr (is_open, more r path there)
-found_weaker told no_root more (inr (is_open, there)) = inr (is_open, tt)
-found_weaker told open_root more (inr (is_open, there)) = inr (is_open, tt)
-
-pub given_weaker : {M : Type 0} (m n : ManifestMeaning M) (handed : Option Handed) (roots : RootsTold) (f g : MayFind) (told : Name → Told) →
-    ((hint : Option (List ℕ)) (r : ManifestMeaning Data) (path : List ℕ) → f hint r path → g hint r path) → GivenBy m handed roots f told n → GivenBy m handed roots g told n
-given_weaker m n handed roots f g told more (answer, known, h) = (answer, found_weaker (roots (hint_of m)) answer (more (hint_of m)) known, h)
-
-pub completed_weaker : {M : Type 0} (old new : Manifest M) (handed : Option Handed) (roots : RootsTold) (f g : MayFind) (told : Name → Told) →
-    ((hint : Option (List ℕ)) (r : ManifestMeaning Data) (path : List ℕ) → f hint r path → g hint r path) → IsCompleted old handed roots f told new → IsCompleted old handed roots g told new
-completed_weaker old new handed roots f g told more h = record {
-  outcome = h.outcome;
-  given = given_weaker (held old) (held new) handed roots f g told more h.given;
-  needs_nothing = h.needs_nothing;
-  filled = h.filled;
-  again = h.again;
-}
+pub no_table : {M : Type 0} (o : Option (Workspace M)) → is_some o ≡ false → option_map (workspace_meaning (λ x. x)) o ≡ None
+no_table None none = refl
+no_table (Some w) none = cc
 
 -- no root is looked up where a workspace is handed in
 pub completed_handed : {M : Type 0} (old new : Manifest M) (handed : Handed) (roots : RootsTold) (f g : MayFind) (told : Name → Told) →

@@ -11,7 +11,6 @@ use Rattle.cargo_toml_parts.specs.FaultValues.{fault_of}
 use Rattle.cargo_toml_parts.specs.Wrapping.{wrap}
 use Rattle.cargo_toml_manifest.specs.declared.manifest.Manifest.{Manifest}
 use Rattle.cargo_toml_manifest.specs.Manifests.{ManifestMeaning, manifest_meaning, manifest_reads}
-use Rattle.cargo_toml_manifest.specs.RealFiles.{IsRootManifest, IsRootPath, RealRootFound}
 use Rattle.cargo_toml_manifest.specs.Refusing.{MayHold}
 use Rattle.cargo_toml_manifest.specs.Roots.{IsRootAt, IsNoRoot, IsFromSlice}
 use Rattle.cargo_toml_manifest.specs.Texts.{any_tree, document_reads}
@@ -74,17 +73,6 @@ found_there found r (Ok (x, path)) h (inr text, table, same) =
     subst (λ (at : List ℕ). found (manifest_meaning view x) at) (sym same)
     (h (manifest_meaning view x) (text.0, text.1, table_stays _ x.workspace ∙ table))
 found_there found r (Err e) h k = tt
-
--- the manifest of a root is one that bytes spell
-spelled_root : (m : Manifest Value) → IsRootManifest m → (bytes : List ℕ) × IsRootIn bytes (manifest_meaning view m)
-spelled_root m (table, (bytes, inl text)) = absurd text.1
-spelled_root m (table, (bytes, inr text)) = (bytes, (text.0, text.1, table_stays _ m.workspace ∙ table))
-
--- so a root among real files is one that may be found there
-pub found_on_disk : (folder : List ℕ) (hint : Option (List ℕ)) (answer : Result Found Error) → IfOk answer (λ x. IsRootManifest x.0) →
-    IfOk answer (λ x. IsRootPath folder hint (string_bytes x.1)) → IfOk answer (λ x. RealRootFound folder hint (manifest_meaning view x.0) (string_bytes x.1))
-found_on_disk folder hint (Ok x) read at = (spelled_root x.0 read, at)
-found_on_disk folder hint (Err e) read at = tt
 
 -- what is heard where roots are read is heard where they are found
 pub heard_found : (reads finds : Bool) (told : ToldRoot) (answer : Result Found Error) → finds && not reads ≡ false →

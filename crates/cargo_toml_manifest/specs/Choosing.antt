@@ -9,8 +9,7 @@ use Rattle.cargo_toml_manifest.specs.Told.{ToldRoot, root, no_root, open_root, h
 use Rattle.cargo_toml_manifest.specs.declared.manifest.Manifest.{Manifest}
 use denote.Ref.{Bor}
 
--- a workspace that is handed in: what its manifest shares, where it has a workspace
--- table, and the path
+-- a workspace with its path, as it is handed in: what its manifest shares, where it has a table
 abbrev pub Handed : Type 0
 Handed = Option Shared × List ℕ
 
@@ -29,16 +28,15 @@ roots_of finds told hint = heard finds (told hint)
 abbrev pub MayFind : Type 1
 MayFind = Option (List ℕ) → ManifestMeaning Data → List ℕ → Type 0
 
--- no inheritance; this workspace table, or none, with its path; that none was found; or that
--- nothing is stated of it
+-- this workspace, or none where nothing is inherited; that none was found; or that nothing is
+-- stated of it
 pub data Choice : Type 0 where
-  alone : Choice
-  from : Option Shared → List ℕ → Choice
+  from : Option Handed → Choice
   lost : Choice
   unclear_root : Choice
 
 abbrev pub told_choice : ToldRoot → Choice
-told_choice (root m path) = from (option_map shared m.workspace) path
+told_choice (root m path) = from (Some (option_map shared m.workspace, path))
 told_choice no_root = lost
 told_choice open_root = unclear_root
 
@@ -48,13 +46,13 @@ hint_of m = option_and_then (λ p. p.workspace) m.«package»
 
 -- the own workspace table, or else, where something is inherited, the root that the hint leads to
 abbrev pub own_choice : Option Shared → Bool → ToldRoot → Choice
-own_choice (Some w) needed told = from (Some w) []
+own_choice (Some w) needed told = from (Some (Some w, []))
 own_choice None true told = told_choice told
-own_choice None false told = alone
+own_choice None false told = from None
 
 -- what was handed in goes first
 abbrev pub choice : {M : Type 0} → ManifestMeaning M → Option Handed → RootsTold → Choice
-choice m (Some handed) told = from handed.0 handed.1
+choice m (Some handed) told = from (Some handed)
 choice m None told = own_choice (option_map shared m.workspace) (needs m) (told (hint_of m))
 
 -- an answer that names a root has one that may be found

@@ -1,6 +1,6 @@
 -- What completion gives: the manifest with what it inherits, and with what is found in its folders.
 use Rattle.std.specs.Prelude.{◌≡◌, ◌⊎◌, ℕ, List, [], ◌∷◌, map, Option, Some, None, Result, Ok, Err}
-use Rattle.toml.specs.Data.{Data}
+use Rattle.std.specs.Prelude.{option_map}
 use Rattle.cargo_toml_paths.specs.Paths.{workspace_folder}
 use Rattle.cargo_toml_parts.specs.declared.error.Error.{Error, Memory}
 use Rattle.cargo_toml_parts.specs.FaultValues.{Fault, fault_of}
@@ -10,8 +10,7 @@ use Rattle.cargo_toml_discovery.specs.Names.{Name}
 use Rattle.cargo_toml_discovery.specs.Seen.{IsOneOf, Seen, seen, faulty, unclear}
 use Rattle.cargo_toml_discovery.specs.Told.{Told}
 use Rattle.cargo_toml_manifest.specs.Choosing.{AnswersHint, Choice, Handed, MayFind, RootsTold}
-use Rattle.cargo_toml_manifest.specs.Choosing.{alone, from, lost, unclear_root}
-use Rattle.cargo_toml_manifest.specs.Choosing.{choice, hint_of, told_choice}
+use Rattle.cargo_toml_manifest.specs.Choosing.{choice, from, hint_of, lost, unclear_root}
 use Rattle.cargo_toml_manifest.specs.Finding.{found_around}
 use Rattle.cargo_toml_manifest.specs.Inheriting.{inherited_manifest}
 use Rattle.cargo_toml_manifest.specs.Manifests.{ManifestMeaning}
@@ -37,11 +36,19 @@ abbrev pub then_found : {M : Type 0} → Option (List ℕ) → (Name → Told)
 then_found path told (Ok m) = seen_at path (found_around m told)
 then_found path told (Err fault) = refuses (wrap path fault ∷ [])
 
+-- what a manifest becomes that inherits from this workspace, if from one
+abbrev pub inherited_by : {M : Type 0} → Option Handed → ManifestMeaning M
+    → Result (ManifestMeaning M) Fault
+inherited_by None m = Ok m
+inherited_by (Some w) m = inherited_manifest w.0 (workspace_folder w.1) m
+
+-- the path that is reported with a fault then
+abbrev pub path_of : Option Handed → Option (List ℕ)
+path_of w = option_map (λ h. h.1) w
+
 abbrev pub complete_by : {M : Type 0} → ManifestMeaning M → Choice → (Name → Told)
     → Outcome (ManifestMeaning M)
-complete_by m alone told = then_found None told (Ok m)
-complete_by m (from workspace path) told =
-    then_found (Some path) told (inherited_manifest workspace (workspace_folder path) m)
+complete_by m (from w) told = then_found (path_of w) told (inherited_by w m)
 complete_by m lost told = no_workspace (hint_of m)
 complete_by m unclear_root told = untold
 
@@ -70,13 +77,6 @@ abbrev pub GivenBy : {M : Type 0} → ManifestMeaning M → Option Handed → Ro
 GivenBy m handed roots found told n =
     (answer : ToldRoot) × AnswersHint (roots (hint_of m)) (found (hint_of m)) answer
     × ((answers : Answers) × (complete m handed (λ _. answer) (filled told answers) ≡ gives n))
-
--- the same, where a root is looked up
-abbrev pub GivenByRoot : {M : Type 0} → ManifestMeaning M → ToldRoot
-    → (ManifestMeaning Data → List ℕ → Type 0) → (Name → Told) → ManifestMeaning M → Type 0
-GivenByRoot m lookup found told n =
-    (answer : ToldRoot) × AnswersHint lookup found answer
-    × ((answers : Answers) × (complete_by m (told_choice answer) (filled told answers) ≡ gives n))
 
 -- completing the result again, with the same workspace and by the same stated answers, gives it
 -- again

@@ -10,7 +10,6 @@ pub mod Completing
 pub mod Completed
 pub mod Refusing
 pub mod RealFiles
-pub mod Searching
 -- the code's own steps, in contracts of inner functions alone: nothing here has to be believed
 pub mod Installing
 pub mod Answering

@@ -5,15 +5,13 @@ use Rattle.std.specs.Prelude.{Ok, Err, MatchResult, String, string_bytes, Vec}
 use Rattle.std.specs.declared.alloc.Global.{Global}
 use Rattle.std.specs.declared.io.ErrorKind.TheVariants.{Unsupported}
 use Rattle.toml.specs.Data.{Data}
-use Rattle.cargo_toml_paths.specs.Paths.{workspace_folder}
 use Rattle.cargo_toml_parts.specs.declared.error.Error.{Error, Memory}
 use Rattle.cargo_toml_parts.specs.FaultValues.{Fault, fault_of, io}
 use Rattle.cargo_toml_parts.specs.Wrapping.{wrap}
 use Rattle.cargo_toml_discovery.specs.Folders.{IsListed}
 use Rattle.cargo_toml_manifest.specs.Choosing.{AnswersHint, Choice, Handed, MayFind, RootsTold}
-use Rattle.cargo_toml_manifest.specs.Choosing.{alone, from, lost, unclear_root}
-use Rattle.cargo_toml_manifest.specs.Choosing.{choice, hint_of, told_choice}
-use Rattle.cargo_toml_manifest.specs.Inheriting.{inherited_manifest}
+use Rattle.cargo_toml_manifest.specs.Choosing.{choice, from, hint_of, lost, unclear_root}
+use Rattle.cargo_toml_manifest.specs.Completing.{inherited_by, path_of}
 use Rattle.cargo_toml_manifest.specs.Manifests.{ManifestMeaning}
 use Rattle.cargo_toml_manifest.specs.Roots.{IsNoRoot}
 use Rattle.cargo_toml_manifest.specs.Told.{IsRootIn, ToldRoot}
@@ -54,10 +52,7 @@ IsToldWith path cause e = (fault : Fault) × (cause fault × (fault_of e ≡ wra
 -- where there is no root
 abbrev pub IsRefusedAt : {M : Type 0} → ManifestMeaning M → (Option (List ℕ) → Fault → Type 0)
     → (List ℕ → Fault → Type 0) → Choice → Error → Type 0
-IsRefusedAt m roots names alone e = IsToldWith None (IsCause (Ok m) names) e
-IsRefusedAt m roots names (from workspace path) e =
-    IsToldWith (Some path)
-    (IsCause (inherited_manifest workspace (workspace_folder path) m) names) e
+IsRefusedAt m roots names (from w) e = IsToldWith (path_of w) (IsCause (inherited_by w m) names) e
 IsRefusedAt m roots names lost e = IsToldWith (hint_of m) (roots (hint_of m)) e
 IsRefusedAt m roots names unclear_root e = ⊥
 
@@ -69,12 +64,3 @@ IsRefusedBy m handed told found roots names e =
     ⊎ ((answer : ToldRoot)
     × (AnswersHint (told (hint_of m)) (found (hint_of m)) answer
     × IsRefusedAt m roots names (choice m handed (λ _. answer)) e))
-
--- the same, where a root is looked up
-abbrev pub IsRefusedByRoot : {M : Type 0} → ManifestMeaning M → ToldRoot
-    → (ManifestMeaning Data → List ℕ → Type 0) → (Option (List ℕ) → Fault → Type 0)
-    → (List ℕ → Fault → Type 0) → Error → Type 0
-IsRefusedByRoot m lookup found roots names e =
-    (e ≡ Memory)
-    ⊎ ((answer : ToldRoot)
-    × (AnswersHint lookup found answer × IsRefusedAt m roots names (told_choice answer) e))

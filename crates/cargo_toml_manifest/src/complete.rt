@@ -1,23 +1,15 @@
 //! Completing a manifest from its workspace and from its folders.
-ghost use Rattle.std.specs.Prelude.{◌≡◌, ◌⊎◌, None};
-ghost use Rattle.std.specs.Prelude.{IfErr, IfOk, OnErr, OnOk, option_map};
+ghost use Rattle.std.specs.Prelude.{◌≡◌, IfErr, OnErr, OnOk, Option, Some, option_map};
 ghost use Rattle.std.specs.Option.{option_copied};
-ghost use Rattle.cargo_toml_parts.specs.declared.error.Error.{Memory};
-ghost use Rattle.cargo_toml_discovery.specs.Answers.{Answers, filled};
-ghost use Rattle.cargo_toml_discovery.specs.Folders.{IsListed};
+ghost use Rattle.cargo_toml_parts.specs.Answers.{Gives};
 ghost use Rattle.cargo_toml_workspace.specs.Sharing.{shared_of};
-ghost use Rattle.cargo_toml_manifest.specs.Answering.{IsAnsweredBy};
-ghost use Rattle.cargo_toml_manifest.specs.Choosing.{from, handed_of, hint_of, roots_of};
-ghost use Rattle.cargo_toml_manifest.specs.Choosing.{told_choice};
+ghost use Rattle.cargo_toml_manifest.specs.Answering.{IsAnsweredAt, IsAnsweredBy};
+ghost use Rattle.cargo_toml_manifest.specs.Choosing.{Handed, from, handed_of, hint_of, roots_of};
 ghost use Rattle.cargo_toml_manifest.specs.Completed.{IsCompleted};
-ghost use Rattle.cargo_toml_manifest.specs.Completing.{GivenByRoot, Meets};
-ghost use Rattle.cargo_toml_manifest.specs.Completing.{complete, complete_by, gives, seen_at};
-ghost use Rattle.cargo_toml_manifest.specs.Finding.{found_around};
-ghost use Rattle.cargo_toml_manifest.specs.Installing.{installed, with_completion};
+ghost use Rattle.cargo_toml_manifest.specs.Completing.{Meets, complete, inherited_by, path_of};
+ghost use Rattle.cargo_toml_manifest.specs.Installing.{installed};
 ghost use Rattle.cargo_toml_manifest.specs.Manifests.{held};
-ghost use Rattle.cargo_toml_manifest.specs.Refusing.{IsRefusedAt, IsRefusedBy};
-ghost use Rattle.cargo_toml_manifest.specs.Refusing.{IsRefusedByRoot, IsToldWith, MayLose};
-ghost use Rattle.cargo_toml_manifest.specs.Told.{heard};
+ghost use Rattle.cargo_toml_manifest.specs.Refusing.{IsRefusedBy, MayLose};
 
 use crate::afs::{AbstractFilesystem, wrapped};
 use crate::finding::{Completion, find, put_found};
@@ -25,30 +17,47 @@ use crate::inheriting::{install_parts, new_parts};
 use crate::manifest::Manifest;
 use cargo_toml_parts::Error;
 use cargo_toml_paths::workspace_folder;
-use cargo_toml_workspace::Workspace;
 use cargo_toml_workspace::inheriting::{NewParts, no_parts};
 use std::alloc::Global;
 
-// What completion puts into a manifest that takes these parts, with the path that is reported with
-// a fault.
+// What a manifest takes from the workspace of a root at this path.
+fn parts_from<Metadata, N>(
+    alloc: Global,
+    manifest: &Manifest<Metadata>,
+    root: &Manifest<N>,
+    path: &str,
+) -> Result<NewParts, Error>
+    ensures { Gives (installed (held manifest.now)) result
+        (inherited_by (Some (shared_of root.now.workspace, path.now)) (held manifest.now)) }
+{
+    new_parts(
+        alloc,
+        manifest,
+        root.workspace.as_ref(),
+        workspace_folder(path),
+    )
+}
+
+// What completion puts into a manifest that takes these parts, unless they are refused. The path is
+// reported with a fault.
 fn completion<Metadata, Fs: AbstractFilesystem>(
     alloc: Global,
     manifest: &Manifest<Metadata>,
-    parts: NewParts,
-    fs: &Fs,
+    parts: Result<NewParts, Error>,
     path: Option<&str>,
+    fs: &Fs,
 ) -> Result<Completion, Error>
-    ensures outcome { let m = held manifest.now in
-        Meets (with_completion m)
-        (seen_at (option_copied path.entry) (found_around (installed m parts) (Fs.names_at fs.now)))
-        result }
-    ensures given { let m = held manifest.now in
-        IfOk result (λ new. (answers : Answers) × (seen_at (option_copied path.entry)
-        (found_around (installed m parts) (filled (Fs.names_at fs.now) answers))
-        ≡ gives (with_completion m new))) }
-    ensures wrapped { IfErr result (λ e. (e ≡ Memory)
-        ⊎ IsToldWith (option_copied path.entry) (IsListed (Fs.may_refuse fs.now)) e) }
+    ensures { let m = held manifest.now in
+        (w : Option Handed) → path_of w ≡ option_copied path.entry
+        → Gives (installed m) parts (inherited_by w m)
+        → IsAnsweredAt m (Fs.names_at fs.now)
+        (MayLose Fs.Roots.ARE_FOUND (Fs.may_refuse_root fs.now)) (Fs.may_refuse fs.now)
+        (from w) result }
 {
+    let parts = match parts {
+        Ok(parts) => parts,
+        Err(fault) => return Err(wrapped(alloc, fault, path)),
+    };
     match find(alloc, manifest, &parts, fs) {
         Ok(found) => Ok(Completion { parts, found }),
         Err(fault) => {
@@ -56,32 +65,6 @@ fn completion<Metadata, Fs: AbstractFilesystem>(
             drop(parts);
             Err(wrapped(alloc, fault, path))
         }
-    }
-}
-
-// What completion puts into a manifest that inherits from a workspace at a path.
-fn completion_at<Metadata, N, Fs: AbstractFilesystem>(
-    alloc: Global,
-    manifest: &Manifest<Metadata>,
-    workspace: Option<&Workspace<N>>,
-    path: &str,
-    fs: &Fs,
-) -> Result<Completion, Error>
-    ensures outcome { let m = held manifest.now in
-        Meets (with_completion m) (complete_by m
-        (from (shared_of (option_copied workspace.entry)) path.now) (Fs.names_at fs.now)) result }
-    ensures given { let m = held manifest.now in
-        IfOk result (λ new. (answers : Answers)
-        × (complete_by m (from (shared_of (option_copied workspace.entry)) path.now)
-        (filled (Fs.names_at fs.now) answers) ≡ gives (with_completion m new))) }
-    ensures wrapped { let m = held manifest.now in
-        IfErr result (λ e. (e ≡ Memory)
-        ⊎ IsRefusedAt m (MayLose Fs.Roots.ARE_FOUND (Fs.may_refuse_root fs.now))
-        (Fs.may_refuse fs.now) (from (shared_of (option_copied workspace.entry)) path.now) e) }
-{
-    match new_parts(alloc, manifest, workspace, workspace_folder(path)) {
-        Ok(parts) => completion(alloc, manifest, parts, fs, Some(path)),
-        Err(fault) => Err(wrapped(alloc, fault, Some(path))),
     }
 }
 
@@ -95,67 +78,6 @@ fn hint_of<Metadata>(manifest: &Manifest<Metadata>) -> Option<&str>
     }
 }
 
-// The workspace table of a root. A function of its own, so that who owns the root lends it whole.
-fn table_of<N>(root: &Manifest<N>) -> Option<&Workspace<N>>
-    ensures { option_copied result ≡ root.now.workspace }
-{
-    root.workspace.as_ref()
-}
-
-// What completion puts into a manifest that inherits from the root that is looked up.
-fn completion_by_hint<Metadata, Fs: AbstractFilesystem>(
-    alloc: Global,
-    manifest: &Manifest<Metadata>,
-    fs: &Fs,
-) -> Result<Completion, Error>
-    ensures outcome { let m = held manifest.now in
-        Meets (with_completion m)
-        (complete_by m (told_choice (heard Fs.Roots.ARE_FOUND (Fs.root_for fs.now (hint_of m))))
-        (Fs.names_at fs.now)) result }
-    ensures given { let m = held manifest.now in
-        IfOk result (λ new. GivenByRoot m
-        (heard Fs.Roots.ARE_FOUND (Fs.root_for fs.now (hint_of m))) (Fs.may_find fs.now (hint_of m))
-        (Fs.names_at fs.now) (with_completion m new)) }
-    ensures wrapped { let m = held manifest.now in
-        IfErr result (IsRefusedByRoot m
-        (heard Fs.Roots.ARE_FOUND (Fs.root_for fs.now (hint_of m))) (Fs.may_find fs.now (hint_of m))
-        (MayLose Fs.Roots.ARE_FOUND (Fs.may_refuse_root fs.now)) (Fs.may_refuse fs.now)) }
-{
-    let hint = hint_of(manifest);
-    match fs.parse_root_workspace(alloc, hint) {
-        Ok((root, path)) => {
-            let made = completion_at(alloc, manifest, table_of(&root), path.as_str(), fs);
-            // By a call, as in `completion`: a manifest is the widest of all.
-            drop(root);
-            made
-        }
-        Err(fault) => Err(wrapped(alloc, fault, hint)),
-    }
-}
-
-// What completion puts into a manifest, where no workspace is handed in.
-fn own_completion<Metadata, Fs: AbstractFilesystem>(
-    alloc: Global,
-    manifest: &Manifest<Metadata>,
-    fs: &Fs,
-) -> Result<Completion, Error>
-    ensures { IsAnsweredBy (held manifest.now) None
-        (roots_of Fs.Roots.ARE_FOUND (Fs.root_for fs.now)) (Fs.may_find fs.now)
-        (Fs.names_at fs.now) (MayLose Fs.Roots.ARE_FOUND (Fs.may_refuse_root fs.now))
-        (Fs.may_refuse fs.now) result }
-{
-    match &manifest.workspace {
-        Some(workspace) => completion_at(alloc, manifest, Some(workspace), "", fs),
-        None => {
-            if manifest.needs_workspace_inheritance() {
-                completion_by_hint(alloc, manifest, fs)
-            } else {
-                completion(alloc, manifest, no_parts(alloc), fs, None)
-            }
-        }
-    }
-}
-
 // What completion puts into a manifest, wherever its workspace is.
 fn completion_for<Metadata, N, Fs: AbstractFilesystem>(
     alloc: Global,
@@ -163,14 +85,32 @@ fn completion_for<Metadata, N, Fs: AbstractFilesystem>(
     fs: &Fs,
     workspace: Option<(&Manifest<N>, &str)>,
 ) -> Result<Completion, Error>
-    ensures { IsAnsweredBy (held manifest.now) (option_map handed_of workspace.entry)
-        (roots_of Fs.Roots.ARE_FOUND (Fs.root_for fs.now)) (Fs.may_find fs.now)
-        (Fs.names_at fs.now) (MayLose Fs.Roots.ARE_FOUND (Fs.may_refuse_root fs.now))
-        (Fs.may_refuse fs.now) result }
+    ensures { IsAnsweredBy (held manifest.now) (Fs.names_at fs.now)
+        (MayLose Fs.Roots.ARE_FOUND (Fs.may_refuse_root fs.now)) (Fs.may_refuse fs.now)
+        (option_map handed_of workspace.entry)
+        (roots_of Fs.Roots.ARE_FOUND (Fs.root_for fs.now)) (Fs.may_find fs.now) result }
 {
-    match workspace {
-        Some((root, path)) => completion_at(alloc, manifest, root.workspace.as_ref(), path, fs),
-        None => own_completion(alloc, manifest, fs),
+    if let Some((root, path)) = workspace {
+        let parts = parts_from(alloc, manifest, root, path);
+        return completion(alloc, manifest, parts, Some(path), fs);
+    }
+    if manifest.workspace.is_some() {
+        let parts = parts_from(alloc, manifest, manifest, "");
+        return completion(alloc, manifest, parts, Some(""), fs);
+    }
+    if !manifest.needs_workspace_inheritance() {
+        return completion(alloc, manifest, Ok(no_parts(alloc)), None, fs);
+    }
+    let hint = hint_of(manifest);
+    match fs.parse_root_workspace(alloc, hint) {
+        Ok((root, path)) => {
+            let at = path.as_str();
+            let parts = parts_from(alloc, manifest, &root, at);
+            // By a call, as in `completion`: a manifest is the widest of all.
+            drop(root);
+            completion(alloc, manifest, parts, Some(at), fs)
+        }
+        Err(fault) => Err(wrapped(alloc, fault, hint)),
     }
 }
 

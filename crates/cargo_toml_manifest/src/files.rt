@@ -1,14 +1,8 @@
 //! Real files around a manifest.
-ghost use Rattle.std.specs.Prelude.{◌≡◌, ◌⊎◌, IfErr, IfOk, string_bytes};
-ghost use Rattle.std.specs.Option.{option_copied};
-ghost use Rattle.toml.specs.View.{view};
-ghost use Rattle.cargo_toml_parts.specs.declared.error.Error.{Memory};
-ghost use Rattle.cargo_toml_parts.specs.FaultValues.{fault_of};
-ghost use Rattle.cargo_toml_discovery.specs.Disk.{IsOfListing, or_here};
-ghost use Rattle.cargo_toml_discovery.specs.Folders.{RefusesBy};
-ghost use Rattle.cargo_toml_manifest.specs.Manifests.{manifest_meaning};
-ghost use Rattle.cargo_toml_manifest.specs.RealFiles.{IsRootFault, RealListingRefuses};
-ghost use Rattle.cargo_toml_manifest.specs.RealFiles.{RealRootFound, RealRootRefuses, folder_of};
+ghost use Rattle.std.specs.Prelude.{◌≡◌};
+ghost use Rattle.cargo_toml_discovery.specs.Disk.{or_here};
+ghost use Rattle.cargo_toml_manifest.specs.RealFiles.{RealListingRefuses, RealRootRefuses};
+ghost use Rattle.cargo_toml_manifest.specs.RealFiles.{folder_of};
 
 use crate::afs::{AbstractFilesystem, ParsedRoot};
 use crate::lookup::{root_above, root_by_hint};
@@ -44,28 +38,19 @@ impl<'a, R: Files + AllocGlobal> Filesystem<'a, R> {
     }
 }
 
-/// What stands on the disk. Nothing is stated of it except which faults it gives, and which roots
-/// may be found.
+/// What stands on the disk. Nothing is stated of it except of which kinds its faults are.
 impl<R: Files + AllocGlobal> AbstractFilesystem for Filesystem<'_, R> {
     type Roots = ParsedRoot;
 
-    ghost may_find = { λ files hint. RealRootFound (folder_of files) hint };
-
     ghost may_refuse = { λ _ path. RealListingRefuses path };
 
-    ghost may_refuse_root = { λ files hint. RealRootRefuses (folder_of files) hint };
+    ghost may_refuse_root = { λ _ hint. RealRootRefuses hint };
 
     /// The names in the folder on the disk. A name that is absent or no folder is `Error::Io` of
     /// the kind `NotFound`. A folder that can't be read is `Error::Io` of its kind. So is an entry
     /// that can't be read or whose name isn't UTF-8; but where its kind is `NotFound` or
-    /// `NotADirectory`, it becomes `Other`. That the system was asked for this folder no contract
-    /// says.
-    fn file_names_in(&self, alloc: Global, rel_path: &str) -> Result<HashSet<String>, Error>
-        ensures listed { IfOk result
-            (IsOfListing ⟦<fs::ReadDir<&'static R> as Iterator>⟧.next_gives) }
-        ensures faults { IfErr result
-            (λ e. (e ≡ Memory) ⊎ RealListingRefuses rel_path.now (fault_of e)) }
-    {
+    /// `NotADirectory`, it becomes `Other`. Which folder was read no contract says.
+    fn file_names_in(&self, alloc: Global, rel_path: &str) -> Result<HashSet<String>, Error> {
         let folder = join(alloc, self.path, rel_path)?;
         names_in(self.rt, alloc, folder.as_str())
     }
@@ -76,14 +61,7 @@ impl<R: Files + AllocGlobal> AbstractFilesystem for Filesystem<'_, R> {
         &self,
         alloc: Global,
         hint: Option<&str>,
-    ) -> Result<(Manifest, String), Error>
-        ensures found { IfOk result (λ root. RealRootFound (folder_of self.now)
-            (option_copied hint.entry) (manifest_meaning view root.0) (string_bytes root.1)) }
-        ensures refused { IfErr result
-            (IsRootFault (folder_of self.now) (option_copied hint.entry)) }
-        ensures loses { RefusesBy
-            (RealRootRefuses (folder_of self.now) (option_copied hint.entry)) result }
-    {
+    ) -> Result<(Manifest, String), Error> {
         match hint {
             Some(hint) => root_by_hint(self.rt, alloc, self.path, hint),
             None => root_above(self.rt, alloc, self.path),

@@ -1,5 +1,5 @@
 //! Manifests in real files, completed from what stands around them.
-ghost use Rattle.std.specs.Prelude.{◌≡◌, ◌↔◌, None, false, option_map, IfErr};
+ghost use Rattle.std.specs.Prelude.{◌≡◌, None, false, option_map, IfErr};
 ghost use Rattle.std.specs.Prelude.{IfOk, IfSome, IsErrAnd, IsSome, OnErr, OnOk};
 ghost use Rattle.std.specs.Path.{path_parent};
 ghost use Rattle.toml.specs.View.{view};
@@ -13,7 +13,7 @@ ghost use Rattle.cargo_toml_manifest.specs.Manifests.{held, manifest_meaning, ma
 ghost use Rattle.cargo_toml_manifest.specs.Manifests.{ManifestRefuses};
 ghost use Rattle.cargo_toml_manifest.specs.RealFiles.{IsCompletedOf, IsCompletionFault};
 ghost use Rattle.cargo_toml_manifest.specs.RealFiles.{IsPathFault, IsReadAndCompleted};
-ghost use Rattle.cargo_toml_manifest.specs.RealFiles.{IsTextFault, RootFoundAround, bad_path};
+ghost use Rattle.cargo_toml_manifest.specs.RealFiles.{IsTextFault, any_root, bad_path};
 ghost use Rattle.cargo_toml_manifest.specs.RealFiles.{real_folders, real_roots};
 ghost use Rattle.cargo_toml_manifest.specs.Texts.{AnyRefuses, any_tree};
 
@@ -40,12 +40,11 @@ impl<Metadata: Drop> Manifest<Metadata> {
         ensures outcome { IsSome (path_parent path.now)
             → Meets (λ _. held self.new)
             (complete (held self.old) None real_roots real_folders) result }
-        ensures bad_path { (path_parent path.now ≡ None)
-            ↔ IsErrAnd result (λ e. fault_of e ≡ bad_path) }
+        ensures bad_path { path_parent path.now ≡ None
+            → IsErrAnd result (λ e. fault_of e ≡ bad_path) }
         ensures unchanged { OnErr result (self.new ≡ self.old) }
         ensures completed { OnOk result
-            (IsCompleted self.old None real_roots (RootFoundAround path.now) real_folders
-            self.new) }
+            (IsCompleted self.old None real_roots any_root real_folders self.new) }
         ensures refused { IfErr result
             (IsCompletionFault path.now (held self.old) None) }
     {
@@ -81,11 +80,11 @@ impl<Metadata: Drop> Manifest<Metadata> {
             → Meets (λ _. held self.new)
             (complete (held self.old)
             (option_map handed_of workspace.entry) real_roots real_folders) result }
-        ensures bad_path { (path_parent path.now ≡ None)
-            ↔ IsErrAnd result (λ e. fault_of e ≡ bad_path) }
+        ensures bad_path { path_parent path.now ≡ None
+            → IsErrAnd result (λ e. fault_of e ≡ bad_path) }
         ensures unchanged { OnErr result (self.new ≡ self.old) }
         ensures completed { OnOk result (IsCompleted self.old (option_map handed_of workspace.entry)
-            real_roots (RootFoundAround path.now) real_folders self.new) }
+            real_roots any_root real_folders self.new) }
         ensures refused { IfErr result (IsCompletionFault path.now
             (held self.old) (option_map handed_of workspace.entry)) }
     {
@@ -111,7 +110,7 @@ impl Manifest {
         alloc: Global,
         path: &'a str,
     ) -> Result<Manifest, Error>
-        ensures given { IfOk result (IsReadAndCompleted path.now view (manifest_reads any_tree)) }
+        ensures given { IfOk result (IsReadAndCompleted (manifest_meaning view) (manifest_reads any_tree)) }
         ensures named { OnOk result (IsSome (path_parent path.now)) }
         ensures needs { IfOk result (λ new. needs (held new) ≡ false) }
         ensures filled { IfOk result (λ new. IfSome new.package IsFilled) }
@@ -133,7 +132,8 @@ impl<Metadata: FromValue> Manifest<Metadata> {
         path: &'a str,
     ) -> Result<Manifest<Metadata>, Error>
         ensures given { IfOk result
-            (IsReadAndCompleted path.now Metadata.meaning (manifest_reads Metadata.from_tree)) }
+            (IsReadAndCompleted (manifest_meaning Metadata.meaning)
+            (manifest_reads Metadata.from_tree)) }
         ensures named { OnOk result (IsSome (path_parent path.now)) }
         ensures needs { IfOk result (λ new. needs (held new) ≡ false) }
         ensures filled { IfOk result (λ new. IfSome new.package IsFilled) }
@@ -154,7 +154,8 @@ fn completed_of<'a, Metadata: FromValue, R: Files + AllocGlobal>(
     text: &str,
 ) -> Result<Manifest<Metadata>, Error>
     ensures given { IfOk result
-        (IsCompletedOf path.now text.now Metadata.meaning (manifest_reads Metadata.from_tree)) }
+        (IsCompletedOf text.now (manifest_meaning Metadata.meaning)
+        (manifest_reads Metadata.from_tree)) }
     ensures named { OnOk result (IsSome (path_parent path.now)) }
     ensures needs { IfOk result (λ new. needs (held new) ≡ false) }
     ensures filled { IfOk result (λ new. IfSome new.package IsFilled) }

@@ -9,7 +9,7 @@ use Rattle.cargo_toml_graph.specs.Graph.{Table, IsKept, IsResolved, IsEnabledBy,
 use Rattle.cargo_toml_graph.specs.Reach.{Reaches}
 use Rattle.cargo_toml_graph.specs.Reach.Reaches.{edge, through}
 use Rattle.cargo_toml_graph.proofs.Joins.{join_alike}
-use Rattle.cargo_toml_walk.specs.Numbers.{IsPassed, IsWanted, PassesAny}
+use Rattle.cargo_toml_resolve.specs.Numbers.{IsPassed, IsWanted, PassesAny}
 use Rattle.cargo_toml_resolve.specs.Enabling.{EnablesThrough}
 use Rattle.cargo_toml_features.specs.Places.{nth_text}
 use Rattle.cargo_toml_resolve.specs.NumberedTables.{HasNumber, IsNaming, IsNumbered}

@@ -6,7 +6,7 @@ use Rattle.std.specs.List.{list_any, slice_index_or, zip}
 use Rattle.cargo_toml_graph.specs.Action.{Text}
 use Rattle.cargo_toml_graph.specs.Reach.{Among}
 use Rattle.cargo_toml_graph.specs.Removal.{put_each}
-use Rattle.cargo_toml_walk.specs.Numbers.{IsWanted, Leads, row_items}
+use Rattle.cargo_toml_resolve.specs.Numbers.{IsWanted, Leads, row_items}
 use Rattle.cargo_toml_features.specs.declared.features.Feature.{Feature}
 use Rattle.cargo_toml_resolve.specs.Passing.{bins_of, passed_below, passed_from}
 

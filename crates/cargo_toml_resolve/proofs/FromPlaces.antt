@@ -9,7 +9,7 @@ use Rattle.cargo_toml_graph.specs.Admitted.{is_below}
 use Rattle.cargo_toml_graph.specs.Graph.{Table, IsKept}
 use Rattle.cargo_toml_graph.specs.Redirects.{RedirectsTo}
 use Rattle.cargo_toml_graph.specs.Removal.{pass_all, unremoved}
-use Rattle.cargo_toml_walk.specs.Numbers.{IsWanted, Leads, row_items}
+use Rattle.cargo_toml_resolve.specs.Numbers.{IsWanted, Leads, row_items}
 use Rattle.cargo_toml_features.specs.Places.{nth_text}
 use Rattle.cargo_toml_resolve.specs.NumberedTables.{HasNumber, IsNaming, IsNumbered}
 use Rattle.cargo_toml_resolve.proofs.NumberedTables as numbered
@@ -236,4 +236,4 @@ one_name old new flagged texts edges names flags n len own i j v w at at' same =
     let a = name i v at in
     let b = name j w at' in
     let c = n.numbered.count in
-    n.numbered.one i j (let lt = a.0 in omega (arith, c, lt)) (let lt = b.0 in omega (arith, c, lt)) (sym a.1 ∙ same ∙ b.1)
+    n.numbered.one i j a.0 (let lt = b.0 in omega (arith, c, lt)) (sym a.1 ∙ same ∙ b.1)

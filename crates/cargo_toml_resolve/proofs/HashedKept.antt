@@ -5,7 +5,7 @@ use Rattle.std.proofs.lemmas.List.{length-drop}
 use Rattle.std.proofs.lemmas.Slice.Eq.{bytes_eq-Decides}
 use Rattle.std.specs.HashMap.{HashMap}
 use Rattle.cargo_toml_graph.specs.Action.{Text}
-use Rattle.cargo_toml_walk.specs.Numbers.{IsWanted}
+use Rattle.cargo_toml_resolve.specs.Numbers.{IsWanted}
 use Rattle.cargo_toml_features.specs.declared.features.Feature.{Feature}
 use Rattle.cargo_toml_features.specs.Reached.{IsKeyed}
 use Rattle.cargo_toml_features.specs.Views.{value_at}

@@ -8,7 +8,7 @@ use Rattle.std.specs.HashMap.{HashMap}
 use Rattle.std.specs.Option.{IsSomeAnd}
 use Rattle.cargo_toml_graph.specs.Action.{Text}
 use Rattle.cargo_toml_features.specs.Views.{value_at}
-use Rattle.cargo_toml_walk.specs.Numbers.{IsWanted, row_items}
+use Rattle.cargo_toml_resolve.specs.Numbers.{IsWanted, row_items}
 use Rattle.cargo_toml_features.specs.Places.{nth_text}
 use Rattle.cargo_toml_resolve.specs.Holding.{HasTextsOf}
 use Rattle.cargo_toml_resolve.specs.Texts.{texts_now}
@@ -34,10 +34,10 @@ module _ {S : Type 0} (redirects : List (List ℕ)) (flags : List Bool) (texts :
   }
 
   -- and one that has is put under its name
-  pub redirect_put : (n : ℕ) (m m' : HashMap (Bor Text) (BTreeSet (Bor Text)) S) (name : Bor Text) (set : BTreeSet (Bor Text)) → n < length texts → name.now ≡ nth_text (texts_now texts) n → IsWanted flags true n →
-      ((i j : ℕ) → i < length texts → j < length texts → nth_text (texts_now texts) i ≡ nth_text (texts_now texts) j → i ≡ j) →
+  pub redirect_put : (n : ℕ) (m m' : HashMap (Bor Text) (BTreeSet (Bor Text)) S) (name : Bor Text) (set : BTreeSet (Bor Text)) → n < length redirects → n < length texts → name.now ≡ nth_text (texts_now texts) n → IsWanted flags true n →
+      ((i j : ℕ) → i < length redirects → j < length texts → nth_text (texts_now texts) i ≡ nth_text (texts_now texts) j → i ≡ j) →
       HasTextsOf (texts_now texts) (row_items redirects n) set → ((k : Text) → value_at m' k ≡ (if bytes_eq k name.now then Some set else value_at m k)) → HasRedirects n m → HasRedirects (n + 1) m'
-  redirect_put n m m' name set lt named on once has put h = record {
+  redirect_put n m m' name set vertex lt named on once has put h = record {
     there = λ i below flag. elim (cases_eq i n) [
       | inl e ↦ subst (λ j. IsSomeAnd (value_at m' (nth_text (texts_now texts) j)) (HasTextsOf (texts_now texts) (row_items redirects j))) (sym e)
           (subst (λ o. IsSomeAnd o (HasTextsOf (texts_now texts) (row_items redirects n)))

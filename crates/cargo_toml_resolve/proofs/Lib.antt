@@ -1,3 +1,15 @@
+mod Steps
+mod Spans
+mod Marked
+mod Walking
+mod Labelled
+mod Linking
+mod Cuts
+mod RowsInOrder
+mod Words
+mod Tabled
+mod Closing
+mod Filling
 pub mod Put
 pub mod Sets
 mod Actions
@@ -5,6 +17,7 @@ pub mod InOrder
 mod Gathered
 mod NumberTexts
 mod NumberRows
+mod ReadRows
 pub mod SameKept
 pub mod AgainstAll
 mod Renumbered
@@ -30,4 +43,3 @@ mod AlikePlaces
 pub mod Learning
 mod TakenOver
 pub mod NumberedTables
-mod Telling

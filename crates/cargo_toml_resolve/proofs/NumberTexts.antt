@@ -1,127 +1,156 @@
 -- The texts of numbers: the names of features, and after them others.
-use Rattle.std.proofs.Common.{◌≡◌, ◌↔◌, ◌<◌, ◌≤◌, ◌+◌, ◌-◌, ℕ, Bool, true, false, List, [], ◌++◌, length, map, take, drop, Bor, refl, sym, ap, subst, inl, inr, ◌∙◌, arith}
-use Rattle.std.proofs.lemmas.Bool.{false≢true, cases_lt}
-use Rattle.std.proofs.lemmas.List.{length-append, length-map, length-take-le, length-drop, take_at, drop_at, map-append, take-map, drop-map, take_rest, get_or-take, get_or-drop, get_or_append_left, get_or-append_right}
-use Rattle.cargo_toml_graph.specs.Ascending.{Ascend}
+use Rattle.std.proofs.Common.{◌≡◌, ◌↔◌, ◌<◌, ◌≤◌, ℕ, List, [], ◌∷◌, ◌++◌, length, map, take, Bor, IsTrue, refl, sym, ap, subst, inl, inr, ◌∙◌, arith}
+use Rattle.std.proofs.lemmas.Bool.{cases_lt, false≢true}
+use Rattle.std.proofs.lemmas.List.{get_or-take, get_or_append_left, length-append, length-map, length-take-le, take-map, take-take, take_all, take_at}
+use Rattle.std.specs.BTreeSet.{BTreeSet, btree_set_len}
 use Rattle.cargo_toml_graph.specs.Action.{Text}
+use Rattle.cargo_toml_graph.specs.Ascending.{Ascend}
 use Rattle.cargo_toml_graph.specs.Reach.{Among}
-use Rattle.cargo_toml_graph.specs.Removal.{lists_text}
-use Rattle.cargo_toml_graph.proofs.BinLists.{among-first, among-second, among-true, is_among-true}
 use Rattle.cargo_toml_features.specs.Places.{nth_text}
-use Rattle.cargo_toml_features.proofs.Places.{among_at, at_among, once}
 use Rattle.cargo_toml_features.specs.declared.features.Feature.{Feature}
-use Rattle.cargo_toml_features.specs.InOrder.{AreInOrder, names_of}
-use Rattle.cargo_toml_resolve.specs.Numbering.{AreParted, AreTextsOf, IsNamedBy}
+use Rattle.cargo_toml_features.specs.InOrder.{names_of}
+use Rattle.cargo_toml_features.specs.Views.{set_has}
+use Rattle.cargo_toml_features.proofs.Places.{among_at, once}
+use Rattle.cargo_toml_features.proofs.TextKeys.{none_in}
+use Rattle.cargo_toml_resolve.specs.Numbering.{AreTextsOf, Extends, HasNames, IsNodeOf}
 use Rattle.cargo_toml_resolve.specs.Texts.{texts_now}
+use Rattle.cargo_toml_resolve.proofs.Learning.{no_keys}
+use Rattle.cargo_toml_resolve.proofs.Gathered.{all_seen, among_push, seen, seen_push}
 
--- a text that stands in a place is among them
-pub stands_among : (ts : List (Bor Text)) (x : Text) (i : ℕ) → (i < length ts) × (nth_text (texts_now ts) i ≡ x) → Among (texts_now ts) x
-stands_among ts x i at = subst (Among (texts_now ts)) at.1 (among_at (texts_now ts) i [] (let long = length-map ts (λ (t : Bor Text). t.now) in let lt = at.0 in omega (arith, long, lt)))
+pub extends_none : (n : ℕ) (ts : List Text) → Extends n ts ts
+extends_none n ts = record { front = take_all (length ts) ts (omega arith); apart = λ j le lt. absurd (omega (arith, le, lt)) }
 
--- two lists, each in byte order, that have no text in common
-module _ (ks os : List Text) (up : Ascend ks) (rise : Ascend os) (apart : (x : Text) → Among os x → Among ks x → ⊥) where
-  in_front : (i : ℕ) → i < length ks → Among ks (nth_text (ks ++ os) i)
-  in_front i lt = subst (Among ks) (sym (get_or_append_left ks os [] i lt)) (among_at ks i [] lt)
+module _ (n : ℕ) (old new : List Text) (h : Extends n old new) where
+  pub longer : length old ≤ length new
+  longer = elim (cases_lt (length new) (length old)) [
+    | inl lt ↦ let whole = ap length (sym (take_all (length old) new (omega (arith, lt))) ∙ h.front) in absurd (omega (arith, lt, whole))
+    | inr le ↦ le
+  ]
 
-  in_back : (i : ℕ) → length ks ≤ i → i < length (ks ++ os) → Among os (nth_text (ks ++ os) i)
-  in_back i le lt =
-      let long = length-append ks os in
-      subst (Among os) (sym (get_or-append_right ks os (length ks) i [] refl le)) (among_at os (i - length ks) [] (omega (arith, long, le, lt)))
+  pub nth_still : (j : ℕ) → j < length old → nth_text new j ≡ nth_text old j
+  nth_still j lt = sym (get_or-take (length old) new j [] lt) ∙ ap (λ ts. nth_text ts j) h.front
 
-  one_place : (i j : ℕ) → i < length (ks ++ os) → j < length (ks ++ os) → nth_text (ks ++ os) i ≡ nth_text (ks ++ os) j → i ≡ j
-  one_place i j lt lt' same =
-      elim (cases_lt i (length ks)) [
-        | inl a ↦ elim (cases_lt j (length ks)) [
-          | inl b ↦ once ks up i j a b (sym (get_or_append_left ks os [] i a) ∙ same ∙ get_or_append_left ks os [] j b)
-          | inr b ↦ absurd (apart _ (in_back j b lt') (subst (Among ks) same (in_front i a)))
-        ]
-        | inr a ↦ elim (cases_lt j (length ks)) [
-          | inl b ↦ absurd (apart _ (in_back i a lt) (subst (Among ks) (sym same) (in_front j b)))
-          | inr b ↦
-              let long = length-append ks os in
-              let is = once os rise (i - length ks) (j - length ks) (omega (arith, long, a, lt)) (omega (arith, long, b, lt'))
-              (sym (get_or-append_right ks os (length ks) i [] refl a) ∙ same ∙ get_or-append_right ks os (length ks) j [] refl b) in
-              omega (arith, is, a, b)
-        ]
-      ]
+  pub front_still : n ≤ length old → take n new ≡ take n old
+  front_still fits = sym (take-take n (length old) new fits) ∙ ap (take n) h.front
 
--- the names of features and what these name besides
-pub texts_made : (naming : List Bool) (vs : List Feature) (os : List Text) → AreInOrder vs → Ascend os → ((x : Text) → Among os x ↔ (IsNamedBy naming vs (length vs) x × (¬ Among (names_of vs) x))) → AreTextsOf naming vs (names_of vs ++ os)
-texts_made naming vs os up rise others =
-    let long : length (names_of vs) ≡ length vs = length-map vs (λ (v : Feature). v.key.now) in
-    let whole = length-append (names_of vs) os in
-    record {
-      parted = record {
-        fits = omega (arith, long, whole);
-        front = subst Ascend (sym (take_at (names_of vs) os (length vs) long)) up;
-        rest = subst Ascend (sym (drop_at (names_of vs) os (length vs) long)) rise;
-        one = one_place (names_of vs) os up rise (λ x o k. ((others x).0 o).1 k);
-      };
-      keys = take_at (names_of vs) os (length vs) long;
-      named = λ x y. go x y (lists_text (names_of vs) x) refl;
-    }
+  pub names_still : (P : Text → Type 0) (row : List ℕ) → n ≤ length old → HasNames n old P row → HasNames n new P row
+  names_still P row fits r = record {
+    inside = λ x i. let lt = r.inside x i in let more = longer in omega (arith, lt, more);
+    only = λ x i. subst P (sym (nth_still x (r.inside x i))) (r.only x i);
+    all = λ k p. let a = r.all k p in (a.0, (let lt = a.1 in let more = longer in omega (arith, lt, more)), nth_still a.0 a.1 ∙ a.2, a.3);
+    keys = λ x lt p. r.keys x lt (subst P (nth_still x (omega (arith, lt, fits))) p);
+  }
+
+  pub extends_then : (late : List Text) → n ≤ length old → Extends n new late → Extends n old late
+  extends_then late fits g = record {
+    front = sym (take-take (length old) (length new) late longer) ∙ ap (take (length old)) g.front ∙ h.front;
+    apart = λ j le lt. elim (cases_lt j (length new)) [
+      | inl early ↦ subst (λ k. ¬ Among (take n old) k) (sym (sym (get_or-take (length new) late j [] early) ∙ ap (λ ts. nth_text ts j) g.front)) (h.apart j le early)
+      | inr past ↦ subst (λ ks. ¬ Among ks (nth_text late j)) (front_still fits) (g.apart j past lt)
+    ];
+  }
+
+-- the same of texts that are borrowed
+pub fits_now : (n : ℕ) (ts : List (Bor Text)) → n ≤ length ts → n ≤ length (texts_now ts)
+fits_now n ts fits = let long = length-map ts (λ (t : Bor Text). t.now) in omega (arith, long, fits)
+
+pub texts_longer : (n : ℕ) (old new : List (Bor Text)) → n ≤ length old → Extends n (texts_now old) (texts_now new) → n ≤ length new
+texts_longer n old new fits h =
+    let more = longer n (texts_now old) (texts_now new) h in
+    let was = length-map old (λ (t : Bor Text). t.now) in
+    let is = length-map new (λ (t : Bor Text). t.now) in
+    omega (arith, more, was, is, fits)
+
+pub front_text : (n : ℕ) (old new : List (Bor Text)) → n ≤ length old → Extends n (texts_now old) (texts_now new) → (x : ℕ) → x < n → nth_text (texts_now (take n new)) x ≡ nth_text (texts_now old) x
+front_text n old new fits h x lt =
+    let inside = fits_now n old fits in
+    ap (λ us. nth_text us x) (sym (take-map (λ (t : Bor Text). t.now) n new)) ∙ get_or-take n (texts_now new) x [] lt ∙ nth_still n (texts_now old) (texts_now new) h x (omega (arith, lt, inside))
+
+-- a text that is no key is put at the end
+pub extends_push : (n : ℕ) (ts : List Text) (name : Text) → ¬ Among (take n ts) name → Extends n ts (ts ++ name ∷ [])
+extends_push n ts name other = record {
+  front = take_at ts (name ∷ []) (length ts) refl;
+  apart = λ j le lt.
+      let long = length-append ts (name ∷ []) in
+      let at : j ≡ length ts = omega (arith, long, le, lt) in
+      subst (λ k. ¬ Among (take n ts) k) (sym (ap (nth_text (ts ++ name ∷ [])) at ∙ last ts)) other;
+}
   where
-    go : (x : Text) → IsNamedBy naming vs (length vs) x → (b : Bool) → lists_text (names_of vs) x ≡ b → Among (names_of vs ++ os) x
-    go x y true is = among-first (names_of vs) os x (is_among-true (names_of vs) x is)
-    go x y false is = among-second (names_of vs) os x ((others x).1 (y, λ i. false≢true (sym is ∙ among-true (names_of vs) x i)))
+    last : (us : List Text) → nth_text (us ++ name ∷ []) (length us) ≡ name
+    last [] = refl
+    last (u ∷ us) = last us
 
-pub texts_joined : (naming : List Bool) (vs : List Feature) (keys others front back new : List (Bor Text)) → AreInOrder vs → texts_now keys ≡ names_of vs → front ≡ keys → back ≡ others → Ascend (texts_now others)
-    → ((x : Text) → Among (texts_now others) x ↔ (IsNamedBy naming vs (length vs) x × (¬ Among (texts_now front) x))) → new ≡ keys ++ back → AreTextsOf naming vs (texts_now new)
-texts_joined naming vs keys others front back new up same read read' rise besides joined =
-    subst (AreTextsOf naming vs) (sym (ap (map (λ (t : Bor Text). t.now)) (joined ∙ ap (λ ts. keys ++ ts) read') ∙ map-append (λ (t : Bor Text). t.now) keys others ∙ ap (λ ks. ks ++ texts_now others) same))
-    (texts_made naming vs (texts_now others) up rise (subst (λ ks. (x : Text) → Among (texts_now others) x ↔ (IsNamedBy naming vs (length vs) x × (¬ Among ks x))) (ap (map (λ (t : Bor Text). t.now)) read ∙ same) besides))
+-- the node of a name is that of a key, or stands at the end
+pub node_found : (n : ℕ) (ts : List Text) (name : Text) (i : ℕ) → n ≤ length ts → Ascend (take n ts) → i < n → nth_text ts i ≡ name → IsNodeOf n ts name i
+node_found n ts name i fits up lt is = record {
+  inside = omega (arith, lt, fits);
+  text = is;
+  key = λ j lt' same.
+      let long = length-take-le n ts fits in
+      once (take n ts) up i j (omega (arith, long, lt)) (omega (arith, long, lt')) (get_or-take n ts i [] lt ∙ is ∙ sym same ∙ sym (get_or-take n ts j [] lt'));
+}
 
--- texts in two parts, of which the first has n
-module _ (n : ℕ) (ts : List (Bor Text)) (h : AreParted n (texts_now ts)) where
-  pub fits_in : n ≤ length ts
-  fits_in = let long = length-map ts (λ (t : Bor Text). t.now) in let fits = h.fits in omega (arith, long, fits)
+pub node_pushed : (n : ℕ) (ts : List Text) (name : Text) → n ≤ length ts → ¬ Among (take n ts) name → IsNodeOf n (ts ++ name ∷ []) name (length ts)
+node_pushed n ts name fits other = record {
+  inside = let long = length-append ts (name ∷ []) in omega (arith, long);
+  text = last ts;
+  key = λ i lt is.
+      let long = length-take-le n ts fits in
+      let there = get_or-take n ts i [] lt ∙ sym (get_or_append_left ts (name ∷ []) [] i (omega (arith, lt, fits))) ∙ is in
+      absurd (other (subst (Among (take n ts)) there (among_at (take n ts) i [] (omega (arith, long, lt)))));
+}
+  where
+    last : (us : List Text) → nth_text (us ++ name ∷ []) (length us) ≡ name
+    last [] = refl
+    last (u ∷ us) = last us
 
-  pub one_number : (i j : ℕ) → i < length ts → j < length ts → nth_text (texts_now ts) i ≡ nth_text (texts_now ts) j → i ≡ j
-  one_number i j lt lt' same = let long = length-map ts (λ (t : Bor Text). t.now) in h.one i j (omega (arith, long, lt)) (omega (arith, long, lt')) same
+-- no name yet, one more, and all of a set
+pub names_none : (n : ℕ) (ts : List Text) (row : List ℕ) → row ≡ [] → HasNames n ts (Among (seen [])) row
+names_none n ts row none = record {
+  inside = λ x i. absurd (subst (λ r. Among r x) none i);
+  only = λ x i. absurd (subst (λ r. Among r x) none i);
+  all = λ k i. absurd i;
+  keys = λ x lt i. absurd i;
+}
 
-  pub front_up : Ascend (texts_now (take n ts))
-  front_up = subst Ascend (take-map (λ (t : Bor Text). t.now) n ts) h.front
+pub names_more : (n : ℕ) (ts : List Text) (ks : List (Bor (Bor Text))) (k : Bor (Bor Text)) (row : List ℕ) (x : ℕ) → IsNodeOf n ts k.now.now x → HasNames n ts (Among (seen ks)) row
+    → HasNames n ts (Among (seen (ks ++ k ∷ []))) (row ++ x ∷ [])
+names_more n ts ks k row x node h = record {
+  inside = λ y i. elim ((among_push row x y).0 i) [ inl j ↦ h.inside y j | inr is ↦ subst (λ z. z < length ts) (sym is) node.inside ];
+  only = λ y i. (seen_push ks k (nth_text ts y)).1 (elim ((among_push row x y).0 i) [ inl j ↦ inl (h.only y j) | inr is ↦ inr (ap (nth_text ts) is ∙ node.text) ]);
+  all = λ name i. elim ((seen_push ks k name).0 i) [
+    | inl s ↦ let a = h.all name s in (a.0, a.1, a.2, (among_push row x a.0).1 (inl a.3))
+    | inr is ↦ (x, node.inside, node.text ∙ sym is, (among_push row x x).1 (inr refl))
+  ];
+  keys = λ y lt i. (among_push row x y).1 (elim ((seen_push ks k (nth_text ts y)).0 i) [ inl s ↦ inl (h.keys y lt s) | inr is ↦ inr (sym (node.key y lt is)) ]);
+}
 
-  pub rest_up : Ascend (texts_now (take (length ts - n) (drop n ts)))
-  rest_up = subst (λ (us : List (Bor Text)). Ascend (texts_now us)) (sym (take_rest ts n)) (subst Ascend (drop-map (λ (t : Bor Text). t.now) n ts) h.rest)
+pub names_alike : (n : ℕ) (ts : List Text) (P Q : Text → Type 0) (row : List ℕ) → ((k : Text) → P k ↔ Q k) → HasNames n ts P row → HasNames n ts Q row
+names_alike n ts P Q row same h = record {
+  inside = h.inside;
+  only = λ x i. (same (nth_text ts x)).0 (h.only x i);
+  all = λ k q. h.all k ((same k).1 q);
+  keys = λ x lt q. h.keys x lt ((same (nth_text ts x)).1 q);
+}
 
-  front_text : (i : ℕ) → i < n → nth_text (texts_now (take n ts)) i ≡ nth_text (texts_now ts) i
-  front_text i lt = ap (λ xs. nth_text xs i) (sym (take-map (λ (t : Bor Text). t.now) n ts)) ∙ get_or-take n (texts_now ts) i [] lt
+pub names_empty : (n : ℕ) (ts : List Text) (s : BTreeSet (Bor Text)) (row : List ℕ) → row ≡ [] → btree_set_len s ≡ 0 → HasNames n ts (λ k. IsTrue (set_has s k)) row
+names_empty n ts s row none empty = names_alike n ts (Among (seen [])) (λ k. IsTrue (set_has s k)) row (λ k. (λ i. absurd i, λ y. absurd (false≢true (sym (none_in s (no_keys s.keys empty) k) ∙ y)))) (names_none n ts row none)
 
-  rest_text : (i : ℕ) → nth_text (texts_now (take (length ts - n) (drop n ts))) i ≡ nth_text (texts_now ts) (n + i)
-  rest_text i = ap (λ (us : List (Bor Text)). nth_text (texts_now us) i) (take_rest ts n) ∙ ap (λ xs. nth_text xs i) (sym (drop-map (λ (t : Bor Text). t.now) n ts)) ∙ get_or-drop n (texts_now ts) i []
+pub names_all : (n : ℕ) (ts : List Text) (s : BTreeSet (Bor Text)) (ks : List (Bor (Bor Text))) (row : List ℕ) → map (λ k. k.now) ks ≡ s.keys
+    → HasNames n ts (Among (seen ks)) row → HasNames n ts (λ k. IsTrue (set_has s k)) row
+names_all n ts s ks row all h = names_alike n ts (Among (seen ks)) (λ k. IsTrue (set_has s k)) row (all_seen s ks all) h
 
-  front_length : length (take n ts) ≡ n
-  front_length = length-take-le n ts fits_in
+-- the names of features, with other texts after them
+module _ (vs : List Feature) (texts : List Text) (h : AreTextsOf vs texts) where
+  pub keys_fit : length vs ≤ length texts
+  keys_fit = elim (cases_lt (length texts) (length vs)) [
+    | inl less ↦
+        let long = length-map vs (λ (v : Feature). v.key.now) in
+        let whole = ap length (sym (take_all (length vs) texts (omega (arith, less))) ∙ h.keys) in
+        absurd (omega (arith, less, long, whole))
+    | inr le ↦ le
+  ]
 
-  rest_length : length (take (length ts - n) (drop n ts)) ≡ length ts - n
-  rest_length = ap length (take_rest ts n) ∙ length-drop n ts
-
-  -- a number that is found in one of the parts
-  pub first_number : (i : ℕ) (x : Text) → (i < length (take n ts)) × (nth_text (texts_now (take n ts)) i ≡ x) → (i < length ts) × (nth_text (texts_now ts) i ≡ x)
-  first_number i x w =
-      let long = front_length in
-      let fits = fits_in in
-      let lt = w.0 in
-      (omega (arith, long, fits, lt), sym (front_text i (omega (arith, long, lt))) ∙ w.1)
-
-  pub later_number : (i : ℕ) (x : Text) → (i < length (take (length ts - n) (drop n ts))) × (nth_text (texts_now (take (length ts - n) (drop n ts))) i ≡ x)
-      → (n + i < length ts) × (nth_text (texts_now ts) (n + i) ≡ x)
-  later_number i x w = let long = rest_length in let fits = fits_in in let lt = w.0 in (omega (arith, long, fits, lt), sym (rest_text i) ∙ w.1)
-
-  pub no_number : (x : Text) → (Among (texts_now (take n ts)) x → ⊥) → (Among (texts_now (take (length ts - n) (drop n ts))) x → ⊥) → Among (texts_now ts) x → ⊥
-  no_number x front rest there =
-      let k = at_among (texts_now ts) x [] there in
-      let long = length-map ts (λ (t : Bor Text). t.now) in
-      let before = length-map (take n ts) (λ (t : Bor Text). t.now) in
-      let after = length-map (take (length ts - n) (drop n ts)) (λ (t : Bor Text). t.now) in
-      let size = front_length in
-      let size' = rest_length in
-      let lt = k.1 in
-      elim (cases_lt k.0 n) [
-        | inl early ↦ front (subst (Among (texts_now (take n ts))) (front_text k.0 early ∙ k.2) (among_at (texts_now (take n ts)) k.0 [] (omega (arith, before, size, early))))
-        | inr late ↦
-            let at : n + (k.0 - n) ≡ k.0 = omega (arith, late) in
-            rest (subst (Among (texts_now (take (length ts - n) (drop n ts)))) (rest_text (k.0 - n) ∙ ap (λ i. nth_text (texts_now ts) i) at ∙ k.2)
-            (among_at (texts_now (take (length ts - n) (drop n ts))) (k.0 - n) [] (omega (arith, after, size', long, lt, late))))
-      ]
+  -- a feature's number is its place
+  pub key_text : (i : ℕ) → i < length vs → nth_text texts i ≡ nth_text (names_of vs) i
+  key_text i lt = sym (get_or-take (length vs) texts i [] lt) ∙ ap (λ ks. nth_text ks i) h.keys

@@ -8,10 +8,10 @@ use Rattle.cargo_toml_graph.specs.Graph.{Table, Edge, ReachesThrough, KeepsName,
 use Rattle.cargo_toml_graph.specs.Reach.{Reaches, Gathers, GathersLabel}
 use Rattle.cargo_toml_graph.specs.Reach.Reaches.{edge, through}
 use Rattle.cargo_toml_graph.specs.Redirects.{RedirectsTo}
-use Rattle.cargo_toml_walk.specs.Numbers.{Leads, IsWanted, IsPassed, IsUnder, IsRedirect, KeepsLabel}
+use Rattle.cargo_toml_resolve.specs.Numbers.{Leads, IsWanted, IsPassed, IsUnder, IsRedirect, KeepsLabel}
 use Rattle.cargo_toml_features.specs.Places.{nth_text}
 use Rattle.cargo_toml_resolve.specs.NumberedTables.{HasNumber, IsNaming, IsNumbered}
-use Rattle.cargo_toml_walk.proofs.Steps.{has_row}
+use Rattle.cargo_toml_resolve.proofs.Steps.{has_row}
 use Rattle.cargo_toml_features.proofs.Places.{lower_place}
 
 -- a path begins at a vertex
@@ -140,7 +140,7 @@ module _ (t : Table) (Removed : Text → Type 0) (texts : List Text) (edges name
     λ u. ((h.flagged j inside).0 u.0, h.in_order j r u.1 below),
     λ b.
         let k = (h.vertex (nth_text texts j)).0 (h.removed (nth_text texts j) b.0) in
-        let is : k.0 ≡ j = h.one k.0 j (let fits = h.count in omega arith) inside k.2 in
+        let is : k.0 ≡ j = h.one k.0 j k.1 inside k.2 in
         ((h.flagged j inside).1 b.0, lower_place texts j r (λ later. h.in_order r j later (subst (λ n. n < length edges) is k.1)) b.1),
   )
 

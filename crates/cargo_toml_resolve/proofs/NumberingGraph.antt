@@ -1,22 +1,22 @@
 -- The graph of numbers that stands for features in order.
-use Rattle.std.proofs.Common.{◌≡◌, ◌↔◌, ◌⊎◌, ◌<◌, ◌≤◌, ℕ, Bool, true, false, List, [], length, take, slice_get, IsTrue, Option, Some, None, Bor, refl, sym, ap, subst, inl, inr, ◌∙◌, arith}
+use Rattle.std.proofs.Common.{◌≡◌, ◌↔◌, ◌⊎◌, ◌<◌, ◌≤◌, ℕ, Bool, true, false, List, [], length, slice_get, IsTrue, Option, Some, None, refl, sym, ap, subst, inl, inr, ◌∙◌, arith}
 use Rattle.std.proofs.lemmas.Bool.{false≢true, cases_lt}
-use Rattle.std.proofs.lemmas.List.{length-map, take-map, get_or-take, get_or_past}
+use Rattle.std.proofs.lemmas.List.{length-map, get_or_past}
 use Rattle.std.specs.Option.{IsSomeAnd, option_map_or}
 use Rattle.cargo_toml_graph.specs.Action.{Text}
 use Rattle.cargo_toml_graph.specs.Admitted.{is_below}
 use Rattle.cargo_toml_graph.specs.Graph.{Table, Edge, IsPlain}
-use Rattle.cargo_toml_walk.specs.Numbers.{IsWanted, Leads}
+use Rattle.cargo_toml_graph.specs.Reach.{Among}
+use Rattle.cargo_toml_resolve.specs.Numbers.{IsWanted, Leads}
 use Rattle.cargo_toml_features.specs.Places.{nth_text}
 use Rattle.cargo_toml_resolve.specs.NumberedTables.{HasNumber, IsNaming, IsNumbered}
-use Rattle.cargo_toml_walk.proofs.Steps.{has_row}
-use Rattle.cargo_toml_features.proofs.Places.{at_among, rises}
+use Rattle.cargo_toml_features.proofs.Places.{among_at, once, rises}
 use Rattle.cargo_toml_features.specs.declared.features.Feature.{Feature}
 use Rattle.cargo_toml_features.specs.InOrder.{AreInOrder, feature_at, names_of, table_among}
 use Rattle.cargo_toml_features.specs.Views.{action_at, set_has}
 use Rattle.cargo_toml_resolve.specs.Enabling.{LeadsTo}
-use Rattle.cargo_toml_resolve.specs.Numbering.{AreTextsOf, IsFlagged, IsPicked, IsTarget, place_names}
-use Rattle.cargo_toml_resolve.specs.Texts.{texts_now}
+use Rattle.cargo_toml_resolve.specs.Numbering.{AreRead, AreTextsOf, IsFlagged, place_names}
+use Rattle.cargo_toml_resolve.proofs.NumberTexts.{key_text, keys_fit}
 use Rattle.cargo_toml_resolve.proofs.InPlace.{has_place, name_in, stands_found, stands_in}
 
 -- the same vertices are removed
@@ -44,49 +44,34 @@ leads_same : (o : Option Feature) (k : Text)
 leads_same None k = (λ p. absurd p, elim [ inl n ↦ absurd (false≢true n) | inr p ↦ p ])
 leads_same (Some v) k = (λ p. p, λ p. p)
 
--- what is said of slices holds of the lists that they show
-pub keys_are : (naming : List Bool) (vs : List Feature) (us ts : List (Bor Text)) → us ≡ ts → AreTextsOf naming vs (texts_now ts) → texts_now (take (length vs) us) ≡ names_of vs
-keys_are naming vs us ts read h = sym (take-map (λ (t : Bor Text). t.now) (length vs) us) ∙ ap (λ (ws : List (Bor Text)). take (length vs) (texts_now ws)) read ∙ h.keys
-
-pub named_by : (naming shown : List Bool) (vs : List Feature) (names : List (List ℕ)) (us ts : List (Bor Text)) → us ≡ ts → shown ≡ naming
-    → ((i x : ℕ) → i < length vs → Leads names i x ↔ ((x < length us) × IsPicked shown vs i (nth_text (texts_now us) x)))
-    → (i x : ℕ) → i < length vs → Leads names i x ↔ ((x < length (texts_now ts)) × IsPicked naming vs i (nth_text (texts_now ts) x))
-named_by naming shown vs names us ts read see h i x lt =
-    subst (λ n. Leads names i x ↔ ((x < n) × IsPicked naming vs i (nth_text (texts_now ts) x))) (sym (length-map ts (λ (t : Bor Text). t.now)))
-    (subst (λ fs. Leads names i x ↔ ((x < length ts) × IsPicked fs vs i (nth_text (texts_now ts) x))) see
-    (subst (λ (ws : List (Bor Text)). Leads names i x ↔ ((x < length ws) × IsPicked shown vs i (nth_text (texts_now ws) x))) read (h i x lt)))
-
-pub targets_by : (vs : List Feature) (edges : List (List ℕ)) (keys : List (Bor Text)) → texts_now keys ≡ names_of vs
-    → ((i x : ℕ) → i < length vs → Leads edges i x ↔ ((x < length keys) × IsTarget vs (texts_now keys) i x))
-    → (i x : ℕ) → i < length vs → Leads edges i x ↔ ((x < length vs) × IsTarget vs (names_of vs) i x)
-targets_by vs edges keys same h i x lt =
-    let long : length keys ≡ length vs = sym (length-map keys (λ (t : Bor Text). t.now)) ∙ ap length same ∙ length-map vs (λ (v : Feature). v.key.now) in
-    subst (λ n. Leads edges i x ↔ ((x < n) × IsTarget vs (names_of vs) i x)) long
-    (subst (λ ks. Leads edges i x ↔ ((x < length keys) × IsTarget vs ks i x)) same (h i x lt))
-
-module _ (vs : List Feature) (marks naming : List Bool) (texts : List Text) (edges names : List (List ℕ)) (flags : List Bool)
-    (up : AreInOrder vs) (marked : length marks ≡ length vs) (h : AreTextsOf naming vs texts)
-    (picked : (i : ℕ) → i < length vs → IsNaming edges marks i → IsWanted naming true i)
-    (name_len : length names ≡ length vs) (named : (i x : ℕ) → i < length vs → Leads names i x ↔ ((x < length texts) × IsPicked naming vs i (nth_text texts x)))
-    (edge_len : length edges ≡ length vs) (targets : (i x : ℕ) → i < length vs → Leads edges i x ↔ ((x < length vs) × IsTarget vs (names_of vs) i x))
+module _ (vs : List Feature) (marks : List Bool) (texts : List Text) (edges names : List (List ℕ)) (flags : List Bool)
+    (up : AreInOrder vs) (marked : length marks ≡ length vs) (h : AreTextsOf vs texts) (r : AreRead vs marks texts edges names)
     (flag_len : length flags ≡ length texts) (flag : (i : ℕ) → IsWanted flags true i ↔ IsWanted marks true i) where
   vertex_in : (i : ℕ) → i < length edges → i < length vs
-  vertex_in i lt = subst (λ n. i < n) edge_len lt
+  vertex_in i lt = subst (λ n. i < n) r.edges_len lt
 
   vertex_out : (i : ℕ) → i < length vs → i < length edges
-  vertex_out i lt = subst (λ n. i < n) (sym edge_len) lt
+  vertex_out i lt = subst (λ n. i < n) (sym r.edges_len) lt
 
-  -- a feature's number is its place
-  key_text : (i : ℕ) → i < length vs → nth_text texts i ≡ nth_text (names_of vs) i
-  key_text i lt = sym (get_or-take (length vs) texts i [] lt) ∙ ap (λ ks. nth_text ks i) h.keys
+  key_at : (i : ℕ) → i < length vs → nth_text texts i ≡ nth_text (names_of vs) i
+  key_at i lt = key_text vs texts h i lt
 
   inside : (i : ℕ) → i < length vs → i < length texts
-  inside i lt = let fits = h.parted.fits in omega (arith, fits, lt)
+  inside i lt = let f = keys_fit vs texts h in omega (arith, f, lt)
+
+  -- a text that is a key has the number of its feature
+  one_number : (i j : ℕ) → i < length vs → j < length texts → nth_text texts i ≡ nth_text texts j → i ≡ j
+  one_number i j lt lt' same =
+      let long = length-map vs (λ (v : Feature). v.key.now) in
+      elim (cases_lt j (length vs)) [
+        | inl early ↦ once (names_of vs) up i j (omega (arith, long, lt)) (omega (arith, long, early)) (sym (key_at i lt) ∙ same ∙ key_at j early)
+        | inr late ↦ absurd (h.apart j late lt' (subst (Among (names_of vs)) (sym (key_at i lt) ∙ same) (among_at (names_of vs) i [] (omega (arith, long, lt)))))
+      ]
 
   feature_here : (i : ℕ) → i < length vs → feature_at vs (nth_text texts i) ≡ slice_get vs i
   feature_here i lt =
       let v = stands_in vs i lt in
-      ap (feature_at vs) (key_text i lt ∙ name_in vs i v.0 v.1) ∙ stands_found vs up i v.0 v.1 ∙ sym v.1
+      ap (feature_at vs) (key_at i lt ∙ name_in vs i v.0 v.1) ∙ stands_found vs up i v.0 v.1 ∙ sym v.1
 
   names_here : (i : ℕ) (x : Text) → i < length vs → (table_among vs).names (nth_text texts i) x ≡ place_names vs i x
   names_here i x lt = ap (λ o. option_map_or (λ v. set_has v.enables_features x) o false) (feature_here i lt)
@@ -100,20 +85,20 @@ module _ (vs : List Feature) (marks naming : List Bool) (texts : List Text) (edg
 
   is_vertex : (f : Text) → IsTrue ((table_among vs).has f) ↔ ((i : ℕ) × (i < length edges) × (nth_text texts i ≡ f))
   is_vertex f = (
-    λ y. let w = (has_key f).0 y in (w.0, vertex_out w.0 w.1, key_text w.0 w.1 ∙ w.2),
-    λ w. (has_key f).1 (w.0, vertex_in w.0 w.1, sym (key_text w.0 (vertex_in w.0 w.1)) ∙ w.2),
+    λ y. let w = (has_key f).0 y in (w.0, vertex_out w.0 w.1, key_at w.0 w.1 ∙ w.2),
+    λ w. (has_key f).1 (w.0, vertex_in w.0 w.1, sym (key_at w.0 (vertex_in w.0 w.1)) ∙ w.2),
   )
 
   is_edge : (i j : ℕ) → i < length edges → Leads edges i j → (j < length edges) × Edge (table_among vs) (nth_text texts i) (nth_text texts j)
   is_edge i j lt l =
       let i' = vertex_in i lt in
-      let t = (targets i j i').0 l in (
+      let t = (r.edges i j i').0 l in (
         vertex_out j t.0,
         record {
           source = (is_vertex (nth_text texts i)).1 (i, lt, refl);
           target = (is_vertex (nth_text texts j)).1 (j, vertex_out j t.0, refl);
-          apart = λ same. t.1.0 (sym (h.parted.one i j (inside i i') (inside j t.0) same));
-          leads = (leads_here i (nth_text texts j) i').0 (subst (λ k. IsSomeAnd (slice_get vs i) (λ v. LeadsTo v k)) (sym (key_text j t.0)) t.1.1);
+          apart = λ same. t.1.0 (sym (one_number i j i' (inside j t.0) same));
+          leads = (leads_here i (nth_text texts j) i').0 (subst (λ k. IsSomeAnd (slice_get vs i) (λ v. LeadsTo v k)) (sym (key_at j t.0)) t.1.1);
         },
       )
 
@@ -121,11 +106,11 @@ module _ (vs : List Feature) (marks naming : List Bool) (texts : List Text) (edg
   from_edge i j lt lt' e =
       let i' = vertex_in i lt in
       let j' = vertex_in j lt' in
-      (targets i j i').1 (
+      (r.edges i j i').1 (
         j',
         (
           λ same. e.apart (ap (nth_text texts) (sym same)),
-          subst (λ k. IsSomeAnd (slice_get vs i) (λ v. LeadsTo v k)) (key_text j j') ((leads_here i (nth_text texts j) i').1 e.leads),
+          subst (λ k. IsSomeAnd (slice_get vs i) (λ v. LeadsTo v k)) (key_at j j') ((leads_here i (nth_text texts j) i').1 e.leads),
         ),
       )
 
@@ -137,53 +122,36 @@ module _ (vs : List Feature) (marks naming : List Bool) (texts : List Text) (edg
   has_label : (i : ℕ) (x : Text) → i < length edges → IsNaming edges flags i → IsTrue ((table_among vs).names (nth_text texts i) x) ↔ HasNumber texts (length texts) (Leads names i) x
   has_label i x lt asked =
       let i' = vertex_in i lt in
-      let pick : IsWanted naming true i = picked i i' (is_asked i asked) in (
-        λ y.
-            let here : IsTrue (place_names vs i x) = sym (names_here i x i') ∙ y in
-            let k = at_among texts x [] (h.named x (i, i', (pick, here))) in
-            (k.0, k.1, k.2, (named i k.0 i').1 (k.1, (pick, subst (λ z. IsTrue (place_names vs i z)) (sym k.2) here))),
-        λ w. names_here i x i' ∙ subst (λ z. IsTrue (place_names vs i z)) w.2 ((named i w.0 i').0 w.3).1.1,
+      let all = r.names i i' (is_asked i asked) in (
+        λ y. all.all x (sym (names_here i x i') ∙ y),
+        λ w. names_here i x i' ∙ subst (λ z. IsTrue (place_names vs i z)) w.2 (all.only w.0 w.3),
       )
-
-  labels_within : (i x : ℕ) → Leads names i x → x < length texts
-  labels_within i x l = ((named i x (subst (λ n. i < n) name_len (has_row names i x l))).0 l).0
 
   is_flagged : (i : ℕ) → i < length texts → IsWanted flags true i ↔ IsFlagged vs marks (nth_text texts i)
   is_flagged i lt = (
     λ w.
         let m = (flag i).0 w in
         let below : i < length vs = subst (λ n. i < n) marked (wanted_inside marks i m) in
-        (i, below, sym (key_text i below), m),
+        (i, below, sym (key_at i below), m),
     λ k.
-        let is : k.0 ≡ i = h.parted.one k.0 i (inside k.0 k.1) lt (key_text k.0 k.1 ∙ k.2) in
+        let is : k.0 ≡ i = one_number k.0 i k.1 lt (key_at k.0 k.1 ∙ k.2) in
         (flag i).1 (subst (IsWanted marks true) is k.3),
   )
 
   pub graph_stands : IsNumbered (table_among vs) (IsFlagged vs marks) texts edges names flags
   graph_stands = record {
-    one = h.parted.one;
-    count = subst (λ n. n ≤ length texts) (sym edge_len) h.parted.fits;
+    one = λ i j lt. one_number i j (vertex_in i lt);
+    count = subst (λ n. n ≤ length texts) (sym r.edges_len) (keys_fit vs texts h);
     vertex = is_vertex;
     in_order = λ i j earlier lt.
         let j' = vertex_in j lt in
         let i' : i < length vs = omega (arith, earlier, j') in
         let long = length-map vs (λ (v : Feature). v.key.now) in
-        subst (λ x. IsTrue (is_below x (nth_text texts j))) (sym (key_text i i')) (subst (λ y. IsTrue (is_below (nth_text (names_of vs) i) y)) (sym (key_text j j')) (rises (names_of vs) up i j earlier (omega (arith, long, j'))));
+        subst (λ x. IsTrue (is_below x (nth_text texts j))) (sym (key_at i i')) (subst (λ y. IsTrue (is_below (nth_text (names_of vs) i) y)) (sym (key_at j j')) (rises (names_of vs) up i j earlier (omega (arith, long, j'))));
     leads = λ i j lt. (is_edge i j lt, λ w. from_edge i j lt w.0 w.1);
     labels = has_label;
-    labels_inside = labels_within;
+    labels_inside = r.inside;
     flag_count = flag_len;
     flagged = is_flagged;
     removed = λ v r. (has_key v).1 (r.0, r.1, r.2);
   }
-
--- the features as a graph, by what its parts are found to be
-pub graph_found : (vs : List Feature) (marks naming : List Bool) (keys texts : List (Bor Text)) (edges names : List (List ℕ)) (flags : List Bool) → AreInOrder vs → length marks ≡ length vs → texts_now keys ≡ names_of vs → AreTextsOf naming vs (texts_now texts)
-    → ((i : ℕ) → i < length edges → IsNaming edges marks i → IsWanted naming true i)
-    → length names ≡ length vs → ((i x : ℕ) → i < length vs → Leads names i x ↔ ((x < length (texts_now texts)) × IsPicked naming vs i (nth_text (texts_now texts) x)))
-    → length edges ≡ length vs → ((i x : ℕ) → i < length vs → Leads edges i x ↔ ((x < length keys) × IsTarget vs (texts_now keys) i x))
-    → length flags ≡ length texts → ((i : ℕ) → IsWanted flags true i ↔ IsWanted marks true i)
-    → IsNumbered (table_among vs) (IsFlagged vs marks) (texts_now texts) edges names flags
-graph_found vs marks naming keys texts edges names flags up marked same are picked name_len named edge_len rows flag_len flag =
-    graph_stands vs marks naming (texts_now texts) edges names flags up marked are (λ i lt is. picked i (subst (λ n. i < n) (sym edge_len) lt) is) name_len named edge_len (targets_by vs edges keys same rows)
-    (flag_len ∙ sym (length-map texts (λ (t : Bor Text). t.now))) flag

@@ -18,7 +18,7 @@ use Rattle.cargo_toml_features.specs.Places.{nth_text}
 use Rattle.cargo_toml_graph.specs.Ascending.{Ascend}
 use Rattle.cargo_toml_graph.proofs.SortedTexts.{none_ascend}
 use Rattle.cargo_toml_resolve.specs.NumberedTables.{HasNumber}
-use Rattle.cargo_toml_walk.specs.Numbers.{IsWanted, Leads, row_items}
+use Rattle.cargo_toml_resolve.specs.Numbers.{IsWanted, Leads, row_items}
 use Rattle.cargo_toml_resolve.proofs.NumberedTables as numbered
 use Rattle.cargo_toml_features.specs.declared.features.Feature.{Feature}
 use Rattle.cargo_toml_resolve.specs.KeptFeatures.{ArePassedAt, StandFor}
@@ -123,7 +123,7 @@ module _ (t : Table) (removed : Text → Bool) (old : List Feature) (texts : Lis
     λ y. (at_its_turn n lt (nth_text texts i)).1 (to_earlier n lt (nth_text texts i) ((redirects_are n (nth_text texts i) lt gone).0 (i, fits i below, refl, true_stands (row_items rows n) i y))),
     λ y.
         let j = (redirects_are n (nth_text texts i) lt gone).1 (to_lower n lt (nth_text texts i) ((at_its_turn n lt (nth_text texts i)).0 y)) in
-        stands_true (row_items rows n) i (subst (Among (row_items rows n)) (stand.numbered.one j.0 i j.1 (fits i below) j.2) j.3),
+        stands_true (row_items rows n) i (subst (Among (row_items rows n)) (sym (stand.numbered.one i j.0 below j.1 (sym j.2))) j.3),
   )
 
   module _ (own : Text → List Text) (lists : ℕ → List Text) (start : (i : ℕ) → i < length edges → lists i ≡ own (nth_text texts i)) where

@@ -7,7 +7,7 @@ use Rattle.cargo_toml_graph.specs.Reach.{Among}
 use Rattle.cargo_toml_graph.proofs.Joins.{join_alike, join_halves, join_one}
 use Rattle.cargo_toml_features.specs.declared.features.Feature.{Feature}
 use Rattle.cargo_toml_features.specs.Views.{action_at}
-use Rattle.cargo_toml_walk.proofs.Steps.{among_all, among_more, among_taken}
+use Rattle.cargo_toml_resolve.proofs.Steps.{among_all, among_more, among_taken}
 use Rattle.cargo_toml_resolve.specs.Holding.{DoesAt, action_by}
 
 module _ (vs : List Feature) (passed : List ℕ) (k : Text) (first : Option Action) where

@@ -15,11 +15,8 @@ use Rattle.cargo_toml_features.specs.declared.features.Feature.{Feature}
 use Rattle.cargo_toml_features.specs.InOrder.{AreInOrder, HaveNoEnablers}
 use Rattle.cargo_toml_features.specs.Views.{action_at, set_has}
 use Rattle.cargo_toml_features.proofs.TextKeys.{none_in}
-use Rattle.cargo_toml_walk.specs.Bits.{HasBit}
-use Rattle.cargo_toml_walk.specs.Numbers.{HasLabel, IsPassed, IsWanted, KeepsLabel, Leads}
-use Rattle.cargo_toml_walk.proofs.Cuts.{none_among}
-use Rattle.cargo_toml_walk.proofs.Labelled.{gathered, some_among}
-use Rattle.cargo_toml_walk.proofs.Linking.{last_edge, with_last}
+use Rattle.cargo_toml_resolve.specs.Numbers.{IsPassed, IsWanted, KeepsLabel, Leads, PassesAny}
+use Rattle.cargo_toml_resolve.proofs.Cuts.{none_among}
 use Rattle.cargo_toml_resolve.specs.Enabling.{EnablesThrough, GainEnabler, LearnThrough}
 use Rattle.cargo_toml_resolve.specs.Holding.{AllTakeOver, HasActions, HasTextsOf, Holds, HoldsTheSame, KeepsOwn, SaysTheSame, TakesOver, action_by}
 use Rattle.cargo_toml_resolve.specs.NumberedTables.{HasNumber}
@@ -64,25 +61,25 @@ actions_alike vs ws P Q places same v h k = join_alike (λ a. (
   λ d. let p = (places d.0).1 d.1 in (d.0, p, same d.0 k p ∙ d.2),
 )) (action_at v.enables_deps k) (h k)
 
+-- a vertex that leads to no removed one passes none
+pub passes_none : (edges : List (List ℕ)) (flags : List Bool) (a : ℕ) → ¬ ((x : ℕ) × Leads edges a x × IsWanted flags true x) → (b : ℕ) → Among [] b ↔ IsPassed edges flags a b
+passes_none edges flags a clean b = (λ i. absurd i, λ p. first p.0 p.1)
+  where
+    first : IsWanted flags true b → Reaches (Leads edges) (IsWanted flags true) a b → ⊥
+    first gone (edge e) = clean (b, e, gone)
+    first gone (through {b = c} e s p) = clean (c, e, s)
+
 module _ (edges labels : List (List ℕ)) (flags : List Bool) (texts : List Text) where
   -- one kept feature, which passes these
   module _ (a : ℕ) (kept : IsWanted flags false a) (passed : List ℕ) (is : (b : ℕ) → Among passed b ↔ IsPassed edges flags a b) where
-    -- those to which it and the passed ones lead
-    pub at_last : (targets : List ℕ) → ((x : ℕ) → Among targets x ↔ HasLabel (Among passed) edges flags a x) → (f : ℕ) → Among targets f ↔ (IsWanted flags false f × EnablesThrough edges flags f a)
-    at_last targets t f =
-        let g = gathered edges flags edges (Among passed) a is f in (
-          λ i. let h = g.0 ((t f).0 i) in (h.1, (kept, with_last (Leads edges) (IsWanted flags true) h.0.1 h.0.2)),
-          λ p. (t f).1 (g.1 (last_edge (Leads edges) (IsWanted flags true) p.1.1, p.0)),
-        )
-
     none : length passed ≡ 0 → (b : ℕ) → ¬ IsPassed edges flags a b
     none empty b p = none_among passed empty b ((is b).1 p)
 
     -- where it passes none
-    pub directly : length passed ≡ 0 → (f : ℕ) → Leads edges a f ↔ (IsWanted flags false f × EnablesThrough edges flags f a)
+    pub directly : length passed ≡ 0 → (f : ℕ) → Leads edges a f ↔ (IsWanted flags false f × Reaches (Leads edges) (IsWanted flags true) a f)
     directly empty f = (
-      λ l. (elim (cases_Bool (get_or flags f false)) [ inl on ↦ absurd (none empty f (on, edge l)) | inr off ↦ off ], (kept, edge l)),
-      λ p. only f p.1.1,
+      λ l. (elim (cases_Bool (get_or flags f false)) [ inl on ↦ absurd (none empty f (on, edge l)) | inr off ↦ off ], edge l),
+      λ p. only f p.1,
     )
       where
         only : (f : ℕ) → Reaches (Leads edges) (IsWanted flags true) a f → Leads edges a f
@@ -90,9 +87,15 @@ module _ (edges labels : List (List ℕ)) (flags : List Bool) (texts : List Text
         only f (through {b = c} e s p) = absurd (none empty c (s, edge e))
 
     -- the kept ones that it enables have learnt of it
-    module _ (Targets : ℕ → Type 0) (t : (f : ℕ) → Targets f ↔ (IsWanted flags false f × EnablesThrough edges flags f a)) (vs ws : List Feature) (v : GainEnabler Targets (nth_text texts a) vs ws) where
+    module _ (Targets : ℕ → Type 0) (t : (f : ℕ) → Targets f ↔ (IsWanted flags false f × Reaches (Leads edges) (IsWanted flags true) a f)) (vs ws : List Feature) (v : GainEnabler Targets (nth_text texts a) vs ws) where
       still : (b : ℕ) (k : Text) → action_by ws b k ≡ action_by vs b k
       still b k = acts_same vs ws v.same.len b k (λ u w at at'. (v.same.each b u w at at').does.actions)
+
+      enables : (f : ℕ) → Targets f → IsWanted flags false f × EnablesThrough edges flags f a
+      enables f i = let g = (t f).0 i in (g.0, (kept, g.1))
+
+      enabled : (f : ℕ) → IsWanted flags false f × EnablesThrough edges flags f a → Targets f
+      enabled f p = (t f).1 (p.0, p.1.1)
 
       -- it passes none
       pub stays_as_it_is : length passed ≡ 0 → TakesOver edges labels flags texts a vs ws
@@ -108,13 +111,13 @@ module _ (edges labels : List (List ℕ)) (flags : List Bool) (texts : List Text
         };
         others = λ j u w ne at at'. let s = v.same.each j u w at at' in record { names = s.does.names; actions = s.does.actions };
         learn = λ y u w at at' e. let l = v.learn y u w at at' e in (
-          λ i. elim (l.0 i) [ inl o ↦ inl o | inr o ↦ inr (o.0, (t y).0 o.1) ],
-          λ i. l.1 (elim i [ inl o ↦ inl o | inr o ↦ inr (o.0, (t y).1 o.1) ]),
+          λ i. elim (l.0 i) [ inl o ↦ inl o | inr o ↦ inr (o.0, enables y o.1) ],
+          λ i. l.1 (elim i [ inl o ↦ inl o | inr o ↦ inr (o.0, enabled y o.1) ]),
         );
       }
 
       -- it passes some, and comes to hold what was found for it
-      module _ (some : 0 < length passed) (named : List ℕ) (n : (x : ℕ) → Among named x ↔ HasLabel (Among passed) labels flags a x) (set : BTreeSet (Bor Text)) (has : HasTextsOf texts named set)
+      module _ (any : PassesAny edges flags a) (named : List ℕ) (n : (x : ℕ) → Among named x ↔ KeepsLabel edges flags labels a x) (set : BTreeSet (Bor Text)) (has : HasTextsOf texts named set)
           (us : List Feature) (c : ChangesIn (ComesToHold ws a passed set) a ws us) where
         keeps : (j : ℕ) (w u : Feature) → slice_get ws j ≡ Some w → slice_get us j ≡ Some u → KeepsOwn w u
         keeps j w u at at' = elim (cases_eq j a) [
@@ -134,10 +137,10 @@ module _ (edges labels : List (List ℕ)) (flags : List Bool) (texts : List Text
               let h = c.here w.0 u w.1 at' in
               record {
                 names = inl (
-                  (let any = some_among passed some in (any.0, (is any.0).0 any.1)),
+                  any,
                   λ y. (
-                    λ i. let m = (has y).0 (subst (λ z. IsTrue (set_has z y)) h.names i) in (m.0, m.1, m.2, (gathered edges flags labels (Among passed) a is m.0).0 ((n m.0).0 m.3)),
-                    λ m. subst (λ z. IsTrue (set_has z y)) (sym h.names) ((has y).1 (m.0, m.1, m.2, (n m.0).1 ((gathered edges flags labels (Among passed) a is m.0).1 m.3))),
+                    λ i. let m = (has y).0 (subst (λ z. IsTrue (set_has z y)) h.names i) in (m.0, m.1, m.2, (n m.0).0 m.3),
+                    λ m. subst (λ z. IsTrue (set_has z y)) (sym h.names) ((has y).1 (m.0, m.1, m.2, (n m.0).1 m.3)),
                   ),
                 );
                 actions = actions_alike ws vs (λ b. (b ≡ a) ⊎ Among passed b) (λ b. (b ≡ a) ⊎ IsPassed edges flags a b) (λ b. (
@@ -154,24 +157,10 @@ module _ (edges labels : List (List ℕ)) (flags : List Bool) (texts : List Text
               let w = there_too vs ws v.same.len y x at in
               let l = v.learn y x w.0 at w.1 e in
               let k = (keeps y w.0 u w.1 at').enabled_by in (
-                λ i. elim (l.0 (subst (λ z. IsTrue (set_has z e)) k i)) [ inl o ↦ inl o | inr o ↦ inr (o.0, (t y).0 o.1) ],
-                λ i. subst (λ z. IsTrue (set_has z e)) (sym k) (l.1 (elim i [ inl o ↦ inl o | inr o ↦ inr (o.0, (t y).1 o.1) ])),
+                λ i. elim (l.0 (subst (λ z. IsTrue (set_has z e)) k i)) [ inl o ↦ inl o | inr o ↦ inr (o.0, enables y o.1) ],
+                λ i. subst (λ z. IsTrue (set_has z e)) (sym k) (l.1 (elim i [ inl o ↦ inl o | inr o ↦ inr (o.0, enabled y o.1) ])),
               );
         }
-
-  -- the same by a row of a table, whose bits are what a kept feature reaches through removed ones
-  module _ (a : ℕ) (kept : IsWanted flags false a) (bits : List ℕ) (are : (b : ℕ) → HasBit bits b ↔ Reaches (Leads edges) (IsWanted flags true) a b) (inside : (b : ℕ) → Reaches (Leads edges) (IsWanted flags true) a b → b < length flags) where
-    pub by_paths : (targets : List ℕ) → ((x : ℕ) → Among targets x ↔ ((x < length flags) × (HasBit bits x × IsWanted flags false x))) → (f : ℕ) → Among targets f ↔ (IsWanted flags false f × EnablesThrough edges flags f a)
-    by_paths targets t f = (
-      λ i. let n = (t f).0 i in (n.1.1, (kept, (are f).0 n.1.0)),
-      λ p. (t f).1 (inside f p.1.1, ((are f).1 p.1.1, p.0)),
-    )
-
-    pub passed_by_paths : (passed : List ℕ) → ((x : ℕ) → Among passed x ↔ ((x < length flags) × (HasBit bits x × IsWanted flags true x))) → (b : ℕ) → Among passed b ↔ IsPassed edges flags a b
-    passed_by_paths passed t b = (
-      λ i. let n = (t b).0 i in (n.1.1, (are b).0 n.1.0),
-      λ p. (t b).1 (inside b p.1, ((are b).1 p.1, p.0)),
-    )
 
   -- of those below n, which enable the feature in place y
   abbrev By : ℕ → ℕ → Text → Type 0

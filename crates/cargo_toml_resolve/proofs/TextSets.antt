@@ -1,8 +1,6 @@
 -- Sets of the texts of numbers.
-use Rattle.std.proofs.Common.{◌≡◌, ◌↔◌, ◌⊎◌, ◌<◌, ◌+◌, ◌||◌, ℕ, List, [], ◌∷◌, ◌++◌, length, map, take, get_or, bytes_eq, Result, Ok, Err, IfOk, Bor, IsTrue, refl, sym, ap, subst, inl, inr, ◌∙◌}
-use Rattle.std.proofs.lemmas.Bool.{false≢true, or_left, or_right, or_cases}
-use Rattle.std.proofs.lemmas.List.{length-map, map_push, take_more}
-use Rattle.std.proofs.lemmas.Slice.Eq.{bytes_eq-Decides}
+use Rattle.std.proofs.Common.{◌≡◌, ◌↔◌, ◌<◌, ℕ, List, [], ◌∷◌, length, map, get_or, bytes_eq, Result, Ok, Err, IfOk, Bor, IsTrue, refl, sym, ap, subst, inl, inr, ◌∙◌}
+use Rattle.std.proofs.lemmas.List.{length-map}
 use Rattle.std.specs.BTreeSet.{BTreeSet}
 use Rattle.std.specs.List.{list_any}
 use Rattle.cargo_toml_graph.specs.Action.{Text}
@@ -10,11 +8,9 @@ use Rattle.cargo_toml_graph.specs.Reach.{Among}
 use Rattle.cargo_toml_graph.proofs.BinLists.{is_among-true, among-true}
 use Rattle.cargo_toml_features.specs.Views.{set_has}
 use Rattle.cargo_toml_features.specs.Places.{nth_text}
-use Rattle.cargo_toml_features.proofs.TextKeys.{none_in}
-use Rattle.cargo_toml_walk.proofs.Steps.{among_at, item_at}
+use Rattle.cargo_toml_resolve.proofs.Steps.{among_at, item_at}
 use Rattle.cargo_toml_resolve.specs.Holding.{HasTextsOf, IsTextOf}
 use Rattle.cargo_toml_resolve.specs.Texts.{texts_now}
-use Rattle.cargo_toml_resolve.proofs.Gathered.{among_push}
 
 -- the place of a number that is read is below what all of them are below
 pub place_below : (numbers : List ℕ) (n i x p : ℕ) → ((y : ℕ) → Among numbers y → y < n) → i < length numbers → x ≡ get_or numbers i x → p ≡ x → p < n
@@ -37,29 +33,6 @@ module _ (texts : List Text) where
   to_text (n ∷ ns) j (inl e) = inl (ap (nth_text texts) e)
   to_text (n ∷ ns) j (inr i) = inr (to_text ns j i)
 
-  -- the text of one more number, beside those of which Old holds
-  pub text_put : (Old : Text → Type 0) (numbers : List ℕ) (i : ℕ) (k : Text) (s n : BTreeSet (Bor Text)) → i < length numbers → k ≡ nth_text texts (get_or numbers i 0)
-      → ((x : Text) → IsTrue (set_has s x) ↔ (Old x ⊎ Among (map (nth_text texts) (take i numbers)) x))
-      → ((x : Text) → set_has n x ≡ (set_has s x || bytes_eq x k))
-      → (x : Text) → IsTrue (set_has n x) ↔ (Old x ⊎ Among (map (nth_text texts) (take (i + 1) numbers)) x)
-  text_put Old numbers i k s n lt same so_far put x =
-      let more : map (nth_text texts) (take (i + 1) numbers) ≡ map (nth_text texts) (take i numbers) ++ nth_text texts (get_or numbers i 0) ∷ [] =
-      ap (map (nth_text texts)) (take_more numbers i 0 lt) ∙ map_push (nth_text texts) (take i numbers) (get_or numbers i 0) in
-      let push = among_push (map (nth_text texts) (take i numbers)) (nth_text texts (get_or numbers i 0)) x in (
-        λ y. elim (or_cases (set_has s x) (bytes_eq x k) (sym (put x) ∙ y)) [
-          | inl a ↦ elim ((so_far x).0 a) [ inl o ↦ inl o | inr m ↦ inr (subst (λ l. Among l x) (sym more) (push.1 (inl m))) ]
-          | inr b ↦ inr (subst (λ l. Among l x) (sym more) (push.1 (inr ((bytes_eq-Decides x k).0 b ∙ same))))
-        ],
-        λ a. put x ∙ elim a [
-          | inl o ↦ or_left _ _ ((so_far x).1 (inl o))
-          | inr m ↦ elim (push.0 (subst (λ l. Among l x) more m)) [ inl i ↦ or_left _ _ ((so_far x).1 (inr i)) | inr is ↦ or_right (set_has s x) _ ((bytes_eq-Decides x k).1 (is ∙ sym same)) ]
-        ],
-      )
-
--- no text yet
-pub no_text_put : (texts : List Text) (numbers : List ℕ) (s : BTreeSet (Bor Text)) (x : Text) → IsTrue (set_has s x) ↔ (IsTrue (set_has s x) ⊎ Among (map (nth_text texts) (take 0 numbers)) x)
-no_text_put texts numbers s x = (λ y. inl y, elim [ inl y ↦ y | inr none ↦ absurd none ])
-
 -- the texts of all numbers
 pub all_texts_put : (texts : List (Bor Text)) (numbers ns : List ℕ) (x : Text) → ((n : ℕ) → Among numbers n → n < length texts) → ns ≡ numbers
     → Among (map (nth_text (texts_now texts)) ns) x ↔ IsTextOf (texts_now texts) numbers x
@@ -76,21 +49,6 @@ pub has_all : (texts : List (Bor Text)) (numbers : List ℕ) (s : BTreeSet (Bor 
 has_all texts numbers s inside h x =
     let all = all_texts_put texts numbers numbers x inside refl in
     (λ y. all.0 ((h x).0 y), λ n. (h x).1 (all.1 n))
-
--- the texts of numbers, in a set that had none
-pub put_in_none : (texts : List Text) (numbers : List ℕ) (old new : BTreeSet (Bor Text)) → old.keys ≡ [] → HasTextsOf texts numbers new
-    → (x : Text) → IsTrue (set_has new x) ↔ (IsTrue (set_has old x) ⊎ IsTextOf texts numbers x)
-put_in_none texts numbers old new none h x = (
-  λ y. inr ((h x).0 y),
-  elim [ inl o ↦ absurd (false≢true (sym (none_in old none x) ∙ o)) | inr n ↦ (h x).1 n ],
-)
-
-pub only_put : (texts : List Text) (numbers : List ℕ) (old new : BTreeSet (Bor Text)) → old.keys ≡ []
-    → ((x : Text) → IsTrue (set_has new x) ↔ (IsTrue (set_has old x) ⊎ IsTextOf texts numbers x)) → HasTextsOf texts numbers new
-only_put texts numbers old new none h x = (
-  λ y. elim ((h x).0 y) [ inl o ↦ absurd (false≢true (sym (none_in old none x) ∙ o)) | inr n ↦ n ],
-  λ n. (h x).1 (inr n),
-)
 
 -- the set of their texts is what the numbers stand for
 pub set_of_numbers : {E : Type 0} (texts : List (Bor Text)) (numbers : List ℕ) (ks : List (Bor Text)) (r : Result (BTreeSet (Bor Text)) E) →

@@ -8,7 +8,7 @@ use Rattle.cargo_toml_features.specs.InOrder.{names_of}
 use Rattle.cargo_toml_features.specs.Places.{nth_text}
 use Rattle.cargo_toml_features.specs.Views.{action_at, set_has}
 use Rattle.cargo_toml_graph.specs.Reach.{Reaches}
-use Rattle.cargo_toml_walk.specs.Numbers.{IsWanted, Leads}
+use Rattle.cargo_toml_resolve.specs.Numbers.{IsWanted, Leads}
 use Rattle.cargo_toml_resolve.specs.InEachPlace.{DoesTheSame, InEachPlace}
 use Rattle.cargo_toml_resolve.specs.NumberedTables.{HasNumber}
 

@@ -1,7 +1,7 @@
 -- Removed features that hand the sets of their names over.
 use Rattle.std.specs.Prelude.{◌≡◌, ℕ, true, false, List, length, slice_get, Some}
 use Rattle.cargo_toml_features.specs.declared.features.Feature.{Feature}
-use Rattle.cargo_toml_walk.specs.Numbers.{IsWanted, row_items}
+use Rattle.cargo_toml_resolve.specs.Numbers.{IsWanted, row_items}
 use Rattle.cargo_toml_resolve.specs.declared.graph.Walked.{Walked}
 use Rattle.cargo_toml_resolve.specs.Holding.{HasTextsOf}
 use Rattle.cargo_toml_resolve.specs.Texts.{texts_now}

@@ -11,7 +11,7 @@ use Rattle.cargo_toml_features.specs.declared.features.Feature.{Feature}
 use Rattle.cargo_toml_features.specs.Marks.{marks_of}
 use Rattle.cargo_toml_features.specs.Views.{set_has, action_at}
 use Rattle.cargo_toml_features.specs.Places.{nth_text}
-use Rattle.cargo_toml_walk.specs.Numbers.{IsPassed, IsWanted, KeepsLabel, PassesAny}
+use Rattle.cargo_toml_resolve.specs.Numbers.{IsPassed, IsWanted, KeepsLabel, PassesAny}
 use Rattle.cargo_toml_resolve.specs.Enabling.{EnablesThrough, LearnEach, LearnThrough}
 use Rattle.cargo_toml_resolve.specs.NumberedTables.{HasNumber}
 

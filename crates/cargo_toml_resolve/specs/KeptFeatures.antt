@@ -8,7 +8,7 @@ use Rattle.cargo_toml_graph.specs.Graph.{Table, IsEnabledBy, KeepsName, Says}
 use Rattle.cargo_toml_graph.specs.Removal.{pass_all, unremoved}
 use Rattle.cargo_toml_features.specs.Places.{nth_text}
 use Rattle.cargo_toml_resolve.specs.NumberedTables.{IsNumbered}
-use Rattle.cargo_toml_walk.specs.Numbers.{IsWanted}
+use Rattle.cargo_toml_resolve.specs.Numbers.{IsWanted}
 use Rattle.cargo_toml_features.specs.declared.features.Feature.{Feature}
 use Rattle.cargo_toml_features.specs.InOrder.{AreInOrder, AreTable, feature_at, names_of}
 use Rattle.cargo_toml_features.specs.Marks.{marks_of}

@@ -5,7 +5,7 @@ use Rattle.cargo_toml_graph.specs.Action.{Text}
 use Rattle.cargo_toml_graph.specs.Admitted.{is_below}
 use Rattle.cargo_toml_graph.specs.Graph.{Table, Edge}
 use Rattle.cargo_toml_features.specs.Places.{nth_text}
-use Rattle.cargo_toml_walk.specs.Numbers.{Leads, IsWanted}
+use Rattle.cargo_toml_resolve.specs.Numbers.{Leads, IsWanted}
 
 -- x is the text of a number below n of which P holds
 abbrev pub HasNumber : List Text → ℕ → (ℕ → Type 0) → Text → Type 0
@@ -20,8 +20,8 @@ IsNaming edges flags i =
 -- those from there on
 pub record IsNumbered (t : Table) (Removed : Text → Type 0) (texts : List Text)
     (edges names : List (List ℕ)) (flags : List Bool) : Type 0 where
-  -- each text has one number
-  pub one : (i j : ℕ) → i < length texts → j < length texts
+  -- the text of a vertex has one number
+  pub one : (i j : ℕ) → i < length edges → j < length texts
       → nth_text texts i ≡ nth_text texts j → i ≡ j
   -- those of vertices stand first, in byte order
   pub count : length edges ≤ length texts

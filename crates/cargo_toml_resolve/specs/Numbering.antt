@@ -1,17 +1,16 @@
 -- Features as a graph of numbers.
 use Rattle.std.specs.Prelude.{◌≡◌, ◌≢◌, ◌↔◌, ◌⊎◌, ◌<◌, ◌≤◌, ℕ, Bool, true, false}
-use Rattle.std.specs.Prelude.{List, length, take, drop, slice_get, IsTrue}
-use Rattle.std.specs.Borrow.{Bor}
+use Rattle.std.specs.Prelude.{List, length, take, slice_get, IsTrue}
 use Rattle.std.specs.Option.{IsSomeAnd, option_map_or}
 use Rattle.cargo_toml_graph.specs.Action.{Text}
 use Rattle.cargo_toml_graph.specs.Reach.{Among}
-use Rattle.cargo_toml_graph.specs.Ascending.{Ascend}
-use Rattle.cargo_toml_walk.specs.Numbers.{IsWanted}
+use Rattle.cargo_toml_resolve.specs.Numbers.{IsWanted, Leads, row_items}
 use Rattle.cargo_toml_features.specs.Places.{nth_text}
 use Rattle.cargo_toml_features.specs.declared.features.Feature.{Feature}
 use Rattle.cargo_toml_features.specs.InOrder.{names_of}
 use Rattle.cargo_toml_features.specs.Views.{set_has}
 use Rattle.cargo_toml_resolve.specs.Enabling.{LeadsTo}
+use Rattle.cargo_toml_resolve.specs.NumberedTables.{HasNumber, IsNaming}
 
 -- the flag of the feature of this name stands
 abbrev pub IsFlagged : List Feature → List Bool → Text → Type 0
@@ -22,33 +21,44 @@ IsFlagged vs flags f =
 abbrev pub place_names : List Feature → ℕ → Text → Bool
 place_names vs i x = option_map_or (λ v. set_has v.enables_features x) (slice_get vs i) false
 
--- the feature in place i has its flag in `naming`, and names x
-abbrev pub IsPicked : List Bool → List Feature → ℕ → Text → Type 0
-IsPicked naming vs i x = IsWanted naming true i × IsTrue (place_names vs i x)
-
--- so one of the first n does
-abbrev pub IsNamedBy : List Bool → List Feature → ℕ → Text → Type 0
-IsNamedBy naming vs n x = (i : ℕ) × (i < n) × IsPicked naming vs i x
-
 -- the feature in place i leads to another one, in place x
 abbrev pub IsTarget : List Feature → List Text → ℕ → ℕ → Type 0
 IsTarget vs keys i x = (x ≢ i) × IsSomeAnd (slice_get vs i) (λ v. LeadsTo v (nth_text keys x))
 
--- the row gains the places of the keys, other than `own`, of which P holds
-abbrev pub Gains : List (Bor Text) → ℕ → (ℕ → Type 0) → List ℕ → List ℕ → Type 0
-Gains keys own P old new =
-    (x : ℕ) → Among new x ↔ (Among old x ⊎ ((x < length keys) × (x ≢ own) × P x))
+-- the row gains the places below n, other than `own`, of which P holds
+abbrev pub Gains : ℕ → ℕ → (ℕ → Type 0) → List ℕ → List ℕ → Type 0
+Gains n own P old new = (x : ℕ) → Among new x ↔ (Among old x ⊎ ((x < n) × (x ≢ own) × P x))
 
--- the first n texts and those after them stand in byte order, and no text stands twice
-pub record AreParted (n : ℕ) (texts : List Text) : Type 0 where
-  pub fits : n ≤ length texts
-  pub front : Ascend (take n texts)
-  pub rest : Ascend (drop n texts)
-  pub one : (i j : ℕ) → i < length texts → j < length texts
-      → nth_text texts i ≡ nth_text texts j → i ≡ j
+-- texts that aren't among the first n are put at the end
+pub record Extends (n : ℕ) (old new : List Text) : Type 0 where
+  pub front : take (length old) new ≡ old
+  pub apart : (j : ℕ) → length old ≤ j → j < length new → ¬ Among (take n old) (nth_text new j)
 
--- the names of the features stand first, and what those name that have a flag stands there too
-pub record AreTextsOf (naming : List Bool) (vs : List Feature) (texts : List Text) : Type 0 where
-  pub parted : AreParted (length vs) texts
+-- x is a place of this name, and the one among the first n, if it stands there
+pub record IsNodeOf (n : ℕ) (texts : List Text) (name : Text) (x : ℕ) : Type 0 where
+  pub inside : x < length texts
+  pub text : nth_text texts x ≡ name
+  pub key : (i : ℕ) → i < n → nth_text texts i ≡ name → x ≡ i
+
+-- the row has a place of each name of which P holds, and all such among the first n
+pub record HasNames (n : ℕ) (texts : List Text) (P : Text → Type 0) (row : List ℕ) : Type 0 where
+  pub inside : (x : ℕ) → Among row x → x < length texts
+  pub only : (x : ℕ) → Among row x → P (nth_text texts x)
+  pub all : (k : Text) → P k → HasNumber texts (length texts) (Among row) k
+  pub keys : (x : ℕ) → x < n → P (nth_text texts x) → Among row x
+
+-- the names of the features stand first, and no text after them is one
+pub record AreTextsOf (vs : List Feature) (texts : List Text) : Type 0 where
   pub keys : take (length vs) texts ≡ names_of vs
-  pub named : (x : Text) → IsNamedBy naming vs (length vs) x → Among texts x
+  pub apart : (j : ℕ) → length vs ≤ j → j < length texts → ¬ Among (names_of vs) (nth_text texts j)
+
+-- where the features lead, and what each names that is removed or has an edge to a removed one
+pub record AreRead (vs : List Feature) (flags : List Bool) (texts : List Text)
+    (edge_rows name_rows : List (List ℕ)) : Type 0 where
+  pub edges_len : length edge_rows ≡ length vs
+  pub names_len : length name_rows ≡ length vs
+  pub edges : (i x : ℕ) → i < length vs
+      → Leads edge_rows i x ↔ ((x < length vs) × IsTarget vs (names_of vs) i x)
+  pub names : (i : ℕ) → i < length vs → IsNaming edge_rows flags i
+      → HasNames (length vs) texts (λ k. IsTrue (place_names vs i k)) (row_items name_rows i)
+  pub inside : (i x : ℕ) → Leads name_rows i x → x < length texts

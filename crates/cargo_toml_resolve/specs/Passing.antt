@@ -5,7 +5,7 @@ use Rattle.std.specs.List.{list_any, slice_index_or}
 use Rattle.std.specs.Option.{option_map_or}
 use Rattle.cargo_toml_graph.specs.Action.{Text}
 use Rattle.cargo_toml_graph.specs.Removal.{put_each}
-use Rattle.cargo_toml_walk.specs.Numbers.{row_items}
+use Rattle.cargo_toml_resolve.specs.Numbers.{row_items}
 use Rattle.cargo_toml_features.specs.declared.features.Feature.{Feature}
 use Rattle.cargo_toml_resolve.specs.InEachPlace.{DoesTheSame, InEachPlace}
 

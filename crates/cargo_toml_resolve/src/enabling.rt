@@ -8,81 +8,61 @@ ghost use Rattle.cargo_toml_features.specs.InOrder.{AreInOrder, AreTable, HaveNo
 ghost use Rattle.cargo_toml_features.specs.InOrder.{names_of, resolution_among};
 ghost use Rattle.cargo_toml_features.specs.Views.{set_has};
 ghost use Rattle.cargo_toml_features.specs.Places.{nth_text};
-ghost use Rattle.cargo_toml_walk.specs.Numbers.{Leads};
 ghost use Rattle.cargo_toml_resolve.specs.Enabling.{AreSameButEnablers, GainEnabler, LeaderBelow};
 ghost use Rattle.cargo_toml_resolve.specs.Enabling.{LeadsTo, LearnBy};
-ghost use Rattle.cargo_toml_resolve.specs.Numbering.{Gains, IsTarget};
+ghost use Rattle.cargo_toml_resolve.specs.Numbering.{Gains};
 ghost use Rattle.cargo_toml_resolve.specs.Texts.{texts_now};
 
-use crate::dense_enablers::learn_by_table;
-use crate::numbering::{edge_rows, keys_of, push_actions, push_target};
+use crate::numbering::{Cursor, keys_of, leads_nowhere, push_actions, push_target};
 use cargo_toml_features::action::add_text;
 use cargo_toml_features::features::Feature;
-use cargo_toml_walk::bits::words_for;
-use cargo_toml_walk::dense::are_many;
-use cargo_toml_walk::node::Node;
-use cargo_toml_walk::rows::Rows;
-use cargo_toml_walk::tables::table_of;
+use cargo_toml_features::node::Node;
 use std::alloc::{AllocError, Global};
 use std::collections::BTreeSet;
 
-// The features of these names, other than the one in place `own`. The first name is looked for at
-// `near` first; the answer is as of `push_target`.
+// The features of these names, other than the one in place `own`.
 fn push_names(
     row: &mut Vec<Node>,
     named: &BTreeSet<&str>,
     keys: &[&str],
     own: Node,
-    mut near: usize,
-) -> Result<usize, AllocError>
+    cursor: &mut Cursor,
+) -> Result<(), AllocError>
     requires { Ascend (texts_now keys.now) }
-    ensures { OnOk result (Gains keys.now own
+    ensures { OnOk result (Gains (length keys.now) own
         (λ x. IsTrue (set_has named.now (nth_text (texts_now keys.now) x)))
         row.old.items row.new.items) }
 {
     if named.is_empty() {
-        return Ok(near);
+        return Ok(());
     }
     for name in named.iter() {
-        near = push_target(row, *name, keys, own, near)?;
+        push_target(row, *name, keys, own, cursor)?;
     }
-    Ok(near)
+    Ok(())
 }
 
-// Whether the feature names nothing and acts on nothing.
+// The features that the one in place `own` enables: those that it names, and those that it acts on
+// plainly. In long lists most features lead nowhere: for them no function is called.
 #[inline(always)]
-fn leads_nowhere(feature: &Feature<'_>) -> bool
-    ensures { IsTrue result → (x : Text) → ¬ LeadsTo feature.now x }
-{
-    if !feature.enables_features.is_empty() {
-        return false;
-    }
-    feature.enables_deps.is_empty()
-}
-
-/// The features that the one in place `own` enables: those that it names, and those that it acts on
-/// plainly. The first name is looked for at `near` first; the answer is as of `push_target`.
-//
-// In long lists most features lead nowhere: for them no function is called.
-#[inline(always)]
-pub(crate) fn push_targets(
+fn push_targets(
     row: &mut Vec<Node>,
     feature: &Feature<'_>,
     keys: &[&str],
     own: Node,
-    near: usize,
-) -> Result<usize, AllocError>
+    cursor: &mut Cursor,
+) -> Result<(), AllocError>
     requires { Ascend (texts_now keys.now) }
-    ensures { OnOk result (Gains keys.now own
+    ensures { OnOk result (Gains (length keys.now) own
         (λ x. LeadsTo feature.now (nth_text (texts_now keys.now) x))
         row.old.items row.new.items) }
 {
     if leads_nowhere(feature) {
-        return Ok(near);
+        return Ok(());
     }
-    let near = push_names(row, &feature.enables_features, keys, own, near)?;
+    push_names(row, &feature.enables_features, keys, own, cursor)?;
     push_actions(row, &feature.enables_deps, keys, own)?;
-    Ok(near)
+    Ok(())
 }
 
 // The source is put among what enables the feature in this place.
@@ -116,37 +96,7 @@ pub(crate) fn enable_along<'m>(
     Ok(())
 }
 
-// Whether features name many others, as `is_dense` says of rows.
-fn name_many(features: &[Feature<'_>]) -> bool {
-    let mut total: usize = 0;
-    for feature in features {
-        total = total.saturating_add(feature.enables_features.len());
-    }
-    are_many(total, features.len(), features.len())
-}
-
-// Each feature learns which others lead to it, target by target, by the rows of where each leads.
-fn learn_by_rows<'m>(
-    alloc: Global,
-    features: &mut Vec<Feature<'m>>,
-    keys: &[&'m str],
-    edges: &Rows,
-) -> Result<(), AllocError>
-    requires keys { texts_now keys.now ≡ names_of features.old.items }
-    requires len { length edges.now ≡ length features.old.items }
-    requires rows { (i x : ℕ) → i < length features.old.items → Leads edges.now i x
-        ↔ ((x < length keys.now) × IsTarget features.old.items (texts_now keys.now) i x) }
-    ensures { OnOk result (LearnBy (LeaderBelow features.old.items (length features.old.items))
-        features.old.items features.new.items) }
-{
-    let count = keys.len();
-    let table = table_of(alloc, edges, words_for(count))?;
-    let none = Vec::from_elem(alloc, false, count)?;
-    learn_by_table(alloc, features, table.as_slice(), keys, none.as_slice())?;
-    Ok(())
-}
-
-// Each feature learns which others lead to it, in whichever way takes less.
+// Each feature learns which others lead to it.
 fn learn_leaders<'m>(
     alloc: Global,
     features: &mut Vec<Feature<'m>>,
@@ -157,16 +107,11 @@ fn learn_leaders<'m>(
     ensures { OnOk result (LearnBy (LeaderBelow features.old.items (length features.old.items))
         features.old.items features.new.items) }
 {
-    // A set of many texts is made in one go.
-    if name_many(features.as_slice()) {
-        let edges = edge_rows(alloc, features.as_slice(), keys)?;
-        return learn_by_rows(alloc, features, keys, &edges);
-    }
     let mut row = Vec::new(alloc);
-    let mut near = 0;
+    let mut cursor = Cursor::new();
     for own in 0..keys.len() {
         row.clear();
-        near = push_targets(&mut row, &features[own], keys, Node::at(own), near)?;
+        push_targets(&mut row, &features[own], keys, Node::at(own), &mut cursor)?;
         enable_along(features, row.as_slice(), keys[own])?;
     }
     Ok(())

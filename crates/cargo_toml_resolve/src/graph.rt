@@ -2,15 +2,15 @@
 ghost use Rattle.std.specs.Prelude.{◌≡◌, ◌<◌, ◌≤◌, ℕ, IsTrue, length};
 ghost use Rattle.cargo_toml_graph.specs.Admitted.{is_below};
 ghost use Rattle.cargo_toml_features.specs.Places.{nth_text};
-ghost use Rattle.cargo_toml_walk.specs.Numbers.{Leads};
+ghost use Rattle.cargo_toml_resolve.specs.Numbers.{Leads};
 ghost use Rattle.cargo_toml_resolve.specs.Texts.{texts_now};
 
-use cargo_toml_walk::rows::Rows;
+use crate::rows::Rows;
 
 /// Features as a graph of nodes.
 ///
 /// A node is the place of a text. The features come first, in the byte order of their names, and
-/// are the vertices; what they name beside them comes after, and has no edges.
+/// are the vertices; what they name beside them comes after, once for each mention, and has no edges.
 #[derive(Debug, Drop)]
 pub struct Graph<'m> {
     /// The texts of the nodes.
@@ -21,7 +21,7 @@ pub struct Graph<'m> {
     pub names: Rows,
     /// For each node whether it is removed.
     pub flags: Vec<bool>,
-    ghost once: { (i j : ℕ) → i < length texts.items → j < length texts.items
+    ghost once: { (i j : ℕ) → i < length edges → j < length texts.items
         → nth_text (texts_now texts.items) i ≡ nth_text (texts_now texts.items) j → i ≡ j },
     ghost in_order: { (i j : ℕ) → i < j → j < length edges → IsTrue
         (is_below (nth_text (texts_now texts.items) i) (nth_text (texts_now texts.items) j)) },
@@ -43,7 +43,7 @@ pub struct Walked<'m> {
     pub redirects: Rows,
     /// For each node whether that isn't what it names itself.
     pub moved: Vec<bool>,
-    ghost once: { (i j : ℕ) → i < length texts.items → j < length texts.items
+    ghost once: { (i j : ℕ) → i < length redirects → j < length texts.items
         → nth_text (texts_now texts.items) i ≡ nth_text (texts_now texts.items) j → i ≡ j },
     ghost features_count: { length redirects ≤ length texts.items },
     ghost flags_count: { length flags.items ≡ length texts.items },

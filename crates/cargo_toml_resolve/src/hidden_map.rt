@@ -9,13 +9,13 @@ ghost use Rattle.cargo_toml_features.specs.Views.{value_at};
 ghost use Rattle.cargo_toml_resolve.specs.HandingOver.{HandsOver, HaveOwnSets};
 ghost use Rattle.cargo_toml_resolve.specs.Holding.{HasTextsOf};
 ghost use Rattle.cargo_toml_resolve.specs.Texts.{texts_now};
-ghost use Rattle.cargo_toml_walk.specs.Numbers.{IsWanted, row_items};
+ghost use Rattle.cargo_toml_resolve.specs.Numbers.{IsWanted, row_items};
 
 use crate::graph::Walked;
 use crate::hashing::put;
 use crate::node_sets::set_of_nodes;
 use cargo_toml_features::features::Feature;
-use cargo_toml_walk::node::Node;
+use cargo_toml_features::node::Node;
 use std::alloc::{AllocError, Global};
 use std::collections::{BTreeSet, HashMap};
 use std::hash::BuildHasher;

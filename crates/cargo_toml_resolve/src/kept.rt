@@ -3,7 +3,7 @@ ghost use Rattle.std.specs.Prelude.{◌≡◌, ◌↔◌, ◌≤◌, ℕ, Bool, 
 ghost use Rattle.std.specs.Prelude.{IsTrue, Some, [], length, slice_get, true};
 ghost use Rattle.cargo_toml_graph.specs.Action.{Text};
 ghost use Rattle.cargo_toml_graph.specs.Graph.{IsUnremoved, Table};
-ghost use Rattle.cargo_toml_walk.specs.Numbers.{IsWanted};
+ghost use Rattle.cargo_toml_resolve.specs.Numbers.{IsWanted};
 ghost use Rattle.cargo_toml_features.specs.declared.features.Feature.{Feature};
 ghost use Rattle.cargo_toml_features.specs.InOrder.{AreInOrder, AreTable, HaveNoEnablers};
 ghost use Rattle.cargo_toml_features.specs.InOrder.{feature_at, resolution_among};

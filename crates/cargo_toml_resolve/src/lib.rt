@@ -4,10 +4,12 @@
 //! [`resolve`] is the whole of it. Callers use it by `cargo_toml::features::Resolver`.
 #![tactic(auto)]
 
-pub mod dense_enablers;
+pub mod bits;
+pub mod dense;
 pub mod elimination;
 pub mod enabling;
 pub mod filter;
+mod finder;
 pub mod flags;
 pub mod graph;
 pub mod hashing;
@@ -15,10 +17,16 @@ pub mod hidden_map;
 pub mod joining;
 mod keeping;
 pub mod kept;
+pub mod marks;
 pub mod node_sets;
 pub mod numbering;
 pub mod passing;
+pub mod redirects;
 pub mod resolution;
+pub mod rows;
+pub mod span;
+pub mod tables;
 pub mod taking_over;
+pub mod walk;
 
 pub use resolution::{Lists, resolve};

@@ -1,27 +1,27 @@
-//! Features become a graph of nodes.
-ghost use Rattle.std.specs.Prelude.{◌≡◌, ◌↔◌, ◌⊎◌, ◌<◌, ◌≤◌, ℕ, IfOk, IfSome};
-ghost use Rattle.std.specs.Prelude.{IsTrue, None, OnOk, Some, false, length, map, true};
+//! Features become a graph of nodes, by one look at each name.
+ghost use Rattle.std.specs.Prelude.{◌≡◌, ◌↔◌, ◌⊎◌, ◌≢◌, ◌<◌, ◌≤◌, ◌++◌, ◌∷◌, [], ℕ, IfOk, IfSome};
+ghost use Rattle.std.specs.Prelude.{if◌then◌else◌};
+ghost use Rattle.std.specs.Prelude.{IsTrue, None, OnOk, Some, false, length, take, true};
 ghost use Rattle.cargo_toml_graph.specs.Action.{Text};
 ghost use Rattle.cargo_toml_graph.specs.Graph.{IsPlain};
 ghost use Rattle.cargo_toml_graph.specs.Reach.{Among};
 ghost use Rattle.cargo_toml_graph.specs.Ascending.{Ascend};
 ghost use Rattle.cargo_toml_features.specs.InOrder.{AreInOrder, names_of, table_among};
 ghost use Rattle.cargo_toml_features.specs.Views.{action_at, action_of, set_has};
-ghost use Rattle.cargo_toml_walk.specs.Numbers.{IsWanted, Leads};
 ghost use Rattle.cargo_toml_features.specs.Places.{nth_text};
-ghost use Rattle.cargo_toml_resolve.specs.NumberedTables.{IsNaming, IsNumbered};
-ghost use Rattle.cargo_toml_resolve.specs.Numbering.{AreParted, AreTextsOf, Gains, IsFlagged};
-ghost use Rattle.cargo_toml_resolve.specs.Numbering.{IsNamedBy, IsPicked, IsTarget};
+ghost use Rattle.cargo_toml_resolve.specs.Enabling.{LeadsTo};
+ghost use Rattle.cargo_toml_resolve.specs.NumberedTables.{IsNumbered};
+ghost use Rattle.cargo_toml_resolve.specs.Numbering.{AreRead, AreTextsOf, Extends, Gains};
+ghost use Rattle.cargo_toml_resolve.specs.Numbering.{HasNames, IsFlagged, IsNodeOf};
+ghost use Rattle.cargo_toml_resolve.specs.Numbers.{IsWanted};
 ghost use Rattle.cargo_toml_resolve.specs.Texts.{texts_now};
 
-use crate::enabling::push_targets;
 use crate::graph::Graph;
+use crate::rows::Rows;
+use crate::walk::has_flagged;
 use cargo_toml_features::features::{DepAction, Feature};
-use cargo_toml_features::texts::in_order;
+use cargo_toml_features::node::Node;
 use cargo_toml_full::places::place_near;
-use cargo_toml_walk::node::Node;
-use cargo_toml_walk::rows::Rows;
-use cargo_toml_walk::walk::has_flagged;
 use std::alloc::{AllocError, Global};
 use std::collections::{BTreeMap, BTreeSet};
 
@@ -39,168 +39,117 @@ pub(crate) fn keys_of<'m>(
     Ok(keys)
 }
 
-// The named texts that are no keys are put at the end. The first name is looked for at `near`
-// first; the answer is where to look for one that follows.
-fn push_others<'m>(
-    others: &mut Vec<&'m str>,
-    named: &BTreeSet<&'m str>,
-    keys: &[&'m str],
-    mut near: usize,
-) -> Result<usize, AllocError>
-    requires { Ascend (texts_now keys.now) }
-    ensures { OnOk result ((x : Text) → Among (texts_now others.new.items) x
-        ↔ (Among (texts_now others.old.items) x
-        ⊎ (IsTrue (set_has named.now x) × (¬ Among (texts_now keys.now) x)))) }
-{
-    for name in named.iter() {
-        if let Some(place) = place_near(keys, *name, near) {
-            near = place.saturating_add(1);
-        } else {
-            others.push(*name)?;
-        }
+/// Where the next key is looked for first: behind the last one that was found, since names come in
+/// the order of keys.
+#[derive(Drop)]
+pub(crate) struct Cursor {
+    near: usize,
+}
+
+impl Cursor {
+    /// Before the first key.
+    pub(crate) fn new() -> Cursor {
+        Cursor { near: 0 }
     }
-    Ok(near)
-}
 
-// What is named that is no key, in byte order: of the features whose flag in `naming` stands.
-fn others_of<'m>(
-    alloc: Global,
-    features: &[Feature<'m>],
-    naming: &[bool],
-    keys: &[&'m str],
-) -> Result<Vec<&'m str>, AllocError>
-    requires naming { length naming.now ≡ length features.now }
-    requires keys { Ascend (texts_now keys.now) }
-    ensures all { IfOk result (λ v. (x : Text) → Among (texts_now v.items) x
-        ↔ (IsNamedBy naming.now features.now (length features.now) x
-        × (¬ Among (texts_now keys.now) x))) }
-    ensures ascending { IfOk result
-        (λ v. Ascend (texts_now v.items)) }
-{
-    let mut others = Vec::new(alloc);
-    let mut near = 0;
-    for i in 0..features.len() {
-        if naming[i] {
-            near = push_others(&mut others, &features[i].enables_features, keys, near)?;
-        }
+    // The key of this name, if there is one.
+    fn seek(&mut self, keys: &[&str], name: &str) -> Option<Node>
+        requires { Ascend (texts_now keys.now) }
+        ensures found { IfSome result (λ i. (i < length keys.now)
+            × (nth_text (texts_now keys.now) i ≡ name.now)) }
+        ensures missing { result ≡ None → ¬ Among (texts_now keys.now) name.now }
+    {
+        let place = place_near(keys, name, self.near)?;
+        self.near = place.saturating_add(1);
+        Some(Node::at(place))
     }
-    Ok(in_order(others))
 }
 
-// The texts of the nodes: the keys, and what else is named.
-fn all_texts<'m>(
-    alloc: Global,
-    features: &[Feature<'m>],
-    naming: &[bool],
-    mut keys: Vec<&'m str>,
-) -> Result<Vec<&'m str>, AllocError>
-    requires in_order { AreInOrder features.now }
-    requires naming { length naming.now ≡ length features.now }
-    requires keys { texts_now keys.items ≡ names_of features.now }
-    ensures { IfOk result (λ v. AreTextsOf naming.now features.now (texts_now v.items)) }
-{
-    let others = others_of(alloc, features, naming, keys.as_slice())?;
-    keys.extend_from_slice(others.as_slice())?;
-    Ok(keys)
-}
-
-// The node of a text: its place among the first `count` texts, or else among those after them. It
-// is looked for at `near` first.
-fn node_of(texts: &[&str], count: usize, text: &str, near: usize) -> Option<Node>
-    requires { AreParted count (texts_now texts.now) }
-    ensures found { IfSome result
-        (λ i. (i < length texts.now) × (nth_text (texts_now texts.now) i ≡ text.now)) }
-    ensures missing { result ≡ None → ¬ Among (texts_now texts.now) text.now }
-{
-    if let Some(place) = place_near(&texts[..count], text, near) {
-        return Some(Node::at(place));
-    }
-    let place = place_near(&texts[count..], text, near.saturating_sub(count))?;
-    Some(Node::at(count + place))
-}
-
-// The row becomes the nodes of what a feature names. The first name is looked for at `near` first.
-fn name_row(
-    row: &mut Vec<Node>,
-    named: &BTreeSet<&str>,
-    texts: &[&str],
+// The node of a name. A name that is no key is a new text at the end.
+fn node_of<'m>(
+    texts: &mut Vec<&'m str>,
     count: usize,
-    mut near: usize,
-) -> Result<(), AllocError>
-    requires { AreParted count (texts_now texts.now) }
-    ensures { OnOk result ((x : ℕ) → Among row.new.items x
-        ↔ ((x < length texts.now)
-        × IsTrue (set_has named.now (nth_text (texts_now texts.now) x)))) }
+    name: &'m str,
+    cursor: &mut Cursor,
+) -> Result<Node, AllocError>
+    requires fits { count ≤ length texts.old.items }
+    requires keys { Ascend (take count (texts_now texts.old.items)) }
+    ensures extends { OnOk result
+        (Extends count (texts_now texts.old.items) (texts_now texts.new.items)) }
+    ensures node { IfOk result (IsNodeOf count (texts_now texts.new.items) name.now) }
 {
-    row.clear();
+    if let Some(node) = cursor.seek(&texts[..count], name) {
+        return Ok(node);
+    }
+    let node = Node::at(texts.len());
+    texts.push(name)?;
+    Ok(node)
+}
+
+// The row becomes the nodes of what a feature names.
+fn name_row<'m>(
+    row: &mut Vec<Node>,
+    named: &BTreeSet<&'m str>,
+    texts: &mut Vec<&'m str>,
+    count: usize,
+    cursor: &mut Cursor,
+) -> Result<(), AllocError>
+    requires fits { count ≤ length texts.old.items }
+    requires keys { Ascend (take count (texts_now texts.old.items)) }
+    requires empty { row.old.items ≡ [] }
+    ensures extends { OnOk result
+        (Extends count (texts_now texts.old.items) (texts_now texts.new.items)) }
+    ensures names { OnOk result (HasNames count (texts_now texts.new.items)
+        (λ k. IsTrue (set_has named.now k)) row.new.items) }
+{
+    // To begin a walk over an empty set costs more than this.
+    if named.is_empty() {
+        return Ok(());
+    }
     for name in named.iter() {
-        if let Some(node) = node_of(texts, count, *name, near) {
-            row.push(node)?;
-            near = node.place().saturating_add(1);
+        let node = node_of(texts, count, *name, cursor)?;
+        row.push(node)?;
+    }
+    Ok(())
+}
+
+// Whether the node is a key other than the one in place `own`.
+fn is_other_key(node: Node, count: usize, own: Node) -> bool
+    ensures { IsTrue result ↔ ((node < count) × (node ≢ own)) }
+{
+    node.place() < count && node != own
+}
+
+// The row gains those of the nodes that are keys, other than the one in place `own`.
+fn push_keys(row: &mut Vec<Node>, nodes: &[Node], count: usize, own: Node) -> Result<(), AllocError>
+    ensures { OnOk result (Gains count own (Among nodes.now) row.old.items row.new.items) }
+{
+    for node in nodes {
+        if is_other_key(*node, count, own) {
+            row.push(*node)?;
         }
     }
     Ok(())
 }
 
-// Where a name is looked for after those of a row.
-fn after(row: &[Node], near: usize) -> usize {
-    match row.last() {
-        Some(last) => last.place().saturating_add(1),
-        None => near,
-    }
-}
-
-// What each feature names whose flag in `naming` stands; nothing for the others.
-fn name_rows(
-    alloc: Global,
-    features: &[Feature<'_>],
-    naming: &[bool],
-    texts: &[&str],
-) -> Result<Rows, AllocError>
-    requires naming { length naming.now ≡ length features.now }
-    requires texts { AreParted (length features.now) (texts_now texts.now) }
-    ensures len { IfOk result (λ rows. length rows ≡ length features.now) }
-    ensures rows { IfOk result (λ rows. (i x : ℕ) → i < length features.now
-        → Leads rows i x ↔ ((x < length texts.now)
-        × IsPicked naming.now features.now i (nth_text (texts_now texts.now) x))) }
-{
-    let mut rows = Rows::with_capacity(alloc, features.len())?;
-    let mut row = Vec::new(alloc);
-    let mut near = 0;
-    for i in 0..features.len() {
-        if naming[i] {
-            let named = &features[i].enables_features;
-            name_row(&mut row, named, texts, features.len(), near)?;
-            near = after(row.as_slice(), near);
-            rows.push(row.as_slice())?;
-        } else {
-            rows.push(&[])?;
-        }
-    }
-    Ok(rows)
-}
-
-/// The feature of this name, if there is one other than the one in place `own`, is put at the end.
-/// It is looked for at `near` first; the answer is where to look for one that follows.
+/// The key of this name, if there is one other than the one in place `own`, is put at the end.
 pub(crate) fn push_target(
     row: &mut Vec<Node>,
-    key: &str,
+    name: &str,
     keys: &[&str],
     own: Node,
-    near: usize,
-) -> Result<usize, AllocError>
+    cursor: &mut Cursor,
+) -> Result<(), AllocError>
     requires { Ascend (texts_now keys.now) }
-    ensures { OnOk result (Gains keys.now own (λ x. nth_text (texts_now keys.now) x ≡ key.now)
-        row.old.items row.new.items) }
+    ensures { OnOk result (Gains (length keys.now) own
+        (λ x. nth_text (texts_now keys.now) x ≡ name.now) row.old.items row.new.items) }
 {
-    let Some(place) = place_near(keys, key, near) else {
-        return Ok(near);
-    };
-    let target = Node::at(place);
-    if target != own {
-        row.push(target)?;
+    if let Some(target) = cursor.seek(keys, name) {
+        if target != own {
+            row.push(target)?;
+        }
     }
-    Ok(place.saturating_add(1))
+    Ok(())
 }
 
 // Whether an action enables the feature of its key's name.
@@ -219,58 +168,79 @@ pub(crate) fn push_actions(
     own: Node,
 ) -> Result<(), AllocError>
     requires { Ascend (texts_now keys.now) }
-    ensures { OnOk result (Gains keys.now own
+    ensures { OnOk result (Gains (length keys.now) own
         (λ x. IsPlain (action_at actions.now (nth_text (texts_now keys.now) x)))
         row.old.items row.new.items) }
 {
-    // Most features act on nothing, and to begin a walk over an empty map costs more than this.
+    // Most features act on nothing.
     if actions.is_empty() {
         return Ok(());
     }
-    let mut near = own.place();
+    let mut cursor = Cursor { near: own.place() };
     for (key, action) in actions.iter() {
         if is_plain(action) {
-            near = push_target(row, *key, keys, own, near)?;
+            push_target(row, *key, keys, own, &mut cursor)?;
         }
     }
     Ok(())
 }
 
-/// The features that each feature enables.
-pub(crate) fn edge_rows(
-    alloc: Global,
-    features: &[Feature<'_>],
-    keys: &[&str],
-) -> Result<Rows, AllocError>
-    requires { Ascend (texts_now keys.now) }
-    ensures len { IfOk result (λ rows. length rows ≡ length features.now) }
-    ensures rows { IfOk result (λ rows. (i x : ℕ) → i < length features.now → Leads rows i x
-        ↔ ((x < length keys.now) × IsTarget features.now (texts_now keys.now) i x)) }
+/// Whether the feature names nothing and acts on nothing.
+#[inline(always)]
+pub(crate) fn leads_nowhere(feature: &Feature<'_>) -> bool
+    ensures { IsTrue result → (x : Text) → ¬ LeadsTo feature.now x }
 {
-    let mut rows = Rows::with_capacity(alloc, features.len())?;
-    let mut row = Vec::new(alloc);
-    let mut near = 0;
-    for own in 0..features.len() {
-        row.clear();
-        near = push_targets(&mut row, &features[own], keys, Node::at(own), near)?;
-        rows.push(row.as_slice())?;
+    if !feature.enables_features.is_empty() {
+        return false;
     }
-    Ok(rows)
+    feature.enables_deps.is_empty()
 }
 
-// For each feature whether its names are asked for: it is removed, or has an edge to a removed one.
-fn naming_flags(alloc: Global, edges: &Rows, flags: &[bool]) -> Result<Vec<bool>, AllocError>
-    requires len { length edges.now ≡ length flags.now }
-    requires inside { (a b : ℕ) → Leads edges.now a b → b < length flags.now }
-    ensures len { IfOk result (λ v. length v.items ≡ length edges.now) }
-    ensures naming { IfOk result (λ v. (i : ℕ) → i < length edges.now
-        → IsNaming edges.now flags.now i → IsWanted v.items true i) }
-{
-    let mut naming = Vec::with_capacity(alloc, edges.len())?;
-    for i in 0..edges.len() {
-        naming.push(flags[i] || has_flagged(edges.row(Node::at(i)), flags))?;
+/// What is used again for each feature.
+#[derive(Drop)]
+struct Look {
+    edges: Vec<Node>,
+    names: Vec<Node>,
+    cursor: Cursor,
+}
+
+impl Look {
+    // Reads the feature in place `own`: each of its names is looked for once.
+    fn read<'m>(
+        &mut self,
+        feature: &Feature<'m>,
+        own: Node,
+        texts: &mut Vec<&'m str>,
+        count: usize,
+    ) -> Result<(), AllocError>
+        requires fits { count ≤ length texts.old.items }
+        requires keys { Ascend (take count (texts_now texts.old.items)) }
+        ensures extends { OnOk result
+            (Extends count (texts_now texts.old.items) (texts_now texts.new.items)) }
+        ensures edges { OnOk result (Gains count own
+            (λ x. LeadsTo feature.now (nth_text (texts_now texts.old.items) x))
+            [] self.new.edges.items) }
+        ensures names { OnOk result (HasNames count (texts_now texts.new.items)
+            (λ k. IsTrue (set_has feature.now.enables_features k)) self.new.names.items) }
+    {
+        self.edges.clear();
+        self.names.clear();
+        let named = &feature.enables_features;
+        name_row(&mut self.names, named, texts, count, &mut self.cursor)?;
+        push_keys(&mut self.edges, self.names.as_slice(), count, own)?;
+        push_actions(&mut self.edges, &feature.enables_deps, &texts[..count], own)?;
+        Ok(())
     }
-    Ok(naming)
+
+    // Whether the names of what was read are asked for: it is removed, or has an edge to a removed
+    // one. Any other names what it named.
+    fn is_asked(&self, is_removed: bool, flags: &[bool]) -> bool
+        requires { (x : ℕ) → Among self.now.edges.items x → x < length flags.now }
+        ensures { IsTrue result ↔ (IsTrue is_removed
+            ⊎ ((x : ℕ) × Among self.now.edges.items x × IsWanted flags.now true x)) }
+    {
+        is_removed || has_flagged(self.edges.as_slice(), flags)
+    }
 }
 
 // The flags of features, and those of other texts, which aren't removed.
@@ -284,6 +254,78 @@ fn all_flags(alloc: Global, flags: &[bool], size: usize) -> Result<Vec<bool>, Al
     all.extend_from_slice(flags)?;
     all.resize(size, false)?;
     Ok(all)
+}
+
+/// Where each feature leads, and what it names where that is asked for.
+#[derive(Drop)]
+struct FeatureRows {
+    edges: Rows,
+    names: Rows,
+}
+
+impl FeatureRows {
+    // A feature that leads nowhere.
+    fn push_none(&mut self) -> Result<(), AllocError>
+        ensures edges { OnOk result (self.new.edges ≡ self.old.edges ++ [] ∷ []) }
+        ensures names { OnOk result (self.new.names ≡ self.old.names ++ [] ∷ []) }
+    {
+        self.edges.push_none()?;
+        self.names.push_none()?;
+        Ok(())
+    }
+
+    // The feature that was read, with its names if they are asked for.
+    fn push(&mut self, look: &Look, is_asked: bool) -> Result<(), AllocError>
+        ensures edges { OnOk result
+            (self.new.edges ≡ self.old.edges ++ look.now.edges.items ∷ []) }
+        ensures names { OnOk result (self.new.names ≡ self.old.names
+            ++ (if is_asked then look.now.names.items else []) ∷ []) }
+    {
+        self.edges.push(look.edges.as_slice())?;
+        if is_asked {
+            self.names.push(look.names.as_slice())?;
+        } else {
+            self.names.push_none()?;
+        }
+        Ok(())
+    }
+}
+
+// Reads all features. What they name that is no key is put at the end of the texts.
+fn read_all<'m>(
+    alloc: Global,
+    features: &[Feature<'m>],
+    flags: &[bool],
+    texts: &mut Vec<&'m str>,
+) -> Result<FeatureRows, AllocError>
+    requires in_order { AreInOrder features.now }
+    requires flags { length flags.now ≡ length features.now }
+    requires keys { texts_now texts.old.items ≡ names_of features.now }
+    ensures texts { OnOk result (AreTextsOf features.now (texts_now texts.new.items)) }
+    ensures rows { IfOk result
+        (λ l. AreRead features.now flags.now (texts_now texts.new.items) l.edges l.names) }
+{
+    let count = features.len();
+    let edges = Rows::with_capacity(alloc, count)?;
+    let names = Rows::with_capacity(alloc, count)?;
+    let mut rows = FeatureRows { edges, names };
+    let mut look = Look {
+        edges: Vec::new(alloc),
+        names: Vec::new(alloc),
+        cursor: Cursor::new(),
+    };
+    for own in 0..count {
+        let feature = &features[own];
+        // In long lists most features lead nowhere: for them no function is called.
+        if leads_nowhere(feature) {
+            rows.push_none()?;
+        } else {
+            look.read(feature, Node::at(own), texts, count)?;
+            let is_asked = look.is_asked(flags[own], flags);
+            rows.push(&look, is_asked)?;
+        }
+    }
+    Ok(rows)
 }
 
 /// The features as a graph of nodes, with a flag for each node. An edge leads from a feature to
@@ -302,12 +344,8 @@ pub fn number<'m>(
     ensures vertices { IfOk result (λ g. (i : ℕ) → i < length features.now →
         nth_text (texts_now g.texts.items) i ≡ nth_text (names_of features.now) i) }
 {
-    let keys = keys_of(alloc, features)?;
-    let edges = edge_rows(alloc, features, keys.as_slice())?;
-    // A kept feature that has no edge to a removed one names what it named: no row is made for it.
-    let naming = naming_flags(alloc, &edges, flags)?;
-    let texts = all_texts(alloc, features, naming.as_slice(), keys)?;
-    let names = name_rows(alloc, features, naming.as_slice(), texts.as_slice())?;
+    let mut texts = keys_of(alloc, features)?;
+    let FeatureRows { edges, names } = read_all(alloc, features, flags, &mut texts)?;
     let flags = all_flags(alloc, flags, texts.len())?;
     Ok(Graph {
         texts,

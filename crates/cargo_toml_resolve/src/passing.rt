@@ -6,16 +6,16 @@ ghost use Rattle.cargo_toml_graph.specs.Action.{Text};
 ghost use Rattle.cargo_toml_graph.specs.Reach.{Among};
 ghost use Rattle.cargo_toml_graph.specs.Removal.{put_each};
 ghost use Rattle.cargo_toml_features.specs.Views.{set_has};
-ghost use Rattle.cargo_toml_walk.specs.Numbers.{IsWanted};
+ghost use Rattle.cargo_toml_resolve.specs.Numbers.{IsWanted};
 ghost use Rattle.cargo_toml_resolve.specs.KnownBins.{AreKnown, Knows, MayKnow};
 ghost use Rattle.cargo_toml_resolve.specs.Passing.{bins_of, passed_below, AreSameButBins};
 ghost use Rattle.cargo_toml_resolve.specs.Puts.{Puts};
 ghost use Rattle.cargo_toml_resolve.specs.Texts.{texts_now};
 
+use crate::rows::Rows;
 use cargo_toml_features::features::Feature;
+use cargo_toml_features::node::Node;
 use cargo_toml_full::sets::set_of;
-use cargo_toml_walk::node::Node;
-use cargo_toml_walk::rows::Rows;
 use std::alloc::{AllocError, Global};
 use std::collections::BTreeSet;
 

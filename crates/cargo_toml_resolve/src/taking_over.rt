@@ -8,7 +8,7 @@ ghost use Rattle.cargo_toml_resolve.specs.TakingOver.{ChangesIn, ComesToHold, Ta
 
 use crate::joining::add_actions;
 use cargo_toml_features::features::{DepAction, Feature};
-use cargo_toml_walk::node::Node;
+use cargo_toml_features::node::Node;
 use std::alloc::{AllocError, Global};
 use std::collections::{BTreeMap, BTreeSet};
 use std::mem;

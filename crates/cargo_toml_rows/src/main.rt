@@ -30,6 +30,8 @@ use std::rt::Files;
 enum Kind {
     /// How the manifest is written again.
     Read,
+    /// Whether what is written of the manifest is read as the same.
+    Again,
     /// What the fields of the manifest hold.
     Fields,
     /// Why the manifest is refused.
@@ -78,6 +80,7 @@ enum Kind {
 fn kind_of(word: &str) -> Option<Kind> {
     match word {
         "read" => Some(Kind::Read),
+        "again" => Some(Kind::Again),
         "fields" => Some(Kind::Fields),
         "refuse" => Some(Kind::Refuse),
         "beginnings" => Some(Kind::Beginnings),
@@ -117,7 +120,7 @@ fn expected_file(kind: Kind) -> &'static str {
         Kind::Report => "/reported",
         Kind::Documented => "/documented",
         Kind::Recursion => "/enabled",
-        Kind::Values | Kind::Bodies | Kind::Words | Kind::Calls => "",
+        Kind::Again | Kind::Values | Kind::Bodies | Kind::Words | Kind::Calls => "",
         Kind::Complete => "/completed",
         Kind::Failing => "/failing",
         Kind::Parsed => "/parsed",
@@ -134,6 +137,7 @@ fn answer<R: Files + AllocGlobal>(
 ) -> Result<String, Error> {
     let alloc = rt.alloc();
     match kind {
+        Kind::Again => return manifests::again(alloc, expected),
         Kind::Values => return values::lines(alloc, folder, expected),
         Kind::Bodies => return bodies::lines(rt, expected),
         Kind::Files => return files::answers(rt, folder),

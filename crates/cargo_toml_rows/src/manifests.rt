@@ -54,6 +54,18 @@ pub fn written(alloc: Global, bytes: &[u8]) -> Result<String, Error> {
     Ok(format!(in alloc; "{text}, and read again {again}")?)
 }
 
+/// The manifest's text where the fields of what is written of it, read again, are shown alike, and
+/// those that are shown otherwise.
+pub fn again(alloc: Global, text: &str) -> Result<String, Error> {
+    let held = HeldManifest::from_str(alloc, text)?;
+    let written = print(alloc, &*held.manifest)?;
+    let again = HeldManifest::from_str(alloc, written.as_str())?;
+    if are_alike(alloc, &held, &again)? {
+        return Ok(String::from_str(alloc, text)?);
+    }
+    shown(alloc, &again)
+}
+
 /// The text of a manifest's fields.
 pub fn shown(alloc: Global, held: &HeldManifest) -> Result<String, Error> {
     Ok(format!(in alloc; "{:?}", held.manifest)?)

@@ -8,7 +8,7 @@ use Rattle.cargo_toml.specs.Disk.{IsInput}
 use Rattle.cargo_toml.specs.Error.{Error, Memory}
 use Rattle.cargo_toml.specs.Manifest.{Manifest}
 use Rattle.cargo_toml.specs.Manifests.{ManifestRefuses, manifest_meaning, manifest_reads}
-use Rattle.cargo_toml.specs.RealFiles.{IsPathFault, ReadsAs, RootFoundAround}
+use Rattle.cargo_toml.specs.RealFiles.{IsPathFault, ReadsAs, any_root}
 use Rattle.cargo_toml.specs.RealFiles.{real_folders, real_roots}
 use Rattle.cargo_toml.specs.Texts.{AnyRefuses, IsFromText, any_tree}
 
@@ -22,7 +22,7 @@ pub record IsManifestIn (text : Text) (m : Manifest Value) : Type 0 where
 pub record IsCompletedIn (path text : Text) (new : Manifest Value) : Type 0 where
   pub read : Manifest Value
   pub written : IsManifestIn text read
-  pub completed : IsCompleted read None real_roots (RootFoundAround path) real_folders new
+  pub completed : IsCompleted read None real_roots any_root real_folders new
 
 -- reading the text may be refused with this fault
 abbrev pub RefusesText : Text → Error → Type 0

@@ -1,5 +1,6 @@
 -- Pairs that are gathered of a map entry by entry.
 use Rattle.std.proofs.Common.{◌≡◌, ◌⊎◌, inl, inr, refl, ap, ◌∙◌, ℕ, IsTrue, List, [], ◌∷◌, ◌++◌, Option, Some, None, Err, String, Global, string_bytes}
+use Rattle.std.specs.Map.{keys_of}
 use Rattle.toml.specs.Data.{Data, Members, no_members}
 use Rattle.toml.specs.View.{view}
 use Rattle.toml.specs.declared.value.Value.{Value}
@@ -7,10 +8,10 @@ use Rattle.toml.proofs.Views.{Entry}
 use Rattle.cargo_toml_parts.specs.declared.error.Error.{Error, Memory}
 use Rattle.cargo_toml_parts.specs.Floats.{has_no_float}
 use Rattle.cargo_toml_write.specs.Pairs.{put_all, AreGathered}
-use Rattle.cargo_toml_write.specs.Ways.{entry_rows, map_way}
-use Rattle.cargo_toml_write.specs.Writes.{Way, IsHeld, IsWriting, AreRefused, AreWritten, required_row, put_member, WritesFrom}
+use Rattle.cargo_toml_write.specs.Ways.{Ascend, entry_rows, map_way}
+use Rattle.cargo_toml_write.specs.Writes.{Way, IsHeld, IsWriting, AreRefused, AreWritten, required_row, put_member, table_way, WritesFrom}
 use Rattle.cargo_toml_write.proofs.Entries.{RestWrites, meant}
-use Rattle.cargo_toml_write.proofs.Rows.{Steps, both, is_put, ends}
+use Rattle.cargo_toml_write.proofs.Rows.{Steps, both, is_put, ends, refused_too}
 
 put_last : (ps : List Entry) (p : Entry) (ms : Members) → put_all (ps ++ p ∷ []) ms ≡ put_member (string_bytes p.0) (view p.1) (put_all ps ms)
 put_last [] p ms = refl
@@ -57,6 +58,6 @@ module _ {X M : Type 0} (way : Way M) (meaning : X → M) where
 pub map_err : {M : Type 0} (way : Way M) (es : List (List ℕ × M)) (fault : Error)
     → AreGathered (entry_rows way es) (Err fault) → IsWriting (map_way way) es (Err fault)
 unfolding WritesFrom
-map_err way es fault refused =
+map_err {M = M} way es fault refused =
     let steps : Steps (entry_rows way es) None no_members (Some fault) no_members = record { goes = refused } in
-    ends (entry_rows way) es (Err fault) refl refl steps refl
+    refused_too (λ (xs : List (List ℕ × M)). Ascend (keys_of xs)) (table_way (entry_rows way)) es fault (ends (entry_rows way) es (Err fault) refl refl steps refl)

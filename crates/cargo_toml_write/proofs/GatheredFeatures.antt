@@ -1,5 +1,5 @@
 -- Features that are gathered one by one, each with what is said of it.
-use Rattle.std.proofs.Common.{◌≡◌, ap, refl, ℕ, Bool, true, false, cond, List, [], ◌∷◌, map, Option, Some, None, option_map, Result, Ok, Err, String, Vec, Global, string_bytes, nat_cmp}
+use Rattle.std.proofs.Common.{◌≡◌, inl, inr, ap, refl, ℕ, Bool, true, false, cond, List, [], ◌∷◌, map, Option, Some, None, option_map, Result, Ok, Err, String, Vec, Global, string_bytes, nat_cmp}
 use Rattle.std.specs.BTreeMap.{BTreeMap, get_by, is_at}
 use Rattle.std.specs.Cmp.Lexicographic.{slice_cmp}
 use Rattle.std.specs.Map.{lookup}
@@ -8,10 +8,11 @@ use Rattle.std.proofs.lemmas.Map.Text.{is_eq-slice_cmp}
 use Rattle.toml.specs.declared.value.Value.{Value}
 use Rattle.cargo_toml_dependencies.specs.declared.target.FeatureDetail.{FeatureDetail}
 use Rattle.cargo_toml_dependencies.specs.Details.{Detail, detail_of}
+use Rattle.cargo_toml_dependencies.specs.Features.{FeaturesMeaning}
 use Rattle.cargo_toml_parts.specs.declared.error.Error.{Error}
 use Rattle.cargo_toml_parts.specs.Reads.{map_meaning, pairs_meaning}
-use Rattle.cargo_toml_write.specs.Ways.{texts_way}
-use Rattle.cargo_toml_write.specs.WrittenFeatures.{detail_under, feature_way, told_features}
+use Rattle.cargo_toml_write.specs.Ways.{map_way, texts_way}
+use Rattle.cargo_toml_write.specs.WrittenFeatures.{detail_under, feature_way, features_way, told_features}
 use Rattle.cargo_toml_write.specs.Writes.{IsWriting}
 use Rattle.cargo_toml_write.proofs.Entries.{meant}
 
@@ -19,6 +20,10 @@ use Rattle.cargo_toml_write.proofs.Entries.{meant}
 pub as_list : (enables : List (List ℕ)) (r : Result Value Error) → IsWriting texts_way enables r → IsWriting feature_way (enables, None) r
 as_list enables (Ok v) written = written
 as_list enables (Err e) fault = fault
+
+pub features_err : (fs : FeaturesMeaning) (e : Error) → IsWriting (map_way feature_way) (told_features fs) (Err e) → IsWriting features_way fs (Err e)
+features_err fs e (inl memory) = inl memory
+features_err fs e (inr (none, fault)) = inr (λ d (details, tree). none d tree, fault)
 
 -- what is said of a name, looked up in the map
 choose : (b : Bool) (x : FeatureDetail) (r : Option FeatureDetail) (s : Option Detail) → s ≡ option_map detail_of r → cond b (Some (detail_of x)) s ≡ option_map detail_of (cond b (Some x) r)

@@ -11,7 +11,7 @@ use Rattle.cargo_toml_parts.specs.declared.inheritable.Inheritable.TheVariants.{
 use Rattle.cargo_toml_parts.specs.Floats.{has_no_float, members_have_no_float}
 use Rattle.cargo_toml_parts.specs.Inherits.{by_flag, set_or, inheritable_of, workspace_flag}
 use Rattle.cargo_toml_parts.specs.Reads.{optional_of, optional_at, given_of, given_at, is_among, others_read, map_of, map_at}
-use Rattle.cargo_toml_write.specs.NoFloats.{EachValue, IfSet}
+use Rattle.cargo_toml_write.specs.Asked.{EachValue, IfSet}
 
 -- what is given, if anything, is such
 pub record Gives {A : Type 0} (P : A → Type 0) (o : Option A) : Type 0 where

@@ -1,34 +1,34 @@
 -- Written features, with what is said of them, read as themselves.
-use Rattle.std.proofs.Common.{◌≡◌, ◌∙◌, ap, refl, sym, subst, ℕ, Bool, true, false, cond, not, List, [], ◌∷◌, ◌++◌, map, append-nil, append_assoc, codes, Option, Some, None, is_eq, option_map, option_and_then, IsTrue, Ordering, Less, Greater, nat_cmp}
+use Rattle.std.proofs.Common.{◌≡◌, ◌∙◌, ap, refl, sym, subst, ℕ, Bool, true, false, cond, not, List, [], ◌∷◌, map, codes, Option, Some, None, is_eq, option_map, IsTrue, Less, nat_cmp}
 use Rattle.std.specs.Cmp.Lexicographic.{slice_cmp}
 use Rattle.std.specs.List.{AllByRecursion}
 use Rattle.std.specs.List.Sorted.{IsStrictlySortedBy}
 use Rattle.std.specs.Map.{keys_of}
-use Rattle.std.specs.Ordering.{match_ordering, ordering_reverse}
+use Rattle.std.specs.Ordering.{ordering_reverse}
 use Rattle.std.specs.Str.{bytes_eq}
 use Rattle.std.proofs.lemmas.Bool.{false≢true}
 use Rattle.std.proofs.lemmas.Cmp.{nat_list_cmp_total}
-use Rattle.std.proofs.lemmas.List.Elements.{recursion_from_All}
+use Rattle.std.proofs.lemmas.List.Elements.{All-from_recursion, recursion_from_All}
 use Rattle.std.proofs.lemmas.Map.Text.{is_eq-slice_cmp}
 use Rattle.std.proofs.lemmas.Slice.Eq.{bytes_eq-Decides}
-use Rattle.toml.specs.Data.{Data, as_str, array, Items, Members, no_members, member}
+use Rattle.toml.specs.Data.{Data, as_str, array, Items, Members, no_members}
 use Rattle.cargo_toml_dependencies.specs.Details.{Detail, is_plain, plain_detail}
 use Rattle.cargo_toml_dependencies.specs.Features.{FeaturesMeaning, apart, details_of, feature_of, features_of, lists_of, no_features, table_feature}
-use Rattle.cargo_toml_dependencies.proofs.Apart.{Ascend}
 use Rattle.cargo_toml_parts.proofs.Steps.{then}
-use Rattle.cargo_toml_parts.specs.Reads.{is_among, list_of, map_of, members_reads}
-use Rattle.cargo_toml_write.specs.Ways.{entry_rows, is_nil, map_way, text_way, texts_way}
-use Rattle.cargo_toml_write.specs.Writes.{AreWritten, Way, put_member}
+use Rattle.cargo_toml_parts.specs.Reads.{is_among, list_of, map_of}
+use Rattle.cargo_toml_write.specs.Ways.{Ascend, is_nil, text_way, texts_way}
+use Rattle.cargo_toml_write.specs.Writes.{AreWritten, Way}
 use Rattle.cargo_toml_write.specs.WrittenFeatures.{AreTold, FeatureTree, detail_under, feature_way, features_in, features_way, told_features, told_rows}
 use Rattle.cargo_toml_write.specs.WrittenManifests.{all_features, manifest_rows, manifest_way}
 use Rattle.cargo_toml_manifest.specs.Manifests.{ManifestMeaning}
-use Rattle.cargo_toml_write.proofs.ReadAgain.{ReadsAs, flag_again, given_again, got, no_texts, optional_again, text_again, texts_again}
+use Rattle.cargo_toml_write.proofs.ReadAgain.{ReadsAs, flag_again, given_again, got, nil_left, optional_again, text_again, texts_again}
+use Rattle.cargo_toml_write.proofs.MapAgain.{map_again, nothing_asked}
 
 -- the table of a feature
 told_members : (f : List (List ℕ) × Detail) (ms : Members) → AreWritten (told_rows f) no_members ms → table_feature ms ≡ Some f
 told_members f ms written =
     let at = λ (k : List ℕ). got k (told_rows f) no_members ms written in
-    then _ _ _ _ (given_again "enables" texts_way list_of [] f.0 ms (texts_again f.0) (no_texts f.0) (at (codes "enables")))
+    then _ _ _ _ (given_again "enables" texts_way list_of [] f.0 f.0 ms (texts_again f.0) (nil_left f.0) (at (codes "enables")))
     (then _ _ _ _ (flag_again "public" true f.1.public ms (at (codes "public")))
     (then _ _ _ _ (optional_again "doc" text_way as_str f.1.doc ms text_again (at (codes "doc"))) refl))
 
@@ -47,69 +47,6 @@ feature_again enables (Some detail) d (ms, is, written) = rw is (told_members (e
 -- names above a name
 abbrev AreAbove : List ℕ → List (List ℕ) → Type 0
 AreAbove name names = AllByRecursion (λ n. slice_cmp nat_cmp name n ≡ Less) names
-
--- members of which each key is below a name
-abbrev MembersBelow : Members → List ℕ → Type 0
-MembersBelow no_members name = Unit {0}
-MembersBelow (member k d ms) name = (slice_cmp nat_cmp name k ≡ Greater) × MembersBelow ms name
-
--- a member behind others
-abbrev behind : Members → List ℕ → Data → Members
-behind no_members k d = member k d no_members
-behind (member l e ms) k d = member l e (behind ms k d)
-
-put_behind : (k : List ℕ) (d : Data) (ms : Members) → MembersBelow ms k → put_member k d ms ≡ behind ms k d
-put_behind k d no_members h = refl
-put_behind k d (member l e ms) h =
-    ap (λ (o : Ordering). match_ordering o (member k d (member l e ms)) (member l d ms) (member l e (put_member k d ms))) h.0 ∙ ap (member l e) (put_behind k d ms h.1)
-
-below_behind : (k name : List ℕ) (d : Data) (ms : Members) → slice_cmp nat_cmp k name ≡ Less → MembersBelow ms name → MembersBelow (behind ms k d) name
-below_behind k name d no_members less h = (nat_list_cmp_total.antisymm name k ∙ ap ordering_reverse less, tt)
-below_behind k name d (member l e ms) less h = (h.0, below_behind k name d ms less h.1)
-
-all_below_behind : (k : List ℕ) (d : Data) (ms : Members) (names : List (List ℕ)) → AreAbove k names → AllByRecursion (MembersBelow ms) names → AllByRecursion (MembersBelow (behind ms k d)) names
-all_below_behind k d ms [] above below = tt
-all_below_behind k d ms (n ∷ names) above below = (below_behind k n d ms above.0 below.0, all_below_behind k d ms names above.1 below.1)
-
-nothing_below : (names : List (List ℕ)) → AllByRecursion (MembersBelow no_members) names
-nothing_below [] = tt
-nothing_below (n ∷ names) = (tt, nothing_below names)
-
--- what is read of the members of a map, of which each value is read again
-module _ {X M : Type 0} (way : Way X) (reads : Data → Option M) (meaning : X → M) (again : (x : X) → ReadsAs way reads x (meaning x)) where
-  abbrev meant : List (List ℕ × X) → List (List ℕ × M)
-  meant es = map (λ e. (e.0, meaning e.1)) es
-
-  abbrev last : List ℕ → M → Option (List (List ℕ × M)) → Option (List (List ℕ × M))
-  last k x o = option_map (λ es. es ++ (k, x) ∷ []) o
-
-  first-last : (l k : List ℕ) (x : M) (o : Option M) (r : Option (List (List ℕ × M)))
-      → option_and_then (λ y. option_map (λ es. (l, y) ∷ es) (last k x r)) o ≡ last k x (option_and_then (λ y. option_map (λ es. (l, y) ∷ es) r) o)
-  first-last l k x None r = refl
-  first-last l k x (Some y) None = refl
-  first-last l k x (Some y) (Some es) = refl
-
-  read-behind : (ms : Members) (k : List ℕ) (d : Data) (x : M) → reads d ≡ Some x → members_reads reads (behind ms k d) ≡ last k x (members_reads reads ms)
-  read-behind no_members k d x h = rw h refl
-  read-behind (member l e ms) k d x h = rw (read-behind ms k d x h) (first-last l k x (reads e) (members_reads reads ms))
-
-  entries_again : (es : List (List ℕ × X)) (before : List (List ℕ × M)) (old new : Members) → Ascend (keys_of es) → AllByRecursion (MembersBelow old) (keys_of es)
-      → members_reads reads old ≡ Some before → AreWritten (entry_rows way es) old new → members_reads reads new ≡ Some (before ++ meant es)
-  unfolding IsStrictlySortedBy
-  entries_again [] before old new ascend below h is = rw is (h ∙ ap Some (sym (append-nil before)))
-  entries_again (e ∷ es) before old new ascend below h (mid, (None, held, free, is), rest) = absurd held
-  entries_again (e ∷ es) before old new ascend below h (mid, (Some d, tree, free, is), rest) =
-      let put_last : mid ≡ behind old e.0 d = is ∙ put_behind e.0 d old below.0 in
-      let read_last : members_reads reads mid ≡ Some (before ++ (e.0, meaning e.1) ∷ []) =
-      ap (members_reads reads) put_last ∙ read-behind old e.0 d (meaning e.1) (again e.1 d tree) ∙ ap (last e.0 (meaning e.1)) h in
-      let still_below : AllByRecursion (MembersBelow mid) (keys_of es) =
-      subst (λ (ms : Members). AllByRecursion (MembersBelow ms) (keys_of es)) (sym put_last) (all_below_behind e.0 d old (keys_of es) ascend.0 below.1) in
-      entries_again es (before ++ (e.0, meaning e.1) ∷ []) mid new ascend.1 still_below read_last rest
-      ∙ ap Some (append_assoc before ((e.0, meaning e.1) ∷ []) (meant es))
-
-  pub map_again : (es : List (List ℕ × X)) → Ascend (keys_of es) → ReadsAs (map_way way) (map_of reads) es (meant es)
-  map_again es ascend d (ms, is, written) =
-      ap (map_of reads) is ∙ entries_again es [] no_members ms ascend (nothing_below (keys_of es)) refl written
 
 -- features, each with what is said of it
 abbrev Beside : Type 0
@@ -207,17 +144,19 @@ lists_again : (fs : List (List ℕ × List (List ℕ))) (es : List (List ℕ × 
 lists_again [] es = refl
 lists_again (f ∷ fs) es = ap (λ xs. f ∷ xs) (lists_again fs es)
 
-same_names : (fs : List (List ℕ × List (List ℕ))) (es : List (List ℕ × Detail)) → keys_of fs ≡ keys_of (told_features (fs, es))
+pub same_names : (fs : List (List ℕ × List (List ℕ))) (es : List (List ℕ × Detail)) → keys_of fs ≡ keys_of (told_features (fs, es))
 same_names [] es = refl
 same_names (f ∷ fs) es = ap (λ names. f.0 ∷ names) (same_names fs es)
 
 -- both halves are read again
-features_again : (fs : FeaturesMeaning) → Ascend (keys_of fs.0) → Ascend (keys_of fs.1) → AreTold fs → ReadsAs features_way features_of fs fs
-features_again fs lists details told d tree =
+pub features_again : (fs : FeaturesMeaning) → AreTold fs → ReadsAs features_way features_of fs fs
+features_again fs told d (details, tree) =
+    let lists : Ascend (keys_of fs.0) = subst Ascend (sym (same_names fs.0 fs.1)) tree.0 in
     let named : AreNamed (keys_of fs.0) fs.1 = recursion_from_All (λ (e : List ℕ × Detail). IsTrue (is_among (keys_of fs.0) e.0)) fs.1 told.named in
     let said_all : AreSaid fs.1 = recursion_from_All (λ (e : List ℕ × Detail). is_plain e.1 ≡ false) fs.1 told.told in
+    let any = All-from_recursion (λ (e : List ℕ × (List (List ℕ) × Option Detail)). Unit {0}) (told_features fs) (nothing_asked (told_features fs)) in
     let read : map_of feature_of d ≡ Some (joined fs.0 fs.1) =
-    map_again feature_way feature_of (λ f. (f.0, said f.1)) (λ f. feature_again f.0 f.1) (told_features fs) (subst Ascend (same_names fs.0 fs.1) lists) d tree in
+    map_again feature_way feature_of (λ f. (f.0, said f.1)) (λ (f : List (List ℕ) × Option Detail). Unit {0}) (λ f h. feature_again f.0 f.1) (told_features fs) any d tree in
     ap (option_map apart) read
     ∙ ap (λ (ls : List (List ℕ × List (List ℕ))). Some (ls, details_of (joined fs.0 fs.1))) (lists_again fs.0 fs.1)
     ∙ ap (λ (ds : List (List ℕ × Detail)). Some (fs.0, ds)) (details_again fs.0 lists fs.1 details named said_all)
@@ -228,12 +167,13 @@ none_at [] [] named h = refl
 none_at [] (e ∷ es) named h = absurd (false≢true named.0)
 none_at (f ∷ fs) details named h = absurd (false≢true h)
 
+pub no_feature : (fs : FeaturesMeaning) → AreTold fs → is_nil fs.0 ≡ true → fs ≡ no_features
+no_feature fs told = none_at fs.0 fs.1 (recursion_from_All (λ (e : List ℕ × Detail). IsTrue (is_among (keys_of fs.0) e.0)) fs.1 told.named)
+
 -- what a written manifest holds of them
-pub manifest_features : {M : Type 0} (metadata : Way M) (m : ManifestMeaning M) → Ascend (keys_of m.features) → Ascend (keys_of m.feature_details) → AreTold (all_features m)
+pub manifest_features : {M : Type 0} (metadata : Way M) (m : ManifestMeaning M) → AreTold (all_features m)
     → (d : Data) → (manifest_way metadata).trees m d → features_in d ≡ Some (all_features m)
-manifest_features metadata m lists details told d (ms, is, written) =
-    let named : AreNamed (keys_of m.features) m.feature_details =
-    recursion_from_All (λ (e : List ℕ × Detail). IsTrue (is_among (keys_of m.features) e.0)) m.feature_details told.named in
+manifest_features metadata m told d (ms, is, written) =
     ap features_in is
-    ∙ given_again "features" features_way features_of no_features (all_features m) ms (features_again (all_features m) lists details told)
-    (none_at m.features m.feature_details named) (got (codes "features") (manifest_rows metadata m) no_members ms written)
+    ∙ given_again "features" features_way features_of no_features (all_features m) (all_features m) ms (features_again (all_features m) told) (no_feature (all_features m) told)
+    (got (codes "features") (manifest_rows metadata m) no_members ms written)

@@ -5,7 +5,7 @@ use Rattle.toml.specs.Data.{Data, Members, no_members}
 use Rattle.toml.specs.declared.value.Value.{Value}
 use Rattle.cargo_toml_parts.specs.declared.error.Error.{Error, Memory}
 use Rattle.cargo_toml_parts.specs.Floats.{has_no_float}
-use Rattle.cargo_toml_write.specs.Writes.{Way, IsWriting, Row, required_row, optional_row, given_row, AreWritten, AreRefused, WritesFrom, WritingEnds, put_member, table_way}
+use Rattle.cargo_toml_write.specs.Writes.{Way, IsWriting, Refuses, Row, required_row, optional_row, given_row, AreWritten, AreRefused, WritesFrom, WritingEnds, put_member, table_way, telling}
 
 -- some rows and then others
 are_both : (rs qs : List Row) (old mid new : Members) → AreWritten rs old mid → AreWritten qs mid new → AreWritten (rs ++ qs) old new
@@ -75,8 +75,7 @@ no_rows (r ∷ rs) old new e (inl h) (mid, row, rest) = h.0 row.0 row.1
 no_rows (r ∷ rs) old new e (inr h) (mid, row, rest) = no_rows rs mid new e h rest
 
 -- the answer of a writing from its start to its end
-refuses : {X : Type 0} (rows : X → List Row) (x : X) (e : Error) → (e ≡ Memory) ⊎ AreRefused (rows x) e
-    → (e ≡ Memory) ⊎ (((d : Data) → ¬ ((table_way rows).trees x d)) × AreRefused (rows x) e)
+refuses : {X : Type 0} (rows : X → List Row) (x : X) (e : Error) → (e ≡ Memory) ⊎ AreRefused (rows x) e → (e ≡ Memory) ⊎ Refuses (table_way rows) x e
 refuses rows x e (inl memory) = inl memory
 refuses rows x e (inr h) = inr (λ d (ms, is, written). no_rows (rows x) no_members ms e h written, h)
 
@@ -102,3 +101,12 @@ pub ◌then_same◌ : {X : Type 0} {way : Way X} {key : List ℕ} {x : Option X}
 pub given_as : {X : Type 0} (key : List ℕ) (way : Way X) (x y : X) (a b : Option Error) (old new : Members)
     → x ≡ y → WritesFrom (given_row key way x ∷ []) a old b new → WritesFrom (given_row key way y ∷ []) a old b new
 given_as {X = X} key way x y a b old new same goes = subst (λ (z : X). WritesFrom (given_row key way z ∷ []) a old b new) same goes
+
+-- what is told besides holds of the value
+pub refused_too : {X : Type 0} (P : X → Type 0) (way : Way X) (x : X) (e : Error) → IsWriting way x (Err e) → IsWriting (telling P way) x (Err e)
+refused_too P way x e (inl memory) = inl memory
+refused_too P way x e (inr (none, fault)) = inr (λ d (also, tree). none d tree, fault)
+
+pub also_told : {X : Type 0} (P : X → Type 0) (way : Way X) (x : X) (answer : Result Value Error) → P x → IsWriting way x answer → IsWriting (telling P way) x answer
+also_told P way x (Ok v) told tree = (told, tree)
+also_told P way x (Err e) told refused = refused_too P way x e refused

@@ -1,49 +1,48 @@
--- Each value of a type that holds nothing free has a tree. Of a table that is told row by row, so a new key is no line here.
-use Rattle.std.proofs.Common.{refl, ℕ, List, Option, Some, None}
-use Rattle.toml.specs.Data.{Data, boolean}
+-- No value of a type that holds nothing free is ever refused. Of a table that is told row by row, so a new key is no line here.
+use Rattle.std.proofs.Common.{ℕ, List, Option, Some, None}
 use Rattle.cargo_toml_dependencies.specs.Details.{Detail}
-use Rattle.cargo_toml_settings.specs.Settings.{Registries, edition_text, resolver_text, everywhere, among}
-use Rattle.cargo_toml_write.specs.Floatless.{file_floatless, publish_floatless, debug_floatless, strip_floatless, lto_floatless, feature_floatless, table_floatless}
-use Rattle.cargo_toml_write.specs.Ways.{text_way, version_way, texts_way, inheritable_way, list_way, entry_rows}
-use Rattle.cargo_toml_write.specs.WrittenBadges.{badge_rows, badge_way, has_no_badge, maintenance_rows, maintenance_way, badges_rows, badges_way}
+use Rattle.cargo_toml_parts.specs.declared.error.Error.{Error}
+use Rattle.cargo_toml_settings.specs.Settings.{Registries, everywhere, among}
+use Rattle.cargo_toml_write.specs.Ways.{text_way, version_way, texts_way, inheritable_way, list_way}
+use Rattle.cargo_toml_write.specs.WrittenBadges.{badge_rows, badge_way, maintenance_rows, maintenance_way, badges_rows, badges_way}
 use Rattle.cargo_toml_write.specs.WrittenDependencies.{inherited_rows, inherited_way}
-use Rattle.cargo_toml_write.specs.WrittenFeatures.{FeatureTree, feature_way, features_way, told_features, told_rows, told_way}
+use Rattle.cargo_toml_write.specs.WrittenFeatures.{feature_way, features_way, told_features, told_rows, told_way}
 use Rattle.cargo_toml_write.specs.WrittenProducts.{product_rows, product_way}
-use Rattle.cargo_toml_write.specs.WrittenSettings.{edition_way, resolver_way, level_text, level_way, status_text, status_way, file_tree, file_way, publish_way, debug_tree, debug_way, strip_tree, strip_way, lto_tree, lto_way}
+use Rattle.cargo_toml_write.specs.WrittenSettings.{edition_way, resolver_way, level_way, status_way, file_way, publish_way, debug_way, strip_way, lto_way}
 use Rattle.cargo_toml_write.specs.WrittenPackages.{template_rows, template_way}
-use Rattle.cargo_toml_write.specs.Writes.{HasTree, table_way}
-use Rattle.cargo_toml_write.proofs.Trees.{Total, table_total, leaving_out, word_total, text_total, truth_total, version_total, texts_total, list_total, map_total, inheritable_total}
+use Rattle.cargo_toml_write.specs.Writes.{Refuses}
+use Rattle.cargo_toml_write.proofs.Trees.{Total, table_total, text_total, truth_total, version_total, texts_total, list_total, no_entry, inheritable_total}
 
 pub edition_total : Total edition_way
-edition_total = word_total edition_text
+edition_total = record { never = λ x e refused. refused.1 }
 
 pub resolver_total : Total resolver_way
-resolver_total = word_total resolver_text
+resolver_total = record { never = λ x e refused. refused.1 }
 
 pub level_total : Total level_way
-level_total = word_total level_text
+level_total = record { never = λ x e refused. refused.1 }
 
 pub status_total : Total status_way
-status_total = word_total status_text
+status_total = record { never = λ x e refused. refused.1 }
 
 pub file_total : Total file_way
-file_total = record { tree = λ x. (file_tree x, refl); floatless = file_floatless }
+file_total = record { never = λ x e refused. refused.1 }
 
-published : (x : Registries) → HasTree publish_way x
-published (everywhere b) = (boolean b, refl)
-published (among names) = texts_total.tree names
+published : (x : Registries) (e : Error) → ¬ (Refuses publish_way x e)
+published (everywhere b) e refused = refused.1
+published (among names) e refused = texts_total.never names e refused
 
 pub publish_total : Total publish_way
-publish_total = record { tree = published; floatless = publish_floatless }
+publish_total = record { never = published }
 
 pub debug_total : Total debug_way
-debug_total = record { tree = λ x. (debug_tree x, refl); floatless = debug_floatless }
+debug_total = record { never = λ x e refused. refused.1 }
 
 pub strip_total : Total strip_way
-strip_total = record { tree = λ x. (strip_tree x, refl); floatless = strip_floatless }
+strip_total = record { never = λ x e refused. refused.1 }
 
 pub lto_total : Total lto_way
-lto_total = record { tree = λ x. (lto_tree x, refl); floatless = lto_floatless }
+lto_total = record { never = λ x e refused. refused.1 }
 
 pub badge_total : Total badge_way
 badge_total = table_total badge_rows (λ b. assumption text_total)
@@ -52,7 +51,7 @@ pub maintenance_total : Total maintenance_way
 maintenance_total = table_total maintenance_rows (λ s. assumption status_total)
 
 pub badges_total : Total badges_way
-badges_total = leaving_out (table_way badges_rows) has_no_badge (table_total badges_rows (λ b. assumption (badge_total, maintenance_total)))
+badges_total = record { never = (table_total badges_rows (λ b. assumption (badge_total, maintenance_total))).never }
 
 pub product_total : Total product_way
 product_total = table_total product_rows (λ p. assumption (text_total, truth_total, texts_total, edition_total))
@@ -90,15 +89,12 @@ either_publish = inheritable_total publish_way publish_total
 told_total : Total told_way
 told_total = table_total told_rows (λ f. assumption (text_total, truth_total, texts_total))
 
-feature_either : (enables : List (List ℕ)) (detail : Option Detail) → (d : Data) × FeatureTree enables detail d
-feature_either enables None = texts_total.tree enables
-feature_either enables (Some detail) = told_total.tree (enables, detail)
+feature_either : (enables : List (List ℕ)) (detail : Option Detail) (e : Error) → ¬ (Refuses feature_way (enables, detail) e)
+feature_either enables None e refused = texts_total.never enables e refused
+feature_either enables (Some detail) e refused = told_total.never (enables, detail) e refused
 
 feature_total : Total feature_way
-feature_total = record { tree = λ f. feature_either f.0 f.1; floatless = feature_floatless }
+feature_total = record { never = λ f. feature_either f.0 f.1 }
 
 pub features_total : Total features_way
-features_total = record {
-  tree = λ fs. (map_total feature_way feature_total).tree (told_features fs);
-  floatless = λ fs d tree. table_floatless (entry_rows feature_way) (told_features fs) d tree;
-}
+features_total = record { never = λ fs e refused. no_entry feature_way feature_total (told_features fs) e refused.1 }

@@ -1,11 +1,11 @@
 -- What is written holds no float. Of a table that is told of all rows, so no key is named here.
-use Rattle.std.specs.Prelude.{ℕ, List, [], ◌∷◌, codes, Bool, true}
+use Rattle.std.specs.Prelude.{ℕ, List, [], ◌∷◌, Bool, true}
 use Rattle.std.specs.Prelude.{false, ◌&&◌, IsTrue, IfSome, MatchBool, Option, Some, None, refl}
 use Rattle.std.specs.Cmp.Lexicographic.{slice_cmp}
 use Rattle.std.specs.Ordering.{nat_cmp, match_ordering}
 use Rattle.std.proofs.Common.{sym, subst, Ordering, Less, Equal, Greater}
 use Rattle.std.proofs.lemmas.Bool.{and_from}
-use Rattle.toml.specs.Data.{Data, string, integer, Items}
+use Rattle.toml.specs.Data.{Data, string, Items}
 use Rattle.toml.specs.Data.{no_items, item, Members, no_members, member}
 use Rattle.cargo_toml_dependencies.specs.Dependencies as kind
 use Rattle.cargo_toml_dependencies.specs.Details.{Detail}
@@ -17,17 +17,19 @@ use Rattle.cargo_toml_settings.specs.declared.profile_settings.StripSetting.TheV
 use Rattle.cargo_toml_settings.specs.Settings.{flag, path, everywhere, among}
 use Rattle.cargo_toml_tables.specs.Lints.{LintMeaning}
 use Rattle.cargo_toml_write.specs.Requirements.{requirement_text}
-use Rattle.cargo_toml_write.specs.Ways.{exactly, free_way, requirement_way, list_way, AreItems}
+use Rattle.cargo_toml_write.specs.Ways.{exactly, entry_rows, free_way, requirement_way, list_way, map_way, AreItems}
 use Rattle.cargo_toml_write.specs.Ways.{inheritable_way, text_way, texts_way}
 use Rattle.cargo_toml_write.specs.WrittenDependencies.{inherited_rows, detail_rows, dependency_way}
-use Rattle.cargo_toml_write.specs.WrittenFeatures.{FeatureTree, feature_way, told_rows}
-use Rattle.cargo_toml_write.specs.WrittenLints.{is_level_alone, members_of, table_lint_way}
-use Rattle.cargo_toml_write.specs.WrittenLints.{lint_way}
+use Rattle.cargo_toml_write.specs.WrittenDependencies.{detail_way}
+use Rattle.cargo_toml_write.specs.WrittenFeatures.{FeatureTree, feature_way, features_way}
+use Rattle.cargo_toml_write.specs.WrittenFeatures.{told_features, told_rows}
+use Rattle.cargo_toml_write.specs.WrittenLints.{is_level_alone, lint_rows, table_lint_way, lint_way}
+use Rattle.cargo_toml_write.specs.WrittenProfiles.{profiles_rows, profiles_way}
 use Rattle.cargo_toml_write.specs.WrittenSettings.{level_text, level_way, file_tree, file_way}
 use Rattle.cargo_toml_write.specs.WrittenSettings.{debug_tree, debug_way, strip_tree, strip_way}
 use Rattle.cargo_toml_write.specs.WrittenSettings.{lto_tree, lto_way, publish_way}
 use Rattle.cargo_toml_write.specs.Writes.{Way, IsFloatless, Row, put_member, put_some, AreWritten}
-use Rattle.cargo_toml_write.specs.Writes.{table_way}
+use Rattle.cargo_toml_write.specs.Writes.{table_way, telling}
 
 abbrev Floatless : Data → Type 0
 Floatless d = IsTrue (has_no_float d)
@@ -38,6 +40,10 @@ AllFloatless ms = IsTrue (members_have_no_float ms)
 pub exactly_floatless : {X : Type 0} (tree : X → Data) → ((x : X) → IsTrue (has_no_float (tree x)))
     → IsFloatless (exactly tree)
 exactly_floatless tree h x d is = subst Floatless (sym is) (h x)
+
+pub telling_floatless : {X : Type 0} (P : X → Type 0) (way : Way X) → IsFloatless way
+    → IsFloatless (telling P way)
+telling_floatless P way h x d (told, tree) = h x d tree
 
 pub word_floatless : {X : Type 0} (word : X → List ℕ) → IsFloatless (exactly (λ x. string (word x)))
 word_floatless word = exactly_floatless (λ x. string (word x)) (λ x. refl)
@@ -102,6 +108,9 @@ pub table_floatless : {X : Type 0} (rows : X → List Row) → IsFloatless (tabl
 table_floatless rows x d (ms, is, written) =
     subst Floatless (sym is) (rows_floatless (rows x) no_members ms written refl)
 
+pub map_floatless : {X : Type 0} (way : Way X) → IsFloatless (map_way way)
+map_floatless way es d (ascend, tree) = table_floatless (entry_rows way) es d tree
+
 pub file_floatless : IsFloatless file_way
 file_floatless = exactly_floatless file_tree (elim [ flag b ↦ refl | path p ↦ refl ])
 
@@ -121,17 +130,19 @@ pub lto_floatless : IsFloatless lto_way
 lto_floatless = exactly_floatless lto_tree
     (elim [ lto.None ↦ refl | lto.ThinLocal ↦ refl | lto.Thin ↦ refl | lto.Fat ↦ refl ])
 
+pub detail_floatless : IsFloatless detail_way
+detail_floatless x d (ascend, tree) = table_floatless detail_rows x d tree
+
 pub dependency_floatless : IsFloatless dependency_way
 dependency_floatless (kind.simple r) d tree = requirement_floatless r d tree
 dependency_floatless (kind.inherited i) d tree = table_floatless inherited_rows i d tree
-dependency_floatless (kind.detailed x) d tree = table_floatless detail_rows x d tree
+dependency_floatless (kind.detailed x) d tree = detail_floatless x d tree
+
+pub profiles_floatless : IsFloatless profiles_way
+profiles_floatless p d (ascend, tree) = table_floatless profiles_rows p d tree
 
 pub table_lint_floatless : IsFloatless table_lint_way
-table_lint_floatless l d (none, is) =
-    let level : Data = string (level_text l.level) in
-    let before = put_floatless (codes "level") level (members_of l.config) refl none in
-    subst Floatless (sym is) (put_floatless (codes "priority") (integer l.priority)
-    (put_member (codes "level") level (members_of l.config)) refl before)
+table_lint_floatless l d (ascend, tree) = table_floatless lint_rows l d tree
 
 lint_either : (b : Bool) (l : LintMeaning) (d : Data)
     → MatchBool b (level_way.trees l.level d) (table_lint_way.trees l d) → Floatless d
@@ -148,3 +159,6 @@ feature_either enables (Some detail) d tree = table_floatless told_rows (enables
 
 pub feature_floatless : IsFloatless feature_way
 feature_floatless f d tree = feature_either f.0 f.1 d tree
+
+pub features_floatless : IsFloatless features_way
+features_floatless fs d (ascend, tree) = map_floatless feature_way (told_features fs) d tree

@@ -2,6 +2,7 @@
 pub mod Writes
 pub mod Requirements
 pub mod Ways
+pub mod Asked
 pub mod NoFloats
 pub mod WrittenBadges
 pub mod WrittenDependencies
@@ -13,6 +14,7 @@ pub mod WrittenProducts
 pub mod WrittenProfiles
 pub mod WrittenSettings
 pub mod WrittenWorkspaces
+pub mod Reread
 -- why no float is written, the code's own steps, and worked examples: nothing here has to be
 -- believed
 pub mod Floatless

@@ -1,19 +1,24 @@
 -- How texts, truth values, numbers, versions, lists, maps and inherited values are written.
-use Rattle.std.specs.Prelude.{◌≡◌, ◌⊎◌, ℕ, pos, List, [], ◌∷◌, codes, Bool}
+use Rattle.std.specs.Prelude.{◌≡◌, ◌⊎◌, ℕ, ℤ, pos, List, [], ◌∷◌, codes, Bool}
 use Rattle.std.specs.Prelude.{true, false, IsTrue, Option, Some, None}
+use Rattle.std.specs.Cmp.Lexicographic.{slice_cmp}
+use Rattle.std.specs.List.Sorted.{IsStrictlySortedBy}
+use Rattle.std.specs.Map.{keys_of}
+use Rattle.std.specs.Ordering.{nat_cmp}
 use Rattle.semver.specs.Identifiers.{parts_text}
 use Rattle.semver.specs.Parse.{Held}
 use Rattle.toml.specs.Data.{Data, string, boolean, integer, array, table}
-use Rattle.toml.specs.Data.{Items, no_items, item, no_members, member}
+use Rattle.toml.specs.Data.{Items, no_items, item, Members, no_members, member}
 use Rattle.cargo_toml_parts.specs.declared.error.Error.{Error}
 use Rattle.cargo_toml_parts.specs.declared.inheritable.Inheritable.{Inheritable}
 use Rattle.cargo_toml_parts.specs.declared.inheritable.Inheritable.TheVariants.{Set, Inherited}
 use Rattle.cargo_toml_parts.specs.Faults.{IsOther, floats_unsupported}
 use Rattle.cargo_toml_parts.specs.Floats.{has_no_float}
+use Rattle.cargo_toml_parts.specs.Numbers.{fits_u16, fits_i8}
 use Rattle.cargo_toml_parts.specs.Versions.{Parts}
 use Rattle.cargo_toml_write.specs.Requirements.{requirement_text}
 use Rattle.cargo_toml_write.specs.Writes.{Way, Row, required_row, optional_row, table_way}
-use Rattle.cargo_toml_write.specs.Writes.{never_left_out}
+use Rattle.cargo_toml_write.specs.Writes.{never_left_out, telling}
 
 -- what always has one tree
 abbrev pub exactly : {X : Type 0} → (X → Data) → Way X
@@ -29,8 +34,12 @@ text_way = exactly string
 abbrev pub truth_way : Way Bool
 truth_way = exactly boolean
 
+-- numbers of two bytes, and of one with a sign
 abbrev pub number_way : Way ℕ
-number_way = exactly (λ n. integer (pos n))
+number_way = telling (λ n. fits_u16 (pos n) ≡ Some n) (exactly (λ n. integer (pos n)))
+
+abbrev pub small_way : Way ℤ
+small_way = telling (λ z. fits_i8 z ≡ Some z) (exactly integer)
 
 -- a version and a requirement as `semver` writes them
 abbrev pub version_way : Way Parts
@@ -72,13 +81,24 @@ list_way way = record {
 abbrev pub texts_way : Way (List (List ℕ))
 texts_way = list_way text_way
 
+-- names that ascend, as the keys of a map do
+abbrev pub Ascend : List (List ℕ) → Type 0
+Ascend names = IsStrictlySortedBy (slice_cmp nat_cmp) names
+
 -- a map: a row for each entry; an empty one is left out
 abbrev pub entry_rows : {X : Type 0} → Way X → List (List ℕ × X) → List Row
 entry_rows way [] = []
 entry_rows way (e ∷ es) = required_row e.0 way e.1 ∷ entry_rows way es
 
 abbrev pub map_way : {X : Type 0} → Way X → Way (List (List ℕ × X))
-map_way way = record (table_way (entry_rows way)) { left_out = is_nil }
+map_way way = record (telling (λ es. Ascend (keys_of es)) (table_way (entry_rows way))) {
+  left_out = is_nil;
+}
+
+-- the members of which entries are read
+abbrev pub members_of : List (List ℕ × Data) → Members
+members_of [] = no_members
+members_of (e ∷ es) = member e.0 e.1 (members_of es)
 
 -- a value that is set, which is left out as it is alone; and the table that says
 -- that it is inherited

@@ -28,11 +28,24 @@ IsFloatless {X = X} way = (x : X) (d : Data) → way.trees x d → IsTrue (has_n
 abbrev pub never_left_out : {X : Type 0} → X → Bool
 never_left_out x = false
 
+-- there is no tree of what is held, and the fault says why
+abbrev pub Refuses : {X : Type 0} → Way X → X → Error → Type 0
+Refuses way x e = ((d : Data) → ¬ (way.trees x d)) × way.refuses x e
+
+-- values such as these are never refused, and no others have a tree
+pub record Exact {X : Type 0} (way : Way X) (P : X → Type 0) : Type 0 where
+  pub never : (x : X) → P x → (e : Error) → ¬ (Refuses way x e)
+  pub only : (x : X) (d : Data) → way.trees x d → P x
+
 -- the answer is a tree of what is held; where there is none, it is a fault that says why; or
 -- there was no memory
 abbrev pub IsWriting : {X : Type 0} → Way X → X → Result Value Error → Type 0
 IsWriting way x (Ok v) = way.trees x (view v)
-IsWriting way x (Err e) = (e ≡ Memory) ⊎ (((d : Data) → ¬ (way.trees x d)) × way.refuses x e)
+IsWriting way x (Err e) = (e ≡ Memory) ⊎ Refuses way x e
+
+-- a way of which each tree tells something of its value besides, as that the keys of a map ascend
+abbrev pub telling : {X : Type 0} → (X → Type 0) → Way X → Way X
+telling P way = record way { trees = λ x d. P x × way.trees x d }
 
 -- the public reader, which refuses a float at any depth, reads the tree again as what was held
 abbrev pub IsReadAgain : {M : Type 0} → (Data → Option M) → M → Result Value Error → Type 0

@@ -1,6 +1,7 @@
 -- How dependencies are written, and which are read again as they were.
 use Rattle.std.specs.Prelude.{◌≡◌, ℕ, List, [], ◌∷◌, ◌++◌, codes, true, false}
 use Rattle.std.specs.Prelude.{Option, None, IfSome, option_and_then, All}
+use Rattle.std.specs.Map.{keys_of}
 use Rattle.toml.specs.Data.{Data, as_bool, as_table}
 use Rattle.cargo_toml_dependencies.specs.Dependencies.{InheritedMeaning, DetailMeaning}
 use Rattle.cargo_toml_dependencies.specs.Dependencies.{DependencyMeaning, inherited_of}
@@ -11,10 +12,9 @@ use Rattle.cargo_toml_parts.specs.declared.error.Error.{Error}
 use Rattle.cargo_toml_parts.specs.Reads.{is_among, required_at}
 use Rattle.cargo_toml_write.specs.Requirements.{CanBeRead}
 use Rattle.cargo_toml_write.specs.Ways.{text_way, texts_way, requirement_way}
-use Rattle.cargo_toml_write.specs.Ways.{free_way, map_way, entry_rows, flag_row}
+use Rattle.cargo_toml_write.specs.Ways.{Ascend, free_way, map_way, entry_rows, flag_row, members_of}
 use Rattle.cargo_toml_write.specs.Writes.{Way, Row, required_row, optional_row}
-use Rattle.cargo_toml_write.specs.WrittenLints.{members_of}
-use Rattle.cargo_toml_write.specs.Writes.{given_row, table_way, never_left_out}
+use Rattle.cargo_toml_write.specs.Writes.{given_row, table_way, never_left_out, telling}
 
 abbrev pub inherited_rows : InheritedMeaning → List Row
 inherited_rows i =
@@ -48,7 +48,7 @@ abbrev pub detail_rows : DetailMeaning → List Row
 detail_rows d = entry_rows free_way d.unstable ++ known_rows d
 
 abbrev pub detail_way : Way DetailMeaning
-detail_way = table_way detail_rows
+detail_way = telling (λ d. Ascend (keys_of d.unstable)) (table_way detail_rows)
 
 -- a requirement, or a table
 abbrev pub DependencyTree : DependencyMeaning → Data → Type 0

@@ -9,7 +9,7 @@ use Rattle.cargo_toml_dependencies.specs.Details.{Detail, is_plain}
 use Rattle.cargo_toml_dependencies.specs.Features.{FeaturesMeaning, features_of, no_features}
 use Rattle.cargo_toml_parts.specs.declared.error.Error.{Error}
 use Rattle.cargo_toml_parts.specs.Reads.{given_at, is_among}
-use Rattle.cargo_toml_write.specs.Ways.{text_way, texts_way, flag_row, is_nil, map_way}
+use Rattle.cargo_toml_write.specs.Ways.{Ascend, text_way, texts_way, flag_row, is_nil, map_way}
 use Rattle.cargo_toml_write.specs.Writes.{Way, Row, given_row, optional_row, table_way}
 use Rattle.cargo_toml_write.specs.Writes.{never_left_out}
 
@@ -52,7 +52,7 @@ told_features fs = map (λ f. (f.0, (f.1, detail_under f.0 fs.1))) fs.0
 -- the features of a manifest, which are left out where there is none
 abbrev pub features_way : Way FeaturesMeaning
 features_way = record {
-  trees = λ fs d. (map_way feature_way).trees (told_features fs) d;
+  trees = λ fs d. Ascend (keys_of fs.1) × (map_way feature_way).trees (told_features fs) d;
   refuses = λ fs e. (map_way feature_way).refuses (told_features fs) e;
   left_out = λ fs. is_nil fs.0;
 }

@@ -1,48 +1,41 @@
 -- How lints are written, and which lints are read again as they were.
-use Rattle.std.specs.Prelude.{◌≡◌, ℕ, List, [], ◌∷◌, Bool, false, pos}
-use Rattle.std.specs.Prelude.{codes, ◌&&◌, MatchBool, IsTrue, All}
+use Rattle.std.specs.Prelude.{◌≡◌, ℕ, List, [], ◌∷◌, ◌++◌, Bool, false, pos}
+use Rattle.std.specs.Prelude.{codes, ◌&&◌, MatchBool, All}
+use Rattle.std.specs.Map.{keys_of}
 use Rattle.std.specs.Ordering.{int_eq}
-use Rattle.toml.specs.Data.{Data, integer, string, table, Members, no_members, member}
-use Rattle.cargo_toml_parts.specs.Faults.{IsOther, floats_unsupported}
-use Rattle.cargo_toml_parts.specs.Floats.{members_have_no_float}
+use Rattle.toml.specs.Data.{Data}
+use Rattle.cargo_toml_parts.specs.declared.error.Error.{Error}
 use Rattle.cargo_toml_parts.specs.Reads.{is_among}
 use Rattle.cargo_toml_tables.specs.Lints.{LintMeaning, lint_keys}
-use Rattle.cargo_toml_write.specs.Ways.{map_way, is_nil}
-use Rattle.cargo_toml_write.specs.Writes.{Way, put_member, never_left_out}
-use Rattle.cargo_toml_write.specs.WrittenSettings.{level_way, level_text}
+use Rattle.cargo_toml_write.specs.Ways.{Ascend, entry_rows, free_way, is_nil, map_way, small_way}
+use Rattle.cargo_toml_write.specs.Writes.{Way, Row, never_left_out, required_row, table_way, telling}
+use Rattle.cargo_toml_write.specs.WrittenSettings.{level_way}
 
 -- the level says all of the lint
 abbrev pub is_level_alone : LintMeaning → Bool
 is_level_alone l = int_eq l.priority (pos 0) && is_nil l.config
 
 -- what else is said of the lint, and the level and the priority put over it
-abbrev pub members_of : List (List ℕ × Data) → Members
-members_of [] = no_members
-members_of (e ∷ es) = member e.0 e.1 (members_of es)
-
-abbrev pub lint_table : LintMeaning → Data
-lint_table l =
-    let levelled : Members =
-    put_member (codes "level") (string (level_text l.level)) (members_of l.config) in
-    table (put_member (codes "priority") (integer l.priority) levelled)
+abbrev pub lint_rows : LintMeaning → List Row
+lint_rows l =
+    entry_rows free_way l.config
+    ++ required_row (codes "level") level_way l.level
+    ∷ required_row (codes "priority") small_way l.priority
+    ∷ []
 
 abbrev pub table_lint_way : Way LintMeaning
-table_lint_way = record {
-  trees = λ l d. IsTrue (members_have_no_float (members_of l.config)) × (d ≡ lint_table l);
-  refuses = λ l e. IsOther floats_unsupported e;
-  left_out = never_left_out;
-}
+table_lint_way = telling (λ l. Ascend (keys_of l.config)) (table_way lint_rows)
 
--- a level, or a table that holds no float
+-- a level, or a table
 abbrev pub LintTree : LintMeaning → Data → Type 0
 LintTree l d = MatchBool (is_level_alone l) (level_way.trees l.level d) (table_lint_way.trees l d)
 
+abbrev pub LintRefused : LintMeaning → Error → Type 0
+LintRefused l e =
+    MatchBool (is_level_alone l) (level_way.refuses l.level e) (table_lint_way.refuses l e)
+
 abbrev pub lint_way : Way LintMeaning
-lint_way = record {
-  trees = LintTree;
-  refuses = λ l e. IsOther floats_unsupported e;
-  left_out = never_left_out;
-}
+lint_way = record { trees = LintTree; refuses = LintRefused; left_out = never_left_out }
 
 -- the lints by tool
 abbrev pub lint_groups_way : Way (List (List ℕ × List (List ℕ × LintMeaning)))

@@ -1,13 +1,13 @@
 -- How packages and their templates are written, and when a package is read again.
-use Rattle.std.specs.Prelude.{◌≡◌, List, [], ◌∷◌, codes, true, Ok, Option, Some, None}
+use Rattle.std.specs.Prelude.{◌≡◌, List, [], ◌∷◌, codes, true, Ok, Option, Some, None, IfSome}
 use Rattle.semver.specs.Identifiers.{parts_text}
 use Rattle.semver.specs.Parse.{version_parts}
 use Rattle.toml.specs.Data.{Data}
 use Rattle.cargo_toml_package.specs.Packages.{PackageMeaning}
 use Rattle.cargo_toml_package.specs.Templates.{TemplateMeaning}
 use Rattle.cargo_toml_parts.specs.declared.inheritable.Inheritable.{Inheritable}
-use Rattle.cargo_toml_parts.specs.declared.inheritable.Inheritable.TheVariants.{Set, Inherited}
 use Rattle.cargo_toml_parts.specs.Versions.{Parts}
+use Rattle.cargo_toml_write.specs.Asked.{IfSet}
 use Rattle.cargo_toml_write.specs.Ways.{text_way, texts_way, version_way, inheritable_way, flag_row}
 use Rattle.cargo_toml_write.specs.WrittenSettings.{edition_way, resolver_way, file_way, publish_way}
 use Rattle.cargo_toml_write.specs.Writes.{Way, Row, required_row}
@@ -49,12 +49,22 @@ package_rows metadata p =
 abbrev pub package_way : {M : Type 0} → Way M → Way (PackageMeaning M)
 package_way metadata = table_way (package_rows metadata)
 
--- a version that is set is read again from its text
-abbrev pub VersionAgain : Inheritable Parts → Type 0
-VersionAgain (Set v) = version_parts (parts_text v) ≡ Ok v
-VersionAgain Inherited = Unit {0}
+-- a version is read again from its own text; the same of one that a workspace may give, and of a
+-- template
+abbrev pub IsVersionAgain : Parts → Type 0
+IsVersionAgain v = version_parts (parts_text v) ≡ Ok v
 
--- every tree of the metadata, where it is there, is read again as what it means
+abbrev pub VersionAgain : Inheritable Parts → Type 0
+VersionAgain v = IfSet IsVersionAgain v
+
+abbrev pub TemplateAgain : TemplateMeaning → Type 0
+TemplateAgain t = IfSome t.version IsVersionAgain
+
+-- every tree of metadata is read again as what these mean; the same of those of a package
+abbrev pub AreReadAgain : {X W M : Type 0} → Way W → (X → W) → (X → M) → (Data → Option M) → Type 0
+AreReadAgain {X = X} way held meaning reads =
+    (x : X) (d : Data) → way.trees (held x) d → reads d ≡ Some (meaning x)
+
 abbrev pub MetadataAgain : {X W M : Type 0} → Way W → (X → W) → (X → M) → (Data → Option M)
     → Option X → Type 0
 MetadataAgain way held meaning reads None = Unit {0}

@@ -1,10 +1,12 @@
 -- How profiles are written.
-use Rattle.std.specs.Prelude.{List, [], ◌∷◌, ◌++◌, codes, Bool, ◌&&◌, is_none}
-use Rattle.cargo_toml_tables.specs.Profiles.{ProfileMeaning, ProfilesMeaning}
+use Rattle.std.specs.Prelude.{◌≡◌, ℕ, List, [], ◌∷◌, ◌++◌, codes, Bool, false, ◌&&◌, is_none, All}
+use Rattle.std.specs.Map.{keys_of}
+use Rattle.cargo_toml_parts.specs.Reads.{is_among}
+use Rattle.cargo_toml_tables.specs.Profiles.{ProfileMeaning, ProfilesMeaning, profile_keys}
 use Rattle.cargo_toml_write.specs.Ways.{text_way, truth_way, number_way}
-use Rattle.cargo_toml_write.specs.Ways.{free_way, map_way, entry_rows, is_nil}
+use Rattle.cargo_toml_write.specs.Ways.{Ascend, free_way, map_way, entry_rows, is_nil}
 use Rattle.cargo_toml_write.specs.WrittenSettings.{debug_way, lto_way, strip_way}
-use Rattle.cargo_toml_write.specs.Writes.{Way, Row, optional_row, given_row, table_way}
+use Rattle.cargo_toml_write.specs.Writes.{Way, Row, optional_row, given_row, table_way, telling}
 
 abbrev pub profile_rows : ProfileMeaning → List Row
 profile_rows p =
@@ -52,4 +54,10 @@ has_no_profile p =
     && is_nil p.custom
 
 abbrev pub profiles_way : Way ProfilesMeaning
-profiles_way = record (table_way profiles_rows) { left_out = has_no_profile }
+profiles_way = record (telling (λ p. Ascend (keys_of p.custom)) (table_way profiles_rows)) {
+  left_out = has_no_profile;
+}
+
+-- no profile of another name has that of one that Cargo knows
+abbrev pub AreApart : ProfilesMeaning → Type 0
+AreApart p = All (λ e. is_among profile_keys e.0 ≡ false) p.custom

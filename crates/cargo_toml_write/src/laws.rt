@@ -1,81 +1,101 @@
-//! Laws: what can be written. A value has a tree exactly where it holds no float in what
-//! it may hold freely.
-ghost use Rattle.std.specs.Prelude.{◌≡◌, ◌↔◌, List, Option, Some};
-ghost use Rattle.semver.specs.Parse.{Held};
+//! Laws: what can be written, and what is read again. A value that holds no float in what it may
+//! hold freely is never refused, and no other has a tree.
+ghost use Rattle.std.specs.Prelude.{◌≡◌, ℕ, List, Option, Some, Ok};
+ghost use Rattle.semver.specs.Parse.{Held, version_parts};
 ghost use Rattle.toml.specs.Data.{Data, Members};
 ghost use Rattle.cargo_toml_dependencies.specs.Dependencies.{DetailMeaning, DependencyMeaning};
 ghost use Rattle.cargo_toml_dependencies.specs.Dependencies.{simple, detailed, dependency_of};
-ghost use Rattle.cargo_toml_dependencies.specs.Targets.{TargetMeaning};
 ghost use Rattle.cargo_toml_manifest.specs.Manifests.{ManifestMeaning, manifest_reads};
 ghost use Rattle.cargo_toml_manifest.specs.Texts.{any_tree, document_reads};
-ghost use Rattle.cargo_toml_workspace.specs.Workspaces.{WorkspaceMeaning};
-ghost use Rattle.cargo_toml_package.specs.Packages.{PackageMeaning};
 ghost use Rattle.cargo_toml_parts.specs.Floats.{without_floats};
-ghost use Rattle.cargo_toml_tables.specs.Lints.{LintMeaning};
-ghost use Rattle.cargo_toml_tables.specs.Profiles.{ProfileMeaning, ProfilesMeaning};
+ghost use Rattle.cargo_toml_parts.specs.Reads.{array_of, map_of};
+ghost use Rattle.cargo_toml_parts.specs.Versions.{Parts};
+ghost use Rattle.cargo_toml_tables.specs.Lints.{LintMeaning, lint_of};
+ghost use Rattle.cargo_toml_write.specs.Asked.{EachValue, ManifestMeets};
 ghost use Rattle.cargo_toml_write.specs.NoFloats.{HoldsNoFloat, DetailHoldsNoFloat};
 ghost use Rattle.cargo_toml_write.specs.NoFloats.{DependencyHoldsNoFloat, TargetHoldsNoFloat};
 ghost use Rattle.cargo_toml_write.specs.NoFloats.{ProfileHoldsNoFloat, ProfilesHoldsNoFloat};
 ghost use Rattle.cargo_toml_write.specs.NoFloats.{LintHoldsNoFloat, PackageHoldsNoFloat};
 ghost use Rattle.cargo_toml_write.specs.NoFloats.{WorkspaceHoldsNoFloat, ManifestHoldsNoFloat};
-ghost use Rattle.cargo_toml_write.specs.Ways.{free_way};
+ghost use Rattle.cargo_toml_write.specs.Reread.{IsTold, each_value, reread, reread_dependency};
+ghost use Rattle.cargo_toml_write.specs.Reread.{says_true};
+ghost use Rattle.cargo_toml_write.specs.Ways.{free_way, list_way, map_way};
 ghost use Rattle.cargo_toml_write.specs.WrittenDependencies.{detail_way, dependency_way};
-ghost use Rattle.cargo_toml_write.specs.WrittenDependencies.{target_way, DependencyAgain};
-ghost use Rattle.cargo_toml_write.specs.WrittenFeatures.{AreTold};
-ghost use Rattle.cargo_toml_write.specs.WrittenLints.{lint_way};
-ghost use Rattle.cargo_toml_write.specs.WrittenManifests.{all_features, manifest_way};
-ghost use Rattle.cargo_toml_write.specs.WrittenPackages.{package_way};
+ghost use Rattle.cargo_toml_write.specs.WrittenDependencies.{dependencies_way, target_way};
+ghost use Rattle.cargo_toml_write.specs.WrittenDependencies.{DependencyAgain};
+ghost use Rattle.cargo_toml_write.specs.WrittenLints.{lint_way, lint_groups_way, IsApart};
+ghost use Rattle.cargo_toml_write.specs.WrittenManifests.{manifest_way};
+ghost use Rattle.cargo_toml_write.specs.WrittenPackages.{package_way, IsVersionAgain};
 ghost use Rattle.cargo_toml_write.specs.WrittenProfiles.{profile_way, profiles_way};
 ghost use Rattle.cargo_toml_write.specs.WrittenWorkspaces.{workspace_way};
-ghost use Rattle.cargo_toml_write.specs.Writes.{HasTree};
+ghost use Rattle.cargo_toml_write.specs.Writes.{Exact, HasTree};
 
 use crate::write::ToValue;
 
-/// The dependencies that have a tree.
+/// The dependencies that hold no float.
 pub fn dependencies_without_floats()
-    ensures detail { (d : DetailMeaning) → HasTree detail_way d ↔ DetailHoldsNoFloat d }
-    ensures dependency { (d : DependencyMeaning) → HasTree dependency_way d
-        ↔ DependencyHoldsNoFloat d }
-    ensures target { (t : TargetMeaning) → HasTree target_way t ↔ TargetHoldsNoFloat t }
+    ensures detail { Exact detail_way DetailHoldsNoFloat }
+    ensures dependency { Exact dependency_way DependencyHoldsNoFloat }
+    ensures target { Exact target_way TargetHoldsNoFloat }
 {}
 
-/// The requirements and details that were read of a dependency are such as are read again.
+/// The profiles and lints that hold no float.
+pub fn tables_without_floats()
+    ensures profile { Exact profile_way ProfileHoldsNoFloat }
+    ensures profiles { Exact profiles_way ProfilesHoldsNoFloat }
+    ensures lint { Exact lint_way LintHoldsNoFloat }
+{}
+
+/// The packages, workspaces and manifests that hold no float, where metadata are a free value.
+pub fn manifests_without_floats()
+    ensures packages { Exact (package_way free_way) (PackageHoldsNoFloat HoldsNoFloat) }
+    ensures workspaces { Exact (workspace_way free_way) (WorkspaceHoldsNoFloat HoldsNoFloat) }
+    ensures manifests { Exact (manifest_way free_way) (ManifestHoldsNoFloat HoldsNoFloat) }
+{}
+
+/// The same, where metadata are of any type: each has to have a tree.
+pub fn manifests_of_any_metadata<Metadata: ToValue>()
+    ensures packages { Exact (package_way Metadata.way)
+        (PackageHoldsNoFloat (HasTree Metadata.way)) }
+    ensures workspaces { Exact (workspace_way Metadata.way)
+        (WorkspaceHoldsNoFloat (HasTree Metadata.way)) }
+    ensures manifests { Exact (manifest_way Metadata.way)
+        (ManifestHoldsNoFloat (HasTree Metadata.way)) }
+{}
+
+/// The requirements and details that were read of a dependency are such as are read again, and so
+/// is a version that a text says.
 pub fn read_dependencies_are_told()
     ensures requirements { (d : Data) (r : List Held) → dependency_of d ≡ Some (simple r)
         → DependencyAgain (simple r) }
     ensures details { (d : Data) (x : DetailMeaning) → dependency_of d ≡ Some (detailed x)
         → DependencyAgain (detailed x) }
+    ensures versions { (text : List ℕ) (v : Parts) → version_parts text ≡ Ok v
+        → IsVersionAgain v }
 {}
 
-/// The profiles and lints that have a tree.
-pub fn tables_without_floats()
-    ensures profile { (p : ProfileMeaning) → HasTree profile_way p ↔ ProfileHoldsNoFloat p }
-    ensures profiles { (p : ProfilesMeaning) → HasTree profiles_way p ↔ ProfilesHoldsNoFloat p }
-    ensures lint { (l : LintMeaning) → HasTree lint_way l ↔ LintHoldsNoFloat l }
+/// Lists and maps of what is read again are read again; so are tables of dependencies, and the
+/// lints of each tool.
+pub fn collections_are_read_again<T: ToValue>()
+    ensures lists { (reads : Data → Option T.Meaning)
+        → ((x : T.Meaning) (d : Data) → T.way.trees x d → reads d ≡ Some x)
+        → (xs : List T.Meaning) (d : Data) → (list_way T.way).trees xs d
+        → array_of reads d ≡ Some xs }
+    ensures maps { (reads : Data → Option T.Meaning)
+        → ((x : T.Meaning) (d : Data) → T.way.trees x d → reads d ≡ Some x)
+        → (es : List (List ℕ × T.Meaning)) (d : Data) → (map_way T.way).trees es d
+        → map_of reads d ≡ Some es }
+    ensures dependencies { (es : List (List ℕ × DependencyMeaning))
+        → EachValue (λ x. DependencyAgain (reread_dependency x)) es
+        → (d : Data) → dependencies_way.trees es d
+        → map_of dependency_of d ≡ Some (each_value reread_dependency es) }
+    ensures lints { (groups : List (List ℕ × List (List ℕ × LintMeaning)))
+        → EachValue (EachValue IsApart) groups → (d : Data) → lint_groups_way.trees groups d
+        → map_of (map_of lint_of) d ≡ Some groups }
 {}
 
-/// The packages, workspaces and manifests that have a tree, where metadata are a free value.
-pub fn manifests_without_floats()
-    ensures packages { (p : PackageMeaning Data) → HasTree (package_way free_way) p
-        ↔ PackageHoldsNoFloat HoldsNoFloat p }
-    ensures workspaces { (w : WorkspaceMeaning Data) → HasTree (workspace_way free_way) w
-        ↔ WorkspaceHoldsNoFloat HoldsNoFloat w }
-    ensures manifests { (m : ManifestMeaning Data) → HasTree (manifest_way free_way) m
-        ↔ ManifestHoldsNoFloat HoldsNoFloat m }
-{}
-
-/// The same, where metadata are of any type: each has to have a tree.
-pub fn manifests_of_any_metadata<Metadata: ToValue>()
-    ensures packages { (p : PackageMeaning Metadata.Meaning) → HasTree (package_way Metadata.way) p
-        ↔ PackageHoldsNoFloat (HasTree Metadata.way) p }
-    ensures workspaces { (w : WorkspaceMeaning Metadata.Meaning)
-        → HasTree (workspace_way Metadata.way) w ↔ WorkspaceHoldsNoFloat (HasTree Metadata.way) w }
-    ensures manifests { (m : ManifestMeaning Metadata.Meaning)
-        → HasTree (manifest_way Metadata.way) m ↔ ManifestHoldsNoFloat (HasTree Metadata.way) m }
-{}
-
-/// A manifest that was read, of a tree or of a document, with metadata as a free value, has a tree:
-/// it holds no float, since what it was read of holds none.
+/// A manifest that was read, of a tree or of a document, with metadata as a free value, is never
+/// refused, since it holds no float: what it was read of holds none.
 pub fn read_manifests_are_written()
     ensures no_float { (d : Data) (m : ManifestMeaning Data)
         → without_floats (manifest_reads any_tree) d ≡ Some m
@@ -88,11 +108,14 @@ pub fn read_manifests_are_written()
         → ManifestHoldsNoFloat (HasTree free_way) m }
 {}
 
-/// The features of a manifest that was read, with metadata as a free value, are such as are read
-/// again: each detail is of one of them, and says something.
-pub fn read_features_are_told()
+/// A manifest that was read, with metadata as a free value, is told, so that it is read again from
+/// what is written of it. Then it is as it was, unless a dependency says `workspace = false`.
+pub fn read_manifests_are_told()
     ensures of_tree { (d : Data) (m : ManifestMeaning Data)
-        → without_floats (manifest_reads any_tree) d ≡ Some m → AreTold (all_features m) }
+        → without_floats (manifest_reads any_tree) d ≡ Some m → IsTold m }
     ensures of_document { (document : Option Members) (m : ManifestMeaning Data)
-        → document_reads (manifest_reads any_tree) document ≡ Some m → AreTold (all_features m) }
+        → document_reads (manifest_reads any_tree) document ≡ Some m → IsTold m }
+    ensures stays { (document : Option Members) (m : ManifestMeaning Data)
+        → document_reads (manifest_reads any_tree) document ≡ Some m
+        → ManifestMeets says_true m → reread m ≡ m }
 {}

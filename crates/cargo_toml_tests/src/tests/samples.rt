@@ -1,4 +1,4 @@
-//! What docs/CALLERS.md shows, as it stands there.
+//! What docs/USING.md shows, as it stands there.
 mod archive;
 mod counting;
 mod docs_rs;

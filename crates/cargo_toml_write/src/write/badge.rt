@@ -1,5 +1,6 @@
 //! Writers of badges.
 ghost use Rattle.std.specs.Prelude.{◌≡◌, IfErr};
+ghost use Rattle.cargo_toml_manifest.specs.Manifests.{badges_reads};
 ghost use Rattle.cargo_toml_parts.specs.declared.error.Error.{Error};
 ghost use Rattle.cargo_toml_tables.specs.declared.badge.MaintenanceStatus.{MaintenanceStatus};
 ghost use Rattle.cargo_toml_tables.specs.Badges.{BadgeMeaning, BadgesMeaning, badge_meaning};
@@ -72,6 +73,7 @@ impl ToValue for Badges {
 
     fn to_value(&self, alloc: Global) -> Result<Value, Error>
         ensures written { IsWriting badges_way (badges_meaning self.now) result }
+        ensures read_again { IsReadAgain badges_reads (badges_meaning self.now) result }
         ensures memory { IfErr result (λ e. e ≡ Error.Memory) }
     {
         let mut writing = Writing::new(alloc);

@@ -6,7 +6,7 @@ ghost use Rattle.cargo_toml_parts.specs.declared.inheritable.Inheritable.{Inheri
 ghost use Rattle.cargo_toml_parts.specs.Inherits.{inheritable_map};
 ghost use Rattle.cargo_toml_parts.specs.Reads.{map_meaning};
 ghost use Rattle.cargo_toml_write.specs.Floatless.{inheritable_floatless, list_floatless};
-ghost use Rattle.cargo_toml_write.specs.Floatless.{table_floatless};
+ghost use Rattle.cargo_toml_write.specs.Floatless.{map_floatless};
 ghost use Rattle.cargo_toml_write.specs.Pairs.{AreGathered, put_all};
 ghost use Rattle.cargo_toml_write.specs.Ways.{entry_rows, list_way, map_way};
 ghost use Rattle.cargo_toml_write.specs.Ways.{inheritable_way, exactly, inherited_tree};
@@ -73,9 +73,10 @@ impl<T: ToValue> ToValue for BTreeMap<String, T> {
 
     ghost way = { map_way T.way };
 
-    ghost floatless = { table_floatless (entry_rows T.way) };
+    ghost floatless = { map_floatless T.way };
 
     fn to_value(&self, alloc: Global) -> Result<Value, Error> {
+        let _ascend = self.len();
         let pairs = pairs_of(alloc, self)?;
         let table = table_of(alloc, pairs)?;
         Ok(Value::Table(table))

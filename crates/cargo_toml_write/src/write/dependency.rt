@@ -5,14 +5,16 @@ ghost use Rattle.cargo_toml_dependencies.specs.Dependencies.{DependencyMeaning, 
 ghost use Rattle.cargo_toml_dependencies.specs.Dependencies.{detail_meaning, dependency_meaning};
 ghost use Rattle.cargo_toml_dependencies.specs.Dependencies.{dependency_of};
 ghost use Rattle.cargo_toml_dependencies.specs.Targets.{TargetMeaning, target_meaning};
+ghost use Rattle.cargo_toml_manifest.specs.Manifests.{target_reads};
 ghost use Rattle.cargo_toml_parts.specs.declared.error.Error.{Error};
-ghost use Rattle.cargo_toml_write.specs.Floatless.{dependency_floatless, table_floatless};
+ghost use Rattle.cargo_toml_write.specs.Floatless.{dependency_floatless, detail_floatless, table_floatless};
 ghost use Rattle.cargo_toml_write.specs.NoFloats.{DetailHoldsNoFloat, DependencyHoldsNoFloat};
 ghost use Rattle.cargo_toml_write.specs.NoFloats.{TargetHoldsNoFloat};
+ghost use Rattle.cargo_toml_write.specs.Asked.{TargetMeets};
+ghost use Rattle.cargo_toml_write.specs.Reread.{reread_dependency, reread_target};
 ghost use Rattle.cargo_toml_write.specs.WrittenDependencies.{inherited_way, detail_way};
 ghost use Rattle.cargo_toml_write.specs.WrittenDependencies.{dependency_way, target_way};
-ghost use Rattle.cargo_toml_write.specs.WrittenDependencies.{inherited_rows, detail_rows};
-ghost use Rattle.cargo_toml_write.specs.WrittenDependencies.{target_rows};
+ghost use Rattle.cargo_toml_write.specs.WrittenDependencies.{inherited_rows, target_rows};
 ghost use Rattle.cargo_toml_write.specs.WrittenDependencies.{inherited_reads, detail_reads};
 ghost use Rattle.cargo_toml_write.specs.WrittenDependencies.{DetailAgain, DependencyAgain};
 ghost use Rattle.cargo_toml_write.specs.Writes.{IsWriting, IsReadAgain};
@@ -55,7 +57,7 @@ impl ToValue for DependencyDetail {
 
     ghost way = { detail_way };
 
-    ghost floatless = { table_floatless detail_rows };
+    ghost floatless = { detail_floatless };
 
     fn to_value(&self, alloc: Global) -> Result<Value, Error>
         ensures written { IsWriting detail_way (detail_meaning self.now) result }
@@ -118,6 +120,9 @@ impl ToValue for Target {
 
     fn to_value(&self, alloc: Global) -> Result<Value, Error>
         ensures written { IsWriting target_way (target_meaning self.now) result }
+        ensures read_again { TargetMeets (λ d. DependencyAgain (reread_dependency d))
+            (target_meaning self.now)
+            → IsReadAgain target_reads (reread_target (target_meaning self.now)) result }
         ensures memory { TargetHoldsNoFloat (target_meaning self.now)
             → IfErr result (λ e. e ≡ Error.Memory) }
     {

@@ -1,10 +1,8 @@
 //! The writer of features, each with its detail.
 ghost use Rattle.std.specs.Prelude.{◌≡◌, map, option_copied, option_map, string_bytes};
-ghost use Rattle.std.specs.BTreeMap.{IsOrdered};
-ghost use Rattle.std.specs.String.{string_cmp};
 ghost use Rattle.cargo_toml_dependencies.specs.Details.{detail_of};
 ghost use Rattle.cargo_toml_dependencies.specs.Features.{FeaturesMeaning, features_meaning};
-ghost use Rattle.cargo_toml_write.specs.Floatless.{table_floatless};
+ghost use Rattle.cargo_toml_write.specs.Floatless.{features_floatless};
 ghost use Rattle.cargo_toml_write.specs.Pairs.{AreGathered};
 ghost use Rattle.cargo_toml_write.specs.Ways.{entry_rows};
 ghost use Rattle.cargo_toml_write.specs.Writes.{IsWriting};
@@ -72,15 +70,11 @@ pub(crate) struct Features<'m> {
 }
 
 impl<'m> Features<'m> {
-    // The two maps. Their keys ascend, as `len` says of every map.
+    // The two maps.
     pub(crate) fn of(lists: &'m FeatureSet, details: &'m FeatureDetails) -> Features<'m>
         ensures lists { result.lists.now ≡ lists.now }
         ensures details { result.details.now ≡ details.now }
-        ensures lists_ascend { IsOrdered string_cmp lists.now }
-        ensures details_ascend { IsOrdered string_cmp details.now }
     {
-        let _lists_ascend = lists.len();
-        let _details_ascend = details.len();
         Features { lists, details }
     }
 }
@@ -92,10 +86,11 @@ impl ToValue for Features<'_> {
 
     ghost way = { features_way };
 
-    ghost floatless = { λ fs d tree.
-        table_floatless (entry_rows feature_way) (told_features fs) d tree };
+    ghost floatless = { features_floatless };
 
     fn to_value(&self, alloc: Global) -> Result<Value, Error> {
+        let _lists_ascend = self.lists.len();
+        let _details_ascend = self.details.len();
         let pairs = pairs_of(alloc, self.lists, self.details)?;
         let table = table_of(alloc, pairs)?;
         Ok(Value::Table(table))

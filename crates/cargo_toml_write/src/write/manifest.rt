@@ -1,12 +1,15 @@
 //! The writer of manifests.
 ghost use Rattle.std.specs.Prelude.{◌≡◌, IfErr};
 ghost use Rattle.cargo_toml_manifest.specs.Manifests.{ManifestMeaning, manifest_meaning};
+ghost use Rattle.cargo_toml_manifest.specs.Manifests.{manifest_reads};
 ghost use Rattle.cargo_toml_parts.specs.declared.error.Error.{Error};
 ghost use Rattle.cargo_toml_write.specs.Floatless.{table_floatless};
 ghost use Rattle.cargo_toml_write.specs.NoFloats.{ManifestHoldsNoFloat};
+ghost use Rattle.cargo_toml_write.specs.Reread.{IsTold, reread};
 ghost use Rattle.cargo_toml_write.specs.WrittenFeatures.{AreTold, features_in};
 ghost use Rattle.cargo_toml_write.specs.WrittenManifests.{all_features, manifest_rows};
 ghost use Rattle.cargo_toml_write.specs.WrittenManifests.{manifest_way};
+ghost use Rattle.cargo_toml_write.specs.WrittenPackages.{AreReadAgain};
 ghost use Rattle.cargo_toml_write.specs.Writes.{HasTree, IsReadAgain, IsWriting};
 
 use crate::write::ToValue;
@@ -19,6 +22,10 @@ use toml::Value;
 
 /// A field that holds what a missing key stands for is left out: the default manifest is written
 /// as the empty table.
+///
+/// A manifest that is told, as each that was read, is read again as `reread` says, where its
+/// metadata are read again: as it was, but for dependencies that say `workspace = false`, the mark
+/// of those that were inherited, and the rule of version 0.0.0.
 impl<Metadata: FromValue + ToValue> ToValue for Manifest<Metadata> {
     ghost Meaning = { ManifestMeaning Metadata.ToValue.Meaning };
 
@@ -31,6 +38,11 @@ impl<Metadata: FromValue + ToValue> ToValue for Manifest<Metadata> {
     fn to_value(&self, alloc: Global) -> Result<Value, Error>
         ensures written { IsWriting (manifest_way Metadata.way)
             (manifest_meaning Metadata.ToValue.meaning self.now) result }
+        ensures read_again { IsTold (manifest_meaning Metadata.FromValue.meaning self.now)
+            → AreReadAgain Metadata.way Metadata.ToValue.meaning Metadata.FromValue.meaning
+            Metadata.from_tree
+            → IsReadAgain (manifest_reads Metadata.from_tree)
+            (reread (manifest_meaning Metadata.FromValue.meaning self.now)) result }
         ensures features_again { AreTold
             (all_features (manifest_meaning Metadata.ToValue.meaning self.now))
             → IsReadAgain features_in

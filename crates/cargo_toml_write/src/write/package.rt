@@ -5,6 +5,7 @@ ghost use Rattle.toml.specs.View.{view};
 ghost use Rattle.cargo_toml_manifest.specs.Texts.{any_tree};
 ghost use Rattle.cargo_toml_package.specs.Packages.{PackageMeaning, package_meaning, package_reads};
 ghost use Rattle.cargo_toml_package.specs.Templates.{TemplateMeaning, template_meaning};
+ghost use Rattle.cargo_toml_package.specs.Templates.{template_reads};
 ghost use Rattle.cargo_toml_parts.specs.declared.error.Error.{Error};
 ghost use Rattle.cargo_toml_parts.specs.Inherits.{inheritable_map};
 ghost use Rattle.cargo_toml_write.specs.Floatless.{table_floatless};
@@ -12,7 +13,8 @@ ghost use Rattle.cargo_toml_write.specs.NoFloats.{PackageHoldsNoFloat};
 ghost use Rattle.cargo_toml_write.specs.Ways.{free_way};
 ghost use Rattle.cargo_toml_write.specs.WrittenPackages.{package_rows};
 ghost use Rattle.cargo_toml_write.specs.WrittenPackages.{package_way, VersionAgain, MetadataAgain};
-ghost use Rattle.cargo_toml_write.specs.WrittenPackages.{template_rows, template_way};
+ghost use Rattle.cargo_toml_write.specs.WrittenPackages.{template_rows, template_way, TemplateAgain};
+ghost use Rattle.cargo_toml_write.specs.WrittenPackages.{AreReadAgain};
 ghost use Rattle.cargo_toml_write.specs.Writes.{IsWriting, IsReadAgain, HasTree};
 
 use crate::write::ToValue;
@@ -79,9 +81,10 @@ impl<Metadata: FromValue + ToValue> ToValue for Package<Metadata> {
     }
 }
 
-/// A law: metadata of the type `Value` are read again as they were.
+/// A law: metadata of the type `Value` are read again as they were, any of them and these.
 pub fn value_metadata(metadata: &Option<Value>)
-    ensures { MetadataAgain free_way view view any_tree metadata.now }
+    ensures any { AreReadAgain free_way view view any_tree }
+    ensures these { MetadataAgain free_way view view any_tree metadata.now }
 {}
 
 /// A list that is there is written, an empty one too.
@@ -96,6 +99,8 @@ impl ToValue for PackageTemplate {
 
     fn to_value(&self, alloc: Global) -> Result<Value, Error>
         ensures written { IsWriting template_way (template_meaning self.now) result }
+        ensures read_again { TemplateAgain (template_meaning self.now)
+            → IsReadAgain template_reads (template_meaning self.now) result }
         ensures memory { IfErr result (λ e. e ≡ Error.Memory) }
     {
         let mut writing = Writing::new(alloc);

@@ -1,15 +1,17 @@
 //! Writers of texts, truth values, numbers, versions and free values.
-ghost use Rattle.std.specs.Prelude.{◌≡◌, ℕ, pos, List, Bool, IfErr, string_bytes, refl};
+ghost use Rattle.std.specs.Prelude.{◌≡◌, ℕ, ℤ, pos, List, Bool, Some, IfErr, string_bytes, refl};
 ghost use Rattle.semver.specs.Identifiers.{parts_of, parts_text};
 ghost use Rattle.semver.specs.Parse.{Held};
 ghost use Rattle.toml.specs.Data.{Data, boolean, integer};
 ghost use Rattle.toml.specs.View.{view};
 ghost use Rattle.cargo_toml_parts.specs.declared.error.Error.{Error};
 ghost use Rattle.cargo_toml_parts.specs.Versions.{Parts, requirement_meaning, requirement_of};
+ghost use Rattle.cargo_toml_parts.specs.Numbers.{fits_u16, fits_i8};
 ghost use Rattle.cargo_toml_write.specs.Floatless.{exactly_floatless, free_floatless};
 ghost use Rattle.cargo_toml_write.specs.Floatless.{requirement_floatless, word_floatless};
+ghost use Rattle.cargo_toml_write.specs.Floatless.{telling_floatless};
 ghost use Rattle.cargo_toml_write.specs.Requirements.{CanBeRead};
-ghost use Rattle.cargo_toml_write.specs.Ways.{text_way, truth_way, number_way};
+ghost use Rattle.cargo_toml_write.specs.Ways.{exactly, text_way, truth_way, number_way, small_way};
 ghost use Rattle.cargo_toml_write.specs.Ways.{version_way, requirement_way, free_way};
 ghost use Rattle.cargo_toml_write.specs.Writes.{IsReadAgain, IsWriting};
 
@@ -41,7 +43,23 @@ impl ToValue for u16 {
 
     ghost way = { number_way };
 
-    ghost floatless = { exactly_floatless (λ n. integer (pos n)) (λ n. refl) };
+    ghost floatless = { telling_floatless (λ n. fits_u16 (pos n) ≡ Some n)
+        (exactly (λ n. integer (pos n))) (exactly_floatless (λ n. integer (pos n)) (λ n. refl)) };
+
+    fn to_value(&self, _alloc: Global) -> Result<Value, Error> {
+        Ok(Value::Integer(i64::from(*self)))
+    }
+}
+
+impl ToValue for i8 {
+    ghost Meaning = { ℤ };
+
+    ghost meaning = { λ z. z };
+
+    ghost way = { small_way };
+
+    ghost floatless = { telling_floatless (λ z. fits_i8 z ≡ Some z) (exactly integer)
+        (exactly_floatless integer (λ z. refl)) };
 
     fn to_value(&self, _alloc: Global) -> Result<Value, Error> {
         Ok(Value::Integer(i64::from(*self)))

@@ -1,13 +1,14 @@
 //! Writers of profiles.
 ghost use Rattle.std.specs.Prelude.{◌≡◌, IfErr};
+ghost use Rattle.cargo_toml_manifest.specs.Manifests.{profiles_reads};
 ghost use Rattle.cargo_toml_parts.specs.declared.error.Error.{Error};
 ghost use Rattle.cargo_toml_tables.specs.Profiles.{ProfileMeaning, ProfilesMeaning};
-ghost use Rattle.cargo_toml_tables.specs.Profiles.{profile_meaning, profiles_meaning};
-ghost use Rattle.cargo_toml_write.specs.Floatless.{table_floatless};
+ghost use Rattle.cargo_toml_tables.specs.Profiles.{profile_meaning, profile_reads, profiles_meaning};
+ghost use Rattle.cargo_toml_write.specs.Floatless.{profiles_floatless, table_floatless};
 ghost use Rattle.cargo_toml_write.specs.NoFloats.{ProfileHoldsNoFloat, ProfilesHoldsNoFloat};
-ghost use Rattle.cargo_toml_write.specs.Writes.{IsWriting};
+ghost use Rattle.cargo_toml_write.specs.Writes.{IsWriting, IsReadAgain};
 ghost use Rattle.cargo_toml_write.specs.WrittenProfiles.{profile_rows, profile_way};
-ghost use Rattle.cargo_toml_write.specs.WrittenProfiles.{profiles_rows, profiles_way};
+ghost use Rattle.cargo_toml_write.specs.WrittenProfiles.{profiles_way, AreApart};
 
 use crate::write::writing::Writing;
 use crate::write::{LeftOut, ToValue};
@@ -27,6 +28,7 @@ impl ToValue for Profile {
 
     fn to_value(&self, alloc: Global) -> Result<Value, Error>
         ensures written { IsWriting profile_way (profile_meaning self.now) result }
+        ensures read_again { IsReadAgain profile_reads (profile_meaning self.now) result }
         ensures memory { ProfileHoldsNoFloat (profile_meaning self.now)
             → IfErr result (λ e. e ≡ Error.Memory) }
     {
@@ -58,10 +60,12 @@ impl ToValue for Profiles {
 
     ghost way = { profiles_way };
 
-    ghost floatless = { table_floatless profiles_rows };
+    ghost floatless = { profiles_floatless };
 
     fn to_value(&self, alloc: Global) -> Result<Value, Error>
         ensures written { IsWriting profiles_way (profiles_meaning self.now) result }
+        ensures read_again { AreApart (profiles_meaning self.now)
+            → IsReadAgain profiles_reads (profiles_meaning self.now) result }
         ensures memory { ProfilesHoldsNoFloat (profiles_meaning self.now)
             → IfErr result (λ e. e ≡ Error.Memory) }
     {

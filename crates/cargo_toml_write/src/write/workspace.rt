@@ -1,11 +1,16 @@
 //! The writer of workspaces.
-ghost use Rattle.std.specs.Prelude.{◌≡◌, IfErr};
+ghost use Rattle.std.specs.Prelude.{◌≡◌, IfErr, Option};
+ghost use Rattle.toml.specs.Data.{Data};
 ghost use Rattle.cargo_toml_workspace.specs.Workspaces.{WorkspaceMeaning, workspace_meaning};
+ghost use Rattle.cargo_toml_workspace.specs.Workspaces.{workspace_reads};
 ghost use Rattle.cargo_toml_parts.specs.declared.error.Error.{Error};
 ghost use Rattle.cargo_toml_write.specs.Floatless.{table_floatless};
+ghost use Rattle.cargo_toml_write.specs.Asked.{WorkspaceMeets};
 ghost use Rattle.cargo_toml_write.specs.NoFloats.{WorkspaceHoldsNoFloat};
+ghost use Rattle.cargo_toml_write.specs.Reread.{reread_workspace, told};
+ghost use Rattle.cargo_toml_write.specs.WrittenPackages.{AreReadAgain};
 ghost use Rattle.cargo_toml_write.specs.WrittenWorkspaces.{workspace_rows, workspace_way};
-ghost use Rattle.cargo_toml_write.specs.Writes.{HasTree, IsWriting};
+ghost use Rattle.cargo_toml_write.specs.Writes.{HasTree, IsReadAgain, IsWriting};
 
 use crate::write::ToValue;
 use crate::write::writing::Writing;
@@ -14,7 +19,8 @@ use cargo_toml_workspace::Workspace;
 use std::alloc::Global;
 use toml::Value;
 
-/// The members are written even where there are none.
+/// The members are written even where there are none. A workspace that is told, as each that was
+/// read, is read again as `reread_workspace` says, by any reader that reads its metadata again.
 impl<Metadata: ToValue> ToValue for Workspace<Metadata> {
     ghost Meaning = { WorkspaceMeaning Metadata.Meaning };
 
@@ -27,6 +33,11 @@ impl<Metadata: ToValue> ToValue for Workspace<Metadata> {
     fn to_value(&self, alloc: Global) -> Result<Value, Error>
         ensures written { IsWriting (workspace_way Metadata.way)
             (workspace_meaning Metadata.meaning self.now) result }
+        ensures read_again { (reads : Data → Option Metadata.Meaning)
+            → AreReadAgain Metadata.way Metadata.meaning Metadata.meaning reads
+            → WorkspaceMeets told (workspace_meaning Metadata.meaning self.now)
+            → IsReadAgain (workspace_reads reads)
+            (reread_workspace (workspace_meaning Metadata.meaning self.now)) result }
         ensures memory { WorkspaceHoldsNoFloat (HasTree Metadata.way)
             (workspace_meaning Metadata.meaning self.now)
             → IfErr result (λ e. e ≡ Error.Memory) }

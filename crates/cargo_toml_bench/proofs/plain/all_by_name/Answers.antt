@@ -1,5 +1,5 @@
 use Rattle.std.proofs.Common.{ℕ, List, Bool, true, sym, subst, ◌∙◌}
-use Rattle.cargo_toml_walk.specs.Numbers.{IsWanted}
+use Rattle.cargo_toml_resolve.specs.Numbers.{IsWanted}
 use Rattle.cargo_toml_bench.proofs.Resolving.{none_stands}
 use Rattle.cargo_toml_bench.proofs.plain.all_by_name.Goals as goal
 

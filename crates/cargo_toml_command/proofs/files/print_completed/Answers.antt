@@ -1,8 +1,15 @@
-use Rattle.std.proofs.Common.{inr, subst, sym, string_bytes}
+use Rattle.std.proofs.Common.{ℕ, List, Option, Some, None, inr, subst, sym, ◌∙◌, string_bytes}
+use Rattle.std.specs.Io.KnownBytes.{Appends, Keeps}
 use Rattle.std.proofs.lemmas.Result.{err_from_is_err_and}
 use Rattle.cargo_toml_command.specs.Printed.{IsSpelled}
-use Rattle.cargo_toml_command.proofs.FileFaults.{still_appended}
 use Rattle.cargo_toml_command.proofs.files.print_completed.Goals as goal
+
+-- what was appended still is, once what is known stays
+still_appended : (old mid new : Option (List ℕ)) (bytes : List ℕ) → Appends old mid bytes → Keeps mid new → Appends old new bytes
+still_appended None mid new bytes written kept = tt
+still_appended (Some xs) None new bytes written kept = absurd written
+still_appended (Some xs) (Some ys) None bytes written kept = absurd kept
+still_appended (Some xs) (Some ys) (Some zs) bytes written kept = kept ∙ written
 
 pub returns-in_err-manifest-clause-refused : goal.returns-in_err-manifest-clause-refused
 returns-in_err-manifest-clause-refused g c =

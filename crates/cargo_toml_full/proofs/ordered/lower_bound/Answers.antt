@@ -1,5 +1,8 @@
-use Rattle.std.proofs.Common.{◌<◌, ◌-◌, ◌+◌, ◌/◌, length, sym, arith, ◌∙◌}
-use Rattle.cargo_toml_full.proofs.Placed.{below_through}
+use Rattle.std.proofs.Common.{◌<◌, ◌-◌, length, sym, rules, arith, ◌∙◌}
+use Rattle.std.proofs.lemmas.Fn.{always_returns_same}
+use Rattle.cargo_toml_features.specs.declared.features.Feature.{Feature}
+use Rattle.cargo_toml_graph.specs.Admitted.{is_below}
+use Rattle.cargo_toml_full.proofs.Placed.{below_through, bound_by_point}
 use Rattle.cargo_toml_full.proofs.ordered.lower_bound.Goals as goal
 
 pub returns-then-is_below : goal.returns-then-is_below
@@ -13,17 +16,8 @@ returns-then-is_below c =
       above = λ past. absurd (omega (arith, past));
     }
 
-pub loop-low-preserved-then-is_below-2 : goal.loop-low-preserved-then-is_below-2
-loop-low-preserved-then-is_below-2 c =
-    let vs = c.args.features.now in
-    let low = c.loop-low.low in
-    let high = c.loop-low.high in
-    let test = c.loop-low-test.true in
-    let within = c.loop-low.invariant.within in
-    let inside : low + (high - low) / 2 < length vs = omega (arith, test, within) in
-    record {
-      ordered = omega (arith, test);
-      within = within;
-      below = below_through vs c.args.name.now (low + (high - low) / 2) c.requires inside (sym c.is_below-in-loop-low.ensures ∙ c.if-is_below-2.true);
-      above = c.loop-low.invariant.above;
-    }
+pub returns : goal.returns
+returns c = bound_by_point c.args.features.now c.args.name.now c.partition_point.result c.requires
+    c.partition_point.ensures.bound
+    (c.partition_point.ensures.partitioned (λ (v : Feature). is_below v.key.now c.args.name.now)
+    (always_returns_same _ _ _ (λ a r f k. search rules)))

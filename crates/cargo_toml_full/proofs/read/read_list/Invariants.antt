@@ -1,12 +1,12 @@
 use Rattle.std.proofs.Common.{map, take, string_bytes}
 use Rattle.cargo_toml_graph.specs.Action.{item_of}
 use Rattle.cargo_toml_full.specs.Acting.{Notes}
-use Rattle.cargo_toml_full.specs.ReadFeature.{joined_in, IsGathered}
+use Rattle.cargo_toml_full.specs.ReadFeature.{joined_in, IsReadFeature}
 use Rattle.cargo_toml_features.specs.Marks.{detail_in}
 use Rattle.cargo_toml_full.proofs.read.read_list.Given as goal
 
 abbrev pub invariant-loop-text : goal.invariant-loop-text
 invariant-loop-text l = record {
-  gathered : IsGathered l.listing.name.now (detail_in l.listing.detail) (map item_of (map string_bytes (take l.text-index l.listing.actions.now))) (map (λ t. t.now) l.named.items) l.feature;
+  listed : IsReadFeature l.listing.name.now (detail_in l.listing.detail) (map item_of (map string_bytes (take l.text-index l.listing.actions.now))) l.feature;
   noted : Notes (joined_in (map item_of (map string_bytes (take l.text-index l.listing.actions.now)))) l.initial.acting l.acting;
 }

@@ -2,12 +2,12 @@ use Rattle.std.proofs.Common.{◌≡◌, List}
 use Rattle.cargo_toml_graph.specs.Action.{Text}
 use Rattle.cargo_toml_features.specs.InOrder.{names_of}
 use Rattle.cargo_toml_features.specs.Recorded.{Entry}
-use Rattle.cargo_toml_full.specs.Redundant.{IsRecordOf, Thinned}
+use Rattle.cargo_toml_full.specs.Redundant.{IsSaidOf, Thinned}
 use Rattle.cargo_toml_full.proofs.PlaceByPlace.{TurnedUpTo}
 use Rattle.cargo_toml_full.proofs.redundant.drop_redundant.Given as goal
 
 abbrev pub invariant-loop-feature : goal.invariant-loop-feature
 invariant-loop-feature l = record {
   names : names_of l.features ≡ names_of l.initial.features;
-  thinned : (entries : Text → List Entry) → IsRecordOf l.dependencies entries → TurnedUpTo (Thinned entries) l.feature-index l.initial.features l.features;
+  thinned : (entries : Text → List Entry) → ((k : Text) → IsSaidOf l.dependencies l.redundant k (entries k)) → TurnedUpTo (Thinned entries) l.feature-index l.initial.features l.features;
 }

@@ -27,4 +27,4 @@ returns-clause-required c =
     rw c.place.ensures (required_at key c.args.bin.now vs _ v w (feature_here vs i c.index-features-place.result c.requires.in_order c.requires.at)
     (λ q. feature_set vs i w c.requires.in_order c.requires.at (sym (get_or-map (λ (x : Feature). x.key.now) vs i c.index-features-place.result [] c.requires.at)) q
     ∙ ap (λ t. cond t (Some w) (feature_at vs q)) (bytes_eq_sym q key))
-    (record { key = refl; names = refl; actions = refl; enabled_by = refl; marks = refl; bins = ap (map (λ (b : Bor Text). b.now)) (rw c.place.ensures at c.in_ok-push.ensures.items) ∙ map-append (λ (b : Bor Text). b.now) _ _ }))
+    (record { same = refl; bins = ap (map (λ (b : Bor Text). b.now)) (rw c.place.ensures at c.in_ok-push.ensures.items) ∙ map-append (λ (b : Bor Text). b.now) _ _ }))

@@ -12,9 +12,9 @@ returns c =
     let details = named_details c.args.listings.now in
     let own = own_of (map bin_requirement c.args.requirements.now) in
     let mentions = c.in_ok-mentions.mentions in
-    let thinned = c.without_redundant-thinned.result.items in
+    let thinned = c.in_ok-thinned.thinned.items in
     let implied = c.in_ok-implied.implied.items in
     let last = c.in_ok-features.features.items in
     let deps = c.in_ok-dependencies.dependencies in
-    let told = all_told listed entries details own mentions thinned implied last deps c.in_ok-mentions.ensures.read c.in_ok-mentions.ensures.fresh c.without_redundant-thinned.ensures.thinned c.in_ok-implied.ensures.implied c.in_ok-features.ensures.required (c.in_ok-dependencies.ensures.recorded listed) in
+    let told = all_told listed entries details own mentions thinned implied last deps c.in_ok-mentions.ensures.read c.in_ok-mentions.ensures.fresh c.in_ok-thinned.ensures.thinned c.in_ok-implied.ensures.implied c.in_ok-features.ensures.required (c.in_ok-dependencies.ensures.recorded listed) in
     record { in_order = c.in_ok-features.ensures.in_order; features = told.features; no_enablers = told.no_enablers; dependencies = told.dependencies; targets = told.targets }

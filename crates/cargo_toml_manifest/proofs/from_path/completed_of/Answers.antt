@@ -1,27 +1,22 @@
+use Rattle.std.proofs.Common.{inr}
 use Rattle.std.proofs.lemmas.Result.{err_from_is_err_and}
-use Rattle.cargo_toml_manifest.specs.Manifests.{held, manifest_meaning, manifest_reads, ManifestRefuses}
-use Rattle.cargo_toml_manifest.proofs.PathFaults.{refused_of, some_from}
+use Rattle.cargo_toml_manifest.proofs.PathFaults.{some_from}
 use Rattle.cargo_toml_manifest.proofs.from_path.completed_of.Goals as goal
 
 pub returns-clause-given : goal.returns-clause-given
 returns-clause-given g c =
-    (c.in_ok-manifest.manifest, c.in_ok-manifest.ensures, c.in_ok-complete_from_path.ensures.completed.given)
+    (c.in_ok-manifest.manifest, (c.in_ok-manifest.ensures, c.in_ok-complete_from_path.ensures.completed.given))
 
 pub returns-clause-needs : goal.returns-clause-needs
 returns-clause-needs g c = c.in_ok-complete_from_path.ensures.completed.needs_nothing
 
 pub returns-clause-named : goal.returns-clause-named
-returns-clause-named g c = some_from _ c.in_ok-complete_from_path.ensures.bad_path.0
+returns-clause-named g c = some_from _ c.in_ok-complete_from_path.ensures.bad_path
 
 pub returns-clause-filled : goal.returns-clause-filled
 returns-clause-filled g c = c.in_ok-complete_from_path.ensures.completed.filled
 
 pub returns-in_err-complete_from_path-clause-refused : goal.returns-in_err-complete_from_path-clause-refused
 returns-in_err-complete_from_path-clause-refused g c =
-    let meaning = manifest_meaning g.Metadata.FromValue.meaning in
-    let tree = g.Metadata.FromValue.from_tree in
     let p = err_from_is_err_and c.from_residual-in_err-complete_from_path.result c.from_residual-in_err-complete_from_path.ensures.1 in
-    rw (p.1, p.2)
-    (refused_of c.args.path.now c.args.text.now meaning (manifest_reads tree) (ManifestRefuses tree g.Metadata.FromValue.from_refuses)
-    (λ _. held c.complete_from_path.new.self) c.in_ok-manifest.manifest _ c.in_ok-manifest.ensures
-    c.in_err-complete_from_path.ensures.outcome c.in_err-complete_from_path.ensures.bad_path c.in_err-complete_from_path.ensures.refused)
+    rw (p.1, p.2) (inr (c.in_ok-manifest.manifest, (c.in_ok-manifest.ensures, c.in_err-complete_from_path.ensures.refused)))

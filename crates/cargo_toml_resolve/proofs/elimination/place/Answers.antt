@@ -1,13 +1,15 @@
-use Rattle.std.proofs.Common.{◌≡◌, ◌<◌, ℕ, length, ap, refl, sym, subst, ◌∙◌, arith}
-use Rattle.cargo_toml_walk.specs.Numbers.{FindsRedirects}
+use Rattle.std.proofs.Common.{rules, ◌≡◌, ◌<◌, ℕ, length, ap, refl, sym, subst, ◌∙◌, arith}
+use Rattle.std.specs.Option.{ForSome}
+use Rattle.cargo_toml_resolve.specs.Dense.{AreTables}
+use Rattle.cargo_toml_resolve.specs.Numbers.{FindsRedirects}
 use Rattle.cargo_toml_resolve.specs.Passing.{bins_of, passed_below}
 use Rattle.cargo_toml_resolve.specs.Texts.{texts_now}
 use Rattle.cargo_toml_resolve.specs.Walking.{AreRedirects}
 use Rattle.cargo_toml_resolve.proofs.Placing.{bins_there, kept_there, left_there, named_alike_there, redirects_there}
 use Rattle.cargo_toml_resolve.proofs.elimination.place.Goals as goal
 
-pub find_redirects-requires-clause-within : goal.find_redirects-requires-clause-within
-find_redirects-requires-clause-within c =
+pub redirects-requires-clause-within : goal.redirects-requires-clause-within
+redirects-requires-clause-within c =
     let g = c.args.graph in
     let flags : length c.as_slice-is_removed.result.now ≡ length g.flags.items = ap length c.as_slice-is_removed.ensures.value in
     let vertices = g.features_count in
@@ -18,6 +20,17 @@ find_redirects-requires-clause-within c =
       edges_inside = g.edges_inside;
       labels_inside = λ a x i. subst (λ n. x < n) (sym (flags ∙ count)) (g.names_inside a x i);
     }
+
+pub keep_all-requires-clause-finder : goal.keep_all-requires-clause-finder
+keep_all-requires-clause-finder c = record { tables = c.in_ok-tables.ensures; room = search rules }
+
+pub redirects-requires-clause-room : goal.redirects-requires-clause-room
+redirects-requires-clause-room c = c.in_ok-keep_all.ensures.finder.room ∙ sym (ap length c.as_slice-is_removed.ensures.value)
+
+pub redirects-requires-clause-tables : goal.redirects-requires-clause-tables
+redirects-requires-clause-tables c =
+    let g = c.args.graph in
+    subst (λ f. ForSome c.keep_all.new.finder.tables (AreTables g.edges g.names f)) (sym c.as_slice-is_removed.ensures.value) c.in_ok-keep_all.ensures.finder.tables
 
 pub returns : goal.returns
 returns c =
@@ -59,7 +72,7 @@ invariant_of-result c =
     let names = g.names_count in
     let vertices = g.features_count in
     record {
-      once = g.once;
+      once = λ i j lt. g.once i j (let lt' = lt in omega (arith, lt', len, names));
       features_count = omega (arith, len, names, vertices);
       flags_count = g.flags_count;
       moved_count = found.count ∙ g.flags_count;

@@ -1,4 +1,4 @@
-use Rattle.std.proofs.Common.{rules, ◌≡◌, ◌<◌, [], length, Bor, ap, subst, ◌∙◌, arith}
+use Rattle.std.proofs.Common.{rules, ◌≡◌, ◌<◌, [], length, Bor, subst, arith}
 use Rattle.std.proofs.Math.ListN.{get_or-map}
 use Rattle.cargo_toml_graph.specs.Action.{Text}
 use Rattle.cargo_toml_resolve.proofs.Learning.{HaveLearnt, as_many, none_learnt, one_more_learnt}
@@ -13,9 +13,9 @@ loop-own-preserved c =
     let lt : c.loop-own.own < length keys = search rules in
     let blank : Bor Text = record { ref_ptr = (0, 0); now = [] } in
     one_more_learnt c.loop-own.own keys c.args.features.now.items c.loop-own.features.items c.enable_along.new.features.items
-    c.clear.new.self.items c.push_targets.new.row.items c.as_slice-in-loop-own.result.now c.index.result.now _ lt
-    c.requires.keys c.clear.ensures.items c.as_slice-in-loop-own.ensures.value c.index.ensures (get_or-map (λ (k : Bor Text). k.now) keys c.loop-own.own blank)
-    (rw c.at.ensures at c.in_ok-near.ensures) c.loop-own.invariant c.in_ok-enable_along.ensures
+    c.clear.new.self.items c.push_targets.new.row.items c.as_slice.result.now c.index.result.now _ lt
+    c.requires.keys c.clear.ensures.items c.as_slice.ensures.value c.index.ensures (get_or-map (λ (k : Bor Text). k.now) keys c.loop-own.own blank)
+    (rw c.at.ensures at c.in_ok-push_targets.ensures) c.loop-own.invariant c.in_ok-enable_along.ensures
 
 pub returns : goal.returns
 returns c =
@@ -26,9 +26,3 @@ returns c =
     let most = c.loop-own.auto.own-end in
     let all : c.loop-own.own ≡ length vs = omega (arith, end, most, long) in
     subst (λ n. HaveLearnt n vs c.loop-own.features.items) all c.loop-own.invariant
-
-pub learn_by_rows-requires-clause-len : goal.learn_by_rows-requires-clause-len
-learn_by_rows-requires-clause-len c = c.in_ok-edges.ensures.len ∙ ap length c.as_slice-then-name_many.ensures.value
-
-pub learn_by_rows-requires-clause-rows : goal.learn_by_rows-requires-clause-rows
-learn_by_rows-requires-clause-rows c = rw c.as_slice-then-name_many.ensures.value at c.in_ok-edges.ensures.rows

@@ -4,7 +4,7 @@ use Rattle.cargo_toml_resolve.proofs.NumberRows.{name_gained, names_gained}
 use Rattle.cargo_toml_resolve.proofs.enabling.push_names.Goals as goal
 
 pub loop-name-preserved : goal.loop-name-preserved
-loop-name-preserved c = name_gained c.args.keys.now c.args.own c.loop-name.yielded c.in-Some.name c.args.row.now.items c.loop-name.row.items c.push_target.new.row.items c.loop-name.invariant c.in_ok-near.ensures
+loop-name-preserved c = name_gained c.args.keys.now c.args.own c.loop-name.yielded c.in-Some.name c.args.row.now.items c.loop-name.row.items c.push_target.new.row.items c.loop-name.invariant c.in_ok-push_target.ensures
 
 pub returns : goal.returns
 returns c =

@@ -1,3 +1,4 @@
+use Rattle.std.proofs.Common.{length}
 use Rattle.cargo_toml_graph.specs.Reach.{Among}
 use Rattle.cargo_toml_features.specs.Places.{nth_text}
 use Rattle.cargo_toml_resolve.specs.Texts.{texts_now}
@@ -6,4 +7,4 @@ use Rattle.cargo_toml_resolve.specs.Numbering.{Gains}
 use Rattle.cargo_toml_resolve.proofs.enabling.push_names.Given as goal
 
 abbrev pub invariant-loop-name : goal.invariant-loop-name
-invariant-loop-name l = Gains l.keys l.own (λ x. Among (seen l.yielded) (nth_text (texts_now l.keys) x)) l.initial.row.items l.row.items
+invariant-loop-name l = Gains (length l.keys) l.own (λ x. Among (seen l.yielded) (nth_text (texts_now l.keys) x)) l.initial.row.items l.row.items

@@ -2,7 +2,7 @@ use Rattle.std.proofs.Common.{◌≡◌, ◌<◌, [], Bor, length, true, ap, rul
 use Rattle.std.proofs.lemmas.List.{get_or-map}
 use Rattle.cargo_toml_graph.specs.Action.{Text}
 use Rattle.cargo_toml_features.specs.Places.{nth_text}
-use Rattle.cargo_toml_walk.specs.Numbers.{IsWanted}
+use Rattle.cargo_toml_resolve.specs.Numbers.{IsWanted}
 use Rattle.cargo_toml_resolve.specs.Texts.{texts_now}
 use Rattle.cargo_toml_resolve.proofs.HashedRedirects.{HandsBelow, as_handed, none_handed, not_yet, one_handed, redirect_put, redirect_skipped, skips_handed}
 use Rattle.cargo_toml_resolve.proofs.hidden_map.hashed_redirects.Goals as goal
@@ -30,12 +30,13 @@ loop-r-preserved g c =
     let vs = c.args.features.now.items in
     let old = c.loop-r.invariant in
     let inside : r < length texts = let lt = c.loop-r-test.true in let e = c.len-r-end.ensures in let m = w.features_count in omega (arith, lt, e, m) in
+    let vertex : r < length w.redirects = let lt = c.loop-r-test.true in let e = c.len-r-end.ensures in omega (arith, lt, e) in
     elim c.if-index.branch [
       | then-index+in_ok-redirect+in_ok-put b ↦
           let on : IsWanted w.flags.items true r = search rules in
           let name : b.index-then-index.result.now.now ≡ nth_text (texts_now texts) r = ap (λ (t : Bor Text). t.now) b.index-then-index.ensures ∙ sym (get_or-map (λ (t : Bor Text). t.now) texts r b.index-then-index.result.now [] inside) in
           rw (b.hidden-is, b.features-is) (record {
-            redirects = redirect_put w.redirects w.flags.items texts r c.loop-r.hidden b.put.new.map b.index-then-index.result.now b.in_ok-redirect.redirect inside name on w.once
+            redirects = redirect_put w.redirects w.flags.items texts r c.loop-r.hidden b.put.new.map b.index-then-index.result.now b.in_ok-redirect.redirect vertex inside name on w.once
                 (rw b.at.ensures at b.in_ok-redirect.ensures.texts) b.in_ok-put.ensures old.redirects;
             handed = one_handed w.flags.items r vs c.loop-r.features.items old.handed on b.redirect_of.new.features.items (rw b.at.ensures at b.in_ok-redirect.ensures.handed);
           })

@@ -2,8 +2,8 @@ use Rattle.std.proofs.Common.{◌≡◌, ◌<◌, Bor, List, false, length, refl
 use Rattle.std.proofs.lemmas.Option.{slice_get_read}
 use Rattle.cargo_toml_graph.specs.Action.{Text}
 use Rattle.cargo_toml_graph.specs.Reach.{Among}
-use Rattle.cargo_toml_walk.specs.Numbers.{IsWanted, row_items}
-use Rattle.cargo_toml_walk.proofs.Steps.{read_at}
+use Rattle.cargo_toml_resolve.specs.Numbers.{IsWanted, row_items}
+use Rattle.cargo_toml_resolve.proofs.Steps.{read_at}
 use Rattle.cargo_toml_resolve.specs.Holding.{HasTextsOf}
 use Rattle.cargo_toml_resolve.specs.Texts.{texts_now}
 use Rattle.cargo_toml_resolve.proofs.HashedRedirects.{none_handed, set_handed}

@@ -1,6 +1,6 @@
 use Rattle.std.proofs.Common.{rules, subst, arith, ◌≡◌, ◌<◌, true, false, ◌∙◌, length}
-use Rattle.cargo_toml_walk.specs.Numbers.{IsWanted}
-use Rattle.cargo_toml_walk.proofs.Steps.{read_at}
+use Rattle.cargo_toml_resolve.specs.Numbers.{IsWanted}
+use Rattle.cargo_toml_resolve.proofs.Steps.{read_at}
 use Rattle.cargo_toml_resolve.specs.Holding.{AllTakeOver}
 use Rattle.cargo_toml_resolve.specs.Texts.{texts_now}
 use Rattle.cargo_toml_resolve.proofs.TakenOver.{none_take_over, one_more_takes_over, skipped}
@@ -10,7 +10,7 @@ use Rattle.cargo_toml_resolve.proofs.keeping.keep_all.Goals.{then-not-index+in_o
 pub loop-own-init : goal.loop-own-init
 loop-own-init c =
     let g = c.args.graph.now in
-    record { taken = none_take_over g.edges g.names g.flags.items (texts_now g.texts.items) c.args.features.now.items; room = search rules }
+    record { taken = none_take_over g.edges g.names g.flags.items (texts_now g.texts.items) c.args.features.now.items; finds = c.requires.finder }
 
 pub loop-own-preserved : goal.loop-own-preserved
 loop-own-preserved c =
@@ -23,18 +23,18 @@ loop-own-preserved c =
     elim c.if-not-index.branch [
       | then-not-index+in_ok-keep w ↦
           let kept : IsWanted fs false own = search rules in
-          rw (w.features-is, w.walk-is) (record {
+          rw (w.features-is, w.finder-is) (record {
             taken = one_more_takes_over g.edges g.names fs ts own vs c.loop-own.features.items old.taken kept w.keep.new.features.items (rw w.at.ensures at w.in_ok-keep.ensures.kept);
-            room = w.in_ok-keep.ensures.room ∙ old.room;
+            finds = w.in_ok-keep.ensures.finder;
           })
       | else-not-index w ↦
           let on : c.index.result.now ≡ true = grind arith in
           let below : own < length fs =
           let l = c.loop-own-test.true in let e = c.len-own-end.ensures in let m = g.features_count in let n = g.flags_count in omega (arith, l, e, m, n) in
           let gone : IsWanted fs true own = read_at fs own false c.index.result.now below c.index.ensures ∙ on in
-          rw (w.features-is, w.walk-is) (record {
+          rw (w.features-is, w.finder-is) (record {
             taken = skipped g.edges g.names fs ts own vs c.loop-own.features.items old.taken gone;
-            room = old.room;
+            finds = old.finds;
           })
     ]
 

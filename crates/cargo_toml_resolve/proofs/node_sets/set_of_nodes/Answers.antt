@@ -1,6 +1,8 @@
 use Rattle.cargo_toml_resolve.specs.Texts.{texts_now}
-use Rattle.cargo_toml_resolve.proofs.TextSets.{only_put}
+use Rattle.cargo_toml_resolve.proofs.TextSets.{set_made, set_of_numbers}
 use Rattle.cargo_toml_resolve.proofs.node_sets.set_of_nodes.Goals as goal
 
 pub returns : goal.returns
-returns c = only_put (texts_now c.args.texts.now) c.args.nodes.now c.new-set.result c.add_nodes.new.set c.new-set.ensures.empty c.in_ok-add_nodes.ensures
+returns c =
+    let list = c.in_ok-list.list.items in
+    set_of_numbers c.args.texts.now c.args.nodes.now list c.set_of.result c.requires c.in_ok-list.ensures (set_made (texts_now list) c.set_of.result (rw c.as_slice.ensures.value at c.set_of.ensures))

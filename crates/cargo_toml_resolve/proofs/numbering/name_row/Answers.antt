@@ -1,20 +1,49 @@
-use Rattle.std.proofs.Common.{rules, ◌≡◌, [], ◌∷◌, ◌++◌, map, sym, subst}
+use Rattle.std.proofs.Common.{rules, ◌≡◌, ◌∷◌, ◌++◌, [], map, sym, subst}
 use Rattle.std.proofs.lemmas.Map.Iter.{iter_end}
+use Rattle.cargo_toml_graph.specs.Ascending.{Ascend}
 use Rattle.cargo_toml_graph.specs.Reach.{Among}
+use Rattle.cargo_toml_resolve.specs.Numbering.{HasNames}
+use Rattle.cargo_toml_resolve.specs.Texts.{texts_now}
 use Rattle.cargo_toml_resolve.proofs.Gathered.{seen}
-use Rattle.cargo_toml_resolve.proofs.NumberRows.{HasNumbers, all_numbers, number_missing, number_put}
-use Rattle.cargo_toml_resolve.proofs.NumberTexts.{one_number}
+use Rattle.cargo_toml_resolve.proofs.NumberTexts.{extends_none, extends_then, fits_now, front_still, names_all, names_empty, names_more, names_none, names_still, texts_longer}
 use Rattle.cargo_toml_resolve.proofs.numbering.name_row.Goals as goal
 
-pub loop-name-preserved-in-Some-node_of : goal.loop-name-preserved-in-Some-node_of
-loop-name-preserved-in-Some-node_of c =
-    subst (HasNumbers c.args.texts.now (Among (seen (c.loop-name.yielded ++ c.in-Some.name ∷ [])))) (sym c.in_ok-push.ensures.items)
-    (number_put c.args.texts.now c.loop-name.yielded c.in-Some.name c.loop-name.row.items c.loop-name.invariant (one_number c.args.count c.args.texts.now c.requires) c.in-Some-node_of.node c.in-Some-node_of.ensures.found)
+pub returns-then-is_empty-clause-extends : goal.returns-then-is_empty-clause-extends
+returns-then-is_empty-clause-extends c = extends_none c.args.count (texts_now c.args.texts.now.items)
+
+pub returns-then-is_empty-clause-names : goal.returns-then-is_empty-clause-names
+returns-then-is_empty-clause-names c = names_empty c.args.count (texts_now c.args.texts.now.items) c.args.named.now c.args.row.now.items c.requires.empty (c.is_empty.ensures.0 c.if-is_empty.true)
+
+pub loop-name-init : goal.loop-name-init
+loop-name-init c = record {
+  extends = extends_none c.args.count (texts_now c.args.texts.now.items);
+  names = names_none c.args.count (texts_now c.args.texts.now.items) c.args.row.now.items c.requires.empty;
+}
+
+pub node_of-requires-clause-fits : goal.node_of-requires-clause-fits
+node_of-requires-clause-fits c = texts_longer c.args.count c.args.texts.now.items c.loop-name.texts.items c.requires.fits c.loop-name.invariant.extends
+
+pub node_of-requires-clause-keys : goal.node_of-requires-clause-keys
+node_of-requires-clause-keys c =
+    subst Ascend (sym (front_still c.args.count (texts_now c.args.texts.now.items) (texts_now c.loop-name.texts.items) c.loop-name.invariant.extends (fits_now c.args.count c.args.texts.now.items c.requires.fits))) c.requires.keys
 
 pub loop-name-preserved : goal.loop-name-preserved
-loop-name-preserved c = number_missing c.args.texts.now c.loop-name.yielded c.in-Some.name c.loop-name.row.items c.loop-name.invariant (c.node_of.ensures.missing c.in_default.is)
+loop-name-preserved c =
+    let n = c.args.count in
+    let old = texts_now c.args.texts.now.items in
+    let now = texts_now c.loop-name.texts.items in
+    let new = texts_now c.node_of.new.texts.items in
+    let i = c.loop-name.invariant in
+    let fits = fits_now n c.args.texts.now.items c.requires.fits in
+    let still = texts_longer n c.args.texts.now.items c.loop-name.texts.items c.requires.fits i.extends in
+    record {
+      extends = extends_then n old now i.extends new fits c.in_ok-node.ensures.extends;
+      names = subst (HasNames n new (Among (seen (c.loop-name.yielded ++ c.in-Some.name ∷ [])))) (sym c.in_ok-push.ensures.items)
+          (names_more n new c.loop-name.yielded c.in-Some.name c.loop-name.row.items c.in_ok-node.node c.in_ok-node.ensures.node
+          (names_still n now new c.in_ok-node.ensures.extends (Among (seen c.loop-name.yielded)) c.loop-name.row.items (fits_now n c.loop-name.texts.items still) i.names));
+    }
 
-pub returns : goal.returns
-returns c =
+pub returns-clause-names : goal.returns-clause-names
+returns-clause-names c =
     let all : map (λ k. k.now) c.loop-name.yielded ≡ c.args.named.now.keys = search (rules, iter_end) in
-    all_numbers c.args.texts.now c.args.named.now c.loop-name.yielded c.loop-name.row.items all c.loop-name.invariant
+    names_all c.args.count (texts_now c.loop-name.texts.items) c.args.named.now c.loop-name.yielded c.loop-name.row.items all c.loop-name.invariant.names

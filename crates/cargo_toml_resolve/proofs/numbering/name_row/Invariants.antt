@@ -1,7 +1,11 @@
 use Rattle.cargo_toml_graph.specs.Reach.{Among}
+use Rattle.cargo_toml_resolve.specs.Numbering.{Extends, HasNames}
+use Rattle.cargo_toml_resolve.specs.Texts.{texts_now}
 use Rattle.cargo_toml_resolve.proofs.Gathered.{seen}
-use Rattle.cargo_toml_resolve.proofs.NumberRows.{HasNumbers}
 use Rattle.cargo_toml_resolve.proofs.numbering.name_row.Given as goal
 
 abbrev pub invariant-loop-name : goal.invariant-loop-name
-invariant-loop-name l = HasNumbers l.texts (Among (seen l.yielded)) l.row.items
+invariant-loop-name l = record {
+  extends : Extends l.count (texts_now l.initial.texts.items) (texts_now l.texts.items);
+  names : HasNames l.count (texts_now l.texts.items) (Among (seen l.yielded)) l.row.items;
+}

@@ -1,6 +1,6 @@
 use Rattle.std.proofs.Common.{rules, ◌≡◌, ◌<◌, true, false, take, length, ap, refl, sym, subst, ◌∙◌, arith}
 use Rattle.cargo_toml_graph.specs.Reach.{Among}
-use Rattle.cargo_toml_walk.specs.Numbers.{IsWanted, Leads, row_items}
+use Rattle.cargo_toml_resolve.specs.Numbers.{IsWanted, Leads, row_items}
 use Rattle.cargo_toml_resolve.specs.KnownBins.{AreKnown}
 use Rattle.cargo_toml_resolve.specs.Passing.{bins_of, passed_below}
 use Rattle.cargo_toml_resolve.specs.Puts.{Puts}

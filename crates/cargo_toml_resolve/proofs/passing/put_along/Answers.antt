@@ -1,6 +1,6 @@
 use Rattle.std.proofs.Common.{◌≡◌, ◌≤◌, ◌+◌, take, length, get_or, subst, take_all, arith}
 use Rattle.cargo_toml_graph.specs.Reach.{Among}
-use Rattle.cargo_toml_walk.proofs.Steps.{among_more, item_at, item_is}
+use Rattle.cargo_toml_resolve.proofs.Steps.{among_more, item_at, item_is}
 use Rattle.cargo_toml_resolve.specs.Puts.{Puts}
 use Rattle.cargo_toml_resolve.specs.Texts.{texts_now}
 use Rattle.cargo_toml_resolve.proofs.PutAlong.{put_nowhere, put_past, then_put}

@@ -1,12 +1,11 @@
 use Rattle.std.proofs.lemmas.Result.{err_from_is_err_and}
-use Rattle.std.proofs.Common.{subst, sym}
+use Rattle.std.proofs.Common.{inr, subst, sym}
 use Rattle.toml.specs.View.{view}
 use Rattle.toml.specs.declared.value.Value.{Value}
 use Rattle.cargo_toml.specs.Manifest.{Manifest}
 use Rattle.cargo_toml.specs.Manifests.{ManifestRefuses, held, manifest_meaning, manifest_reads}
 use Rattle.cargo_toml.specs.RealFiles.{ReadsAs}
 use Rattle.cargo_toml.specs.Texts.{AnyRefuses, any_tree}
-use Rattle.cargo_toml_manifest.proofs.PathFaults.{refused_of}
 use Rattle.cargo_toml_tools_files.proofs.reading.completed_of.Goals as goal
 
 pub returns-clause-completed : goal.returns-clause-completed
@@ -26,6 +25,4 @@ returns-in_err-complete_from_path-clause-refused g c =
     (sym c.deref_mut.ensures.value) c.in_ok-held.ensures in
     let p = err_from_is_err_and c.from_residual-in_err-complete_from_path.result c.from_residual-in_err-complete_from_path.ensures.1 in
     rw (p.1, p.2)
-    (refused_of c.args.file.now c.args.text.now (manifest_meaning view) (manifest_reads any_tree) (ManifestRefuses any_tree AnyRefuses)
-    (λ _. held c.complete_from_path.new.self) c.deref_mut.result.now _ reads
-    c.in_err-complete_from_path.ensures.outcome c.in_err-complete_from_path.ensures.bad_path c.in_err-complete_from_path.ensures.refused)
+    (inr (c.deref_mut.result.now, (reads, c.in_err-complete_from_path.ensures.refused)))

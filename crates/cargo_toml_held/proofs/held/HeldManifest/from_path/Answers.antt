@@ -6,7 +6,7 @@ use Rattle.toml.specs.declared.value.Value.{Value}
 use Rattle.cargo_toml.specs.InheritedManifests.{needs}
 use Rattle.cargo_toml.specs.InheritedPackages.{IsFilled}
 use Rattle.cargo_toml.specs.Manifest.{Manifest}
-use Rattle.cargo_toml.specs.Manifests.{held, manifest_reads}
+use Rattle.cargo_toml.specs.Manifests.{held, manifest_meaning, manifest_reads}
 use Rattle.cargo_toml.specs.RealFiles.{IsReadAndCompleted}
 use Rattle.cargo_toml.specs.Texts.{any_tree}
 use Rattle.cargo_toml_held.proofs.held.HeldManifest.from_path.Goals as goal
@@ -14,7 +14,7 @@ use Rattle.cargo_toml_held.proofs.held.HeldManifest.from_path.Goals as goal
 pub returns-in-Ok-clause-given : goal.returns-in-Ok-clause-given
 returns-in-Ok-clause-given g c =
     IfOk-weaker c.new.result _ _
-    (λ h same. subst (λ (m : Manifest Value). IsReadAndCompleted c.args.path.now view (manifest_reads any_tree) m) (sym same) c.in-Ok.ensures.given)
+    (λ h same. subst (λ (m : Manifest Value). IsReadAndCompleted (manifest_meaning view) (manifest_reads any_tree) m) (sym same) c.in-Ok.ensures.given)
     c.new.ensures.same
 
 pub returns-in-Ok-clause-filled : goal.returns-in-Ok-clause-filled

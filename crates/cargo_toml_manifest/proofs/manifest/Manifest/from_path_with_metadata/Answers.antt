@@ -1,18 +1,17 @@
-use Rattle.std.proofs.lemmas.Result.{IfErr-weaker, IfOk-weaker}
-use Rattle.cargo_toml_manifest.specs.Manifests.{manifest_meaning, manifest_reads, ManifestRefuses}
-use Rattle.cargo_toml_manifest.proofs.PathFaults.{refused_in_file}
+use Rattle.std.proofs.Common.{inl, inr}
+use Rattle.std.proofs.lemmas.Result.{err_from_is_err_and, IfErr-weaker, IfOk-weaker}
+use Rattle.cargo_toml_discovery.proofs.Faults.{from_input}
 use Rattle.cargo_toml_manifest.proofs.manifest.Manifest.from_path_with_metadata.Goals as goal
+
+pub returns-in_err-text-clause-refused : goal.returns-in_err-text-clause-refused
+returns-in_err-text-clause-refused g c =
+    let p = err_from_is_err_and c.from_residual.result c.from_residual.ensures.1 in
+    rw p.1 (elim (from_input _ p.0 p.2) [ inl memory ↦ inl memory | inr input ↦ inr (inl input) ])
 
 pub returns-clause-given : goal.returns-clause-given
 returns-clause-given g c =
-    IfOk-weaker c.completed_of.result _ _
-    (λ new h. (h.0, (c.as_str.result.now, c.as_str.utf8, h.1), h.2)) c.completed_of.ensures.given
+    IfOk-weaker c.completed_of.result _ _ (λ new h. (c.as_str.result.now, (c.as_str.utf8, h))) c.completed_of.ensures.given
 
 pub returns-clause-refused : goal.returns-clause-refused
 returns-clause-refused g c =
-    let tree = g.Metadata.FromValue.from_tree in
-    IfErr-weaker c.completed_of.result _ _
-    (λ e h.
-    refused_in_file c.args.path.now c.as_str.result.now (manifest_meaning g.Metadata.FromValue.meaning) (manifest_reads tree)
-    (ManifestRefuses tree g.Metadata.FromValue.from_refuses) e c.as_str.utf8 h)
-    c.completed_of.ensures.refused
+    IfErr-weaker c.completed_of.result _ _ (λ e h. inr (inr (c.as_str.result.now, (c.as_str.utf8, h)))) c.completed_of.ensures.refused

@@ -1,6 +1,9 @@
 use Rattle.cargo_toml_tables.specs.Badges.{badges_meaning}
 use Rattle.cargo_toml_write.specs.WrittenBadges.{badges_rows, badges_way}
 use Rattle.cargo_toml_write.specs.Writes.{IsWriting}
+use Rattle.cargo_toml_manifest.specs.Manifests.{badges_reads}
+use Rattle.cargo_toml_write.proofs.FloatlessAgain.{table_again}
+use Rattle.cargo_toml_write.proofs.ReadAgainBadges.{badges_again}
 use Rattle.cargo_toml_write.proofs.TotalTrees.{badges_total}
 use Rattle.cargo_toml_write.proofs.Trees.{total_alone}
 use Rattle.cargo_toml_write.proofs.Rows.{◌then◌, done, ends}
@@ -16,5 +19,6 @@ returns c =
     c.finish.ensures in
     record {
       written = written;
+      read_again = table_again badges_rows badges badges_reads badges c.finish.result written (badges_again badges);
       memory = total_alone badges_total badges c.finish.result written;
     }

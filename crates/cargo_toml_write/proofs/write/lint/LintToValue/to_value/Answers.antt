@@ -1,8 +1,32 @@
-use Rattle.cargo_toml_tables.specs.Lints.{lint_meaning}
-use Rattle.cargo_toml_write.specs.WrittenLints.{table_lint_way}
-use Rattle.cargo_toml_write.proofs.FreeTrees.{table_lint_tree}
-use Rattle.cargo_toml_write.proofs.Trees.{memory_alone}
+use Rattle.std.proofs.Common.{◌∙◌, sym, true, false}
+use Rattle.cargo_toml_tables.specs.Lints.{lint_meaning, lint_of}
+use Rattle.cargo_toml_write.specs.Floatless.{lint_floatless}
+use Rattle.cargo_toml_write.specs.WrittenLints.{lint_way}
+use Rattle.cargo_toml_write.specs.Writes.{IsWriting}
+use Rattle.cargo_toml_write.proofs.FloatlessAgain.{reads_again}
+use Rattle.cargo_toml_write.proofs.FreeTrees.{lint_exact}
+use Rattle.cargo_toml_write.proofs.ReadAgainTables.{lint_again, lint_writing}
+use Rattle.cargo_toml_write.proofs.Trees.{exact_alone}
 use Rattle.cargo_toml_write.proofs.write.lint.LintToValue.to_value.Goals as goal
 
-pub returns-clause-memory : goal.returns-clause-memory
-returns-clause-memory c h = memory_alone table_lint_way (lint_meaning c.args.self.now) c.lint_table.result c.lint_table.ensures.written (table_lint_tree (lint_meaning c.args.self.now) h)
+pub returns-then-is_level_alone : goal.returns-then-is_level_alone
+returns-then-is_level_alone c =
+    let lint = lint_meaning c.args.self.now in
+    let written : IsWriting lint_way lint c.to_value.result =
+    lint_writing true lint c.to_value.result (sym c.is_level_alone.ensures ∙ c.if-is_level_alone.true) c.to_value.ensures.written in
+    record {
+      written = written;
+      read_again = λ apart. reads_again lint_way lint lint_of lint c.to_value.result lint_floatless written (lint_again lint apart);
+      memory = exact_alone lint_exact lint c.to_value.result written;
+    }
+
+pub returns : goal.returns
+returns c =
+    let lint = lint_meaning c.args.self.now in
+    let written : IsWriting lint_way lint c.lint_table.result =
+    lint_writing false lint c.lint_table.result (sym c.is_level_alone.ensures ∙ c.if-is_level_alone.false) c.lint_table.ensures in
+    record {
+      written = written;
+      read_again = λ apart. reads_again lint_way lint lint_of lint c.lint_table.result lint_floatless written (lint_again lint apart);
+      memory = exact_alone lint_exact lint c.lint_table.result written;
+    }

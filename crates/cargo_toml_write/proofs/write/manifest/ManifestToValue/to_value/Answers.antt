@@ -1,14 +1,14 @@
-use Rattle.std.proofs.Common.{◌≡◌, codes, map, refl, string_bytes}
-use Rattle.cargo_toml_dependencies.specs.Details.{detail_of}
+use Rattle.std.proofs.Common.{◌≡◌, codes, refl}
 use Rattle.cargo_toml_dependencies.specs.Features.{FeaturesMeaning, features_meaning}
-use Rattle.cargo_toml_dependencies.proofs.Apart.{ascend-bytes}
-use Rattle.cargo_toml_manifest.specs.Manifests.{manifest_meaning}
+use Rattle.cargo_toml_manifest.specs.Manifests.{manifest_meaning, manifest_reads}
 use Rattle.cargo_toml_write.specs.WrittenFeatures.{features_in, features_way}
 use Rattle.cargo_toml_write.specs.WrittenManifests.{all_features, manifest_rows, manifest_way}
+use Rattle.cargo_toml_write.specs.Reread.{reread}
 use Rattle.cargo_toml_write.specs.Writes.{IsWriting}
 use Rattle.cargo_toml_write.proofs.FloatlessAgain.{table_again}
 use Rattle.cargo_toml_write.proofs.FreeTrees.{manifest_exact}
 use Rattle.cargo_toml_write.proofs.ReadAgainFeatures.{manifest_features}
+use Rattle.cargo_toml_write.proofs.ReadAgainManifests.{manifest_again}
 use Rattle.cargo_toml_write.proofs.Trees.{exact_alone, itself_exact}
 use Rattle.cargo_toml_write.proofs.Rows.{◌then◌, done, ends, given_as}
 use Rattle.cargo_toml_write.proofs.write.manifest.ManifestToValue.to_value.Goals as goal
@@ -17,7 +17,7 @@ pub returns : goal.returns
 returns g c =
     let way = g.Metadata.ToValue.way in
     let manifest = manifest_meaning g.Metadata.ToValue.meaning c.args.self.now in
-    let itself = itself_exact way g.met.Metadata.ToValue.floatless in
+    let itself = itself_exact way in
     let features : FeaturesMeaning = all_features manifest in
     let lent : FeaturesMeaning = features_meaning c.of-features.result.lists.now c.of-features.result.details.now in
     let same : lent ≡ features = rw (c.of-features.ensures.lists, c.of-features.ensures.details) refl in
@@ -29,10 +29,11 @@ returns g c =
     c.finish.ensures in
     record {
       written = written;
+      read_again = λ told law.
+          table_again (manifest_rows way) manifest (manifest_reads g.Metadata.FromValue.from_tree) (reread (manifest_meaning g.Metadata.FromValue.meaning c.args.self.now)) c.finish.result written
+          (manifest_again way g.Metadata.ToValue.meaning g.Metadata.FromValue.meaning g.Metadata.FromValue.from_tree law c.args.self.now told);
       features_again = λ told.
           table_again (manifest_rows way) manifest features_in features c.finish.result written
-          (manifest_features way manifest
-          (ascend-bytes (λ v. map string_bytes v.items) c.args.self.now.features.entries c.of-features.ensures.lists_ascend)
-          (ascend-bytes detail_of c.args.self.now.feature_details.entries c.of-features.ensures.details_ascend) told);
+          (manifest_features way manifest told);
       memory = exact_alone (manifest_exact way itself) manifest c.finish.result written;
     }

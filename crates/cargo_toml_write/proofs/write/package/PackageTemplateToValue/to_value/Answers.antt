@@ -1,6 +1,8 @@
-use Rattle.cargo_toml_package.specs.Templates.{template_meaning}
+use Rattle.cargo_toml_package.specs.Templates.{template_meaning, template_reads}
 use Rattle.cargo_toml_write.specs.WrittenPackages.{template_rows, template_way}
 use Rattle.cargo_toml_write.specs.Writes.{IsWriting}
+use Rattle.cargo_toml_write.proofs.FloatlessAgain.{table_again}
+use Rattle.cargo_toml_write.proofs.ReadAgainPackages.{template_again}
 use Rattle.cargo_toml_write.proofs.TotalTrees.{template_total}
 use Rattle.cargo_toml_write.proofs.Trees.{total_alone}
 use Rattle.cargo_toml_write.proofs.Rows.{◌then◌, done, ends}
@@ -17,5 +19,6 @@ returns c =
     c.finish.ensures in
     record {
       written = written;
+      read_again = λ told. table_again template_rows template template_reads template c.finish.result written (template_again template told);
       memory = total_alone template_total template c.finish.result written;
     }

@@ -13,7 +13,7 @@ returns g c =
     let way = g.Metadata.ToValue.way in
     let meaning = g.Metadata.ToValue.meaning in
     let held = package_meaning meaning c.args.self.now in
-    let itself = itself_exact way g.met.Metadata.ToValue.floatless in
+    let itself = itself_exact way in
     let written : IsWriting (package_way way) held c.finish.result = ends (package_rows way) held c.finish.result c.new-writing.ensures.no_fault c.new-writing.ensures.no_key
     (c.required.ensures then c.required-2.ensures then c.required-3.ensures then c.optional.ensures then
     c.optional-2.ensures then c.optional-3.ensures then c.given.ensures then c.optional-4.ensures then

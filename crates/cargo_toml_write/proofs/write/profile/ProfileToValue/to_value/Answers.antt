@@ -1,7 +1,9 @@
-use Rattle.cargo_toml_tables.specs.Profiles.{profile_meaning}
+use Rattle.cargo_toml_tables.specs.Profiles.{profile_meaning, profile_reads}
 use Rattle.cargo_toml_write.specs.WrittenProfiles.{profile_rows, profile_way}
 use Rattle.cargo_toml_write.specs.Writes.{IsWriting}
+use Rattle.cargo_toml_write.proofs.FloatlessAgain.{table_again}
 use Rattle.cargo_toml_write.proofs.FreeTrees.{profile_exact}
+use Rattle.cargo_toml_write.proofs.ReadAgainTables.{profile_again}
 use Rattle.cargo_toml_write.proofs.Trees.{exact_alone}
 use Rattle.cargo_toml_write.proofs.Rows.{◌then◌, ◌then_same◌, done, ends}
 use Rattle.cargo_toml_write.proofs.write.profile.ProfileToValue.to_value.Goals as goal
@@ -18,5 +20,6 @@ returns c =
     c.finish.ensures in
     record {
       written = written;
+      read_again = table_again profile_rows profile profile_reads profile c.finish.result written (profile_again profile);
       memory = exact_alone profile_exact profile c.finish.result written;
     }

@@ -1,0 +1,68 @@
+//! A tool that gives a package another version, and loses nothing else.
+ghost use Rattle.std.specs.Prelude.{◌≡◌, IfOk, Ok, option_map, string_bytes};
+ghost use Rattle.semver.specs.Identifiers.{parts_of};
+ghost use Rattle.semver.specs.Parse.{version_parts};
+ghost use Rattle.toml.specs.View.{view};
+ghost use Rattle.cargo_toml.specs.Inheritable.TheVariants.{Set};
+ghost use Rattle.cargo_toml.specs.Manifests.{manifest_meaning};
+ghost use Rattle.cargo_toml.specs.Reread.{IsTold};
+ghost use Rattle.cargo_toml_bench.specs.Versioned.{IsPrinted, IsVersioned};
+
+use crate::report::print::read;
+use cargo_toml::{Error, Manifest, SemVer, ToValue, Value};
+use cargo_toml_write::laws::{read_dependencies_are_told, read_manifests_are_told};
+use cargo_toml_write::write::package::value_metadata;
+use std::alloc::Global;
+
+/// The text of the manifest that these bytes spell, with this version of its package. What is read
+/// of the text, where it nests no deeper than `toml` reads, is that manifest with that version, and
+/// else the same.
+///
+/// Refuses bytes that spell no manifest, a text that is no version, what can't be printed, as a
+/// month 13, and with `Memory` where there was no room.
+pub fn with_version(alloc: Global, bytes: &[u8], version: &str) -> Result<String, Error>
+    ensures { IfOk result (λ text. IsVersioned bytes.now version.now (string_bytes text)) }
+{
+    let version = read_version(alloc, version)?;
+    let mut held = read(alloc, bytes)?;
+    set_version(&mut *held.manifest, version);
+    read_manifests_are_told();
+    read_dependencies_are_told();
+    manifest_text(alloc, &*held.manifest)
+}
+
+fn read_version(alloc: Global, text: &str) -> Result<SemVer, Error>
+    ensures { IfOk result (λ v. version_parts text.now ≡ Ok (parts_of v)) }
+{
+    match SemVer::parse(alloc, text) {
+        Ok(version) => Ok(version),
+        Err(_) => Err(Error::Other("no version")),
+    }
+}
+
+// Puts the version into the package, if there is one.
+fn set_version(manifest: &mut Manifest, version: SemVer)
+    ensures { manifest.new ≡ record manifest.old {
+      «package» = option_map (λ p. record p { version = Set version }) manifest.old.«package»;
+    } }
+{
+    if let Some(package) = &mut manifest.package {
+        package.version.set(version);
+    }
+}
+
+// The text that a manifest is written as.
+fn manifest_text(alloc: Global, manifest: &Manifest) -> Result<String, Error>
+    requires { IsTold (manifest_meaning view manifest.now) }
+    ensures { IfOk result
+        (λ text. IsPrinted (manifest_meaning view manifest.now) (string_bytes text)) }
+{
+    value_metadata(&None);
+    match manifest.to_value(alloc)? {
+        Value::Table(table) => match toml::table_to_string(alloc, &table) {
+            Ok(text) => Ok(text),
+            Err(_) => Err(Error::Other("a manifest that can't be printed")),
+        },
+        _ => Err(Error::Other("a manifest that is no table")),
+    }
+}

@@ -1,0 +1,73 @@
+-- What dependencies have anyway, by the places of their keys.
+use Rattle.std.proofs.Common.{◌≡◌, Bool, true, false, cond, List, [], ◌∷◌, ◌++◌}
+use Rattle.std.proofs.Common.{◌<◌, ◌+◌, ℕ, Option, None, bytes_eq, length, get_or, take}
+use Rattle.std.proofs.Common.{option_map, refl, sym}
+use Rattle.std.proofs.Common.{ap, subst, arith, ◌∙◌}
+use Rattle.std.proofs.lemmas.List.{take_more}
+use Rattle.cargo_toml_features.specs.declared.features.FeatureDependency.{FeatureDependency}
+use Rattle.cargo_toml_features.specs.Recorded.{Entry, first_target, is_redundant, recorded_of}
+use Rattle.cargo_toml_features.specs.Views.{recorded_in}
+use Rattle.cargo_toml_graph.specs.Action.{Text}
+use Rattle.cargo_toml_full.specs.declared.redundant_features.RedundantFeatures.{RedundantFeatures}
+use Rattle.cargo_toml_full.specs.Redundant.{has_redundant}
+use Rattle.cargo_toml_full.specs.Slots.{held_among}
+
+-- of no record there is no target
+pub no_target : (es : List Entry) → None ≡ recorded_of es → None ≡ first_target es
+no_target [] none = refl
+no_target (e ∷ es) none = cc
+
+-- what is recorded of a key, and what its dependency has anyway
+abbrev pub HasAnyway : Option FeatureDependency → Option RedundantFeatures → Type 0
+HasAnyway d r =
+    (es : List Entry) → option_map recorded_in d ≡ recorded_of es → (x : Text)
+    → has_redundant r x ≡ is_redundant (first_target es) x
+
+pub none_anyway : HasAnyway None None
+none_anyway es none x = ap (λ t. is_redundant t x) (no_target es none)
+
+-- the same in each place
+abbrev pub HaveAnyway : List (Option FeatureDependency) → List (Option RedundantFeatures) → Type 0
+HaveAnyway [] [] = Unit {0}
+HaveAnyway [] (r ∷ rs) = ⊥
+HaveAnyway (d ∷ ds) [] = ⊥
+HaveAnyway (d ∷ ds) (r ∷ rs) = HasAnyway d r × HaveAnyway ds rs
+
+pub one_more : (ds : List (Option FeatureDependency)) (rs : List (Option RedundantFeatures))
+    (d : Option FeatureDependency) (r : Option RedundantFeatures) → HaveAnyway ds rs
+    → HasAnyway d r → HaveAnyway (ds ++ d ∷ []) (rs ++ r ∷ [])
+one_more [] [] d r h is = (is, tt)
+one_more [] (s ∷ rs) d r h is = absurd h
+one_more (e ∷ ds) [] d r h is = absurd h
+one_more (e ∷ ds) (s ∷ rs) d r h is = (h.0, one_more ds rs d r h.1 is)
+
+pub turn_more : (ds : List (Option FeatureDependency)) (i : ℕ) (d : Option FeatureDependency)
+    (rs new : List (Option RedundantFeatures)) (r : Option RedundantFeatures) → i < length ds
+    → d ≡ get_or ds i d → HaveAnyway (take i ds) rs → HasAnyway d r → new ≡ rs ++ r ∷ []
+    → HaveAnyway (take (i + 1) ds) new
+turn_more ds i d rs new r inside is h has put =
+    subst (HaveAnyway (take (i + 1) ds)) (sym put) (subst (λ xs. HaveAnyway xs (rs ++ r ∷ []))
+    (sym (take_more ds i d inside ∙ ap (λ x. take i ds ++ x ∷ []) (sym is)))
+    (one_more (take i ds) rs d r h has))
+
+pub as_many : (ds : List (Option FeatureDependency)) (rs : List (Option RedundantFeatures))
+    → HaveAnyway ds rs → length rs ≡ length ds
+as_many [] [] h = refl
+as_many [] (r ∷ rs) h = absurd h
+as_many (d ∷ ds) [] h = absurd h
+as_many (d ∷ ds) (r ∷ rs) h = let more = as_many ds rs h.1 in omega (arith, more)
+
+-- so it is under each name
+pub under_names : (ns : List Text) (ds : List (Option FeatureDependency))
+    (rs : List (Option RedundantFeatures)) → HaveAnyway ds rs → (k : Text)
+    → HasAnyway (held_among ns ds k) (held_among ns rs k)
+under_names [] ds rs h k = none_anyway
+under_names (n ∷ ns) [] [] h k = none_anyway
+under_names (n ∷ ns) [] (r ∷ rs) h k = absurd h
+under_names (n ∷ ns) (d ∷ ds) [] h k = absurd h
+under_names (n ∷ ns) (d ∷ ds) (r ∷ rs) h k = go (bytes_eq k n) (under_names ns ds rs h.1 k)
+  where
+    go : (b : Bool) → HasAnyway (held_among ns ds k) (held_among ns rs k)
+        → HasAnyway (cond b d (held_among ns ds k)) (cond b r (held_among ns rs k))
+    go true later = h.0
+    go false later = later

@@ -1,0 +1,38 @@
+-- Stamps as marks.
+use Rattle.std.proofs.Common.{◌≡◌, ◌<◌, ◌≤◌, ℕ, zero, suc, Bool, true, false, List, [], ◌∷◌, length, get_or, set, map, replicate, nat_eq, refl, sym, subst, ap, inl, inr, ◌∙◌, arith}
+use Rattle.std.proofs.lemmas.List.{map-set, get_or_past, get_or-replicate, length-replicate}
+use Rattle.std.proofs.lemmas.Bool.{cases_lt, false≢true}
+use Rattle.cargo_toml_graph.specs.Reach.{Among}
+use Rattle.cargo_toml_resolve.specs.Numbers.{AreMarked}
+use Rattle.std.proofs.lemmas.Bool.Decides.{nat_tests}
+
+-- what stands at an epoch
+abbrev pub marks_at : ℕ → List ℕ → List Bool
+marks_at e ss = map (λ s. nat_eq s e) ss
+
+pub none_marked : (ss : List ℕ) (e e' : ℕ) → ((x : ℕ) → get_or ss x 0 ≤ e) → e < e' → marks_at e' ss ≡ replicate (length (marks_at e ss)) false
+none_marked [] e e' h lt = refl
+none_marked (s ∷ ss) e e' h lt =
+    let low : s ≤ e = h 0 in
+    let one : nat_eq s e' ≡ false = grind (arith, nat_tests) in
+    let rest = none_marked ss e e' (λ x. h (suc x)) lt in
+    cc
+
+pub none_at_first : (n : ℕ) → marks_at 1 (replicate n 0) ≡ replicate n false
+none_at_first zero = refl
+none_at_first (suc n) = ap (λ l. false ∷ l) (none_at_first n)
+
+pub one_marked : (ss : List ℕ) (x s e : ℕ) → s ≡ e → marks_at e (set ss x s) ≡ set (marks_at e ss) x true
+one_marked ss x s e is =
+    let same : nat_eq s e ≡ true = grind (arith, nat_tests) in
+    map-set (λ z. nat_eq z e) ss x s ∙ ap (set (marks_at e ss) x) same
+
+-- at first
+pub none_found : (found : List ℕ) (met : List Bool) (n : ℕ) → found ≡ [] → met ≡ replicate n false → AreMarked found met
+none_found found met n none clear x = (
+  λ i. absurd (false≢true (sym (elim (cases_lt x n) [
+    | inl lt ↦ get_or-replicate n x false false lt
+    | inr le ↦ get_or_past (replicate n false) x false (let l = length-replicate n false in omega (arith, l, le))
+  ]) ∙ ap (λ m. get_or m x false) (sym clear) ∙ i)),
+  λ i. absurd (subst (λ f. Among f x) none i),
+)

@@ -1,0 +1,155 @@
+-- Rows in ascending order, as lists.
+use Rattle.std.proofs.Common.{◌≡◌, ◌≢◌, ◌⊎◌, ◌↔◌, ◌<◌, ◌≤◌, ◌+◌, ℕ, Bool, true, false, List, length-set, [], length, get_or, set, replicate, refl, sym, ap, subst, inl, inr, ◌∙◌, arith}
+use Rattle.std.proofs.lemmas.Bool.{cases_eq, cases_lt, cases_Bool, false≢true}
+use Rattle.std.proofs.lemmas.List.{get_or-set_same, get_or-set_other, get_or_past, get_or-replicate}
+use Rattle.cargo_toml_graph.specs.Reach.{Among}
+use Rattle.cargo_toml_graph.proofs.Members.{label_within}
+use Rattle.cargo_toml_resolve.specs.Numbers.{IsWanted, FindsRedirects, HasLabel, IsPassed, IsRedirect, Leads, Replaces, row_items}
+use Rattle.cargo_toml_resolve.proofs.Linking.{last_edge, with_last}
+use Rattle.cargo_toml_resolve.proofs.Cuts.{AreRows, IsBelow, IsFinished, back, next_row, none_among, not_own, under_later, under_split}
+use Rattle.cargo_toml_resolve.proofs.Labelled.{gathered}
+
+module _ (edges : List (List ℕ)) (removed : List Bool) where
+  -- the rows of the removed vertices below n are finished, and the others are as they were
+  pub record RowsState (initial : List (List ℕ)) (bound n : ℕ) (rows : List (List ℕ)) : Type 0 where
+    pub len : length rows ≡ length initial
+    pub inside : (a x : ℕ) → Leads rows a x → x < bound
+    pub done : (a x : ℕ) → IsBelow removed n a → Leads rows a x ↔ IsRedirect edges removed initial a x
+    pub left : (a x : ℕ) → ¬ IsBelow removed n a → Leads rows a x ↔ Leads initial a x
+
+  pub skipped_rows : (initial : List (List ℕ)) (bound r : ℕ) (rows : List (List ℕ)) → IsWanted removed false r → RowsState initial bound r rows → RowsState initial bound (r + 1) rows
+  skipped_rows initial bound r rows kept h = record {
+    len = h.len;
+    inside = h.inside;
+    done = λ a x u. h.done a x (back removed r kept a u);
+    left = λ a x n. h.left a x (λ u. n (under_later removed r a u));
+  }
+
+  -- the row of r becomes its redirect
+  pub next_rows : (initial : List (List ℕ)) (bound r : ℕ) (rows : List (List ℕ)) → RowsState initial bound r rows → IsWanted removed true r → (new : List (List ℕ)) → Replaces r (IsRedirect edges removed initial r) rows new
+      → ((x : ℕ) → IsRedirect edges removed initial r x → x < bound) → RowsState initial bound (r + 1) new
+  next_rows initial bound r rows h gone new v below = record {
+    len = v.len ∙ h.len;
+    inside = λ a x i. elim (cases_eq a r) [
+      | inl same ↦ below x ((v.here x).0 (subst (λ z. Leads new z x) same i))
+      | inr other ↦ h.inside a x ((v.others a x other).0 i)
+    ];
+    done = λ a x u. elim (cases_eq a r) [
+      | inl same ↦ (
+        λ i. subst (λ z. IsRedirect edges removed initial z x) (sym same) ((v.here x).0 (subst (λ z. Leads new z x) same i)),
+        λ w. subst (λ z. Leads new z x) (sym same) ((v.here x).1 (subst (λ z. IsRedirect edges removed initial z x) same w)),
+      )
+      | inr other ↦ let d = h.done a x (under_split removed r a other u) in (λ i. d.0 ((v.others a x other).0 i), λ w. (v.others a x other).1 (d.1 w))
+    ];
+    left = λ a x n. elim (cases_eq a r) [
+      | inl same ↦ absurd (n (subst (IsWanted removed true) (sym same) gone, omega (arith, same)))
+      | inr other ↦ let d = h.left a x (λ u. n (under_later removed r a u)) in (λ i. d.0 ((v.others a x other).0 i), λ w. (v.others a x other).1 (d.1 w))
+    ];
+  }
+
+  module _ (initial : List (List ℕ)) (bound within r : ℕ) (targets rows : List (List ℕ)) (t : RowsState edges within r targets) (h : RowsState initial bound r rows) where
+    are_rows : AreRows (Leads edges) (IsWanted removed true) (Leads initial) r (Leads targets) (Leads rows)
+    are_rows = record {
+      start_edges = λ b. t.left r b (not_own removed r);
+      start_labels = λ x. h.left r x (not_own removed r);
+      row_edges = λ s b u. (
+        λ i. let d = (t.done s b u).0 i in (with_last (Leads edges) (IsBelow removed s) d.0.1 d.0.2, d.1),
+        λ p. (t.done s b u).1 (last_edge (Leads edges) (IsBelow removed s) p.0, p.1),
+      );
+      row_labels = λ s x u. h.done s x u;
+    }
+
+    module _ (finished : List Bool) (f : IsFinished removed r finished) (passed : List ℕ) (is : (b : ℕ) → Among passed b ↔ IsPassed targets finished r b) where
+      row_is : (x : ℕ) → HasLabel (Among passed) rows finished r x ↔ IsRedirect edges removed initial r x
+      row_is x = (
+        λ l.
+            let n = (gathered targets finished rows (Among passed) r is x).0 l in
+            (next_row (Leads edges) (IsWanted removed true) (Leads initial) r (Leads targets) (Leads rows) are_rows x).0
+            (label_within (Leads rows) (IsWanted finished true) (IsBelow removed r) (λ v w. (f v).0 w) r x n.0, λ u. false≢true (sym n.1 ∙ (f x).1 u)),
+        λ w.
+            let m = (next_row (Leads edges) (IsWanted removed true) (Leads initial) r (Leads targets) (Leads rows) are_rows x).1 w in
+            (gathered targets finished rows (Among passed) r is x).1 (
+              label_within (Leads rows) (IsBelow removed r) (IsWanted finished true) (λ v u. (f v).1 u) r x m.0,
+              elim (cases_Bool (get_or finished x false)) [ inl e ↦ absurd (m.1 ((f x).0 e)) | inr e ↦ e ],
+            ),
+      )
+
+      pub one_more_row : IsWanted removed true r → (new : List (List ℕ)) → Replaces r (HasLabel (Among passed) rows finished r) rows new → RowsState initial bound (r + 1) new
+      one_more_row gone new v = next_rows initial bound r rows h gone new
+          (record {
+            len = v.len;
+            here = λ x. (λ i. (row_is x).0 ((v.here x).0 i), λ w. (v.here x).1 ((row_is x).1 w));
+            others = v.others;
+          })
+          (λ x w. let l = (row_is x).1 w in h.inside l.0.0 x l.0.2)
+
+-- a row that passes nothing and has nothing finished
+pub row_stays : (rows : List (List ℕ)) (finished : List Bool) (passed : List ℕ) (r : ℕ) → length passed ≡ 0 → ((x : ℕ) → Leads rows r x → IsWanted finished false x) → Replaces r (HasLabel (Among passed) rows finished r) rows rows
+row_stays rows finished passed r none clean = record {
+  len = refl;
+  here = λ x. (
+    λ i. ((r, inl refl, i), clean x i),
+    λ n. elim (n.0.1) [ inl own ↦ subst (λ z. Leads rows z x) own n.0.2 | inr p ↦ absurd (none_among passed none n.0.0 p) ],
+  );
+  others = λ a x other. (λ i. i, λ i. i);
+}
+
+-- a row that is set
+pub replaced : (rows : List (List ℕ)) (r : ℕ) (row : List ℕ) (P : ℕ → Type 0) → r < length rows → ((x : ℕ) → Among row x ↔ P x) → Replaces r P rows (set rows r row)
+replaced rows r row P lt is = record {
+  len = length-set rows r row;
+  here = λ x. subst (λ l. Among l x ↔ P x) (sym (get_or-set_same rows r row [] lt)) (is x);
+  others = λ a x other. subst (λ l. Among l x ↔ Leads rows a x) (sym (get_or-set_other rows r a row [] other)) (λ i. i, λ i. i);
+}
+
+-- the rows from r on, and those that aren't marked as moved, are as they were
+abbrev pub KeepsOwn : ℕ → List Bool → List (List ℕ) → List (List ℕ) → Type 0
+KeepsOwn r moved initial rows = (a : ℕ) → IsWanted moved false a ⊎ (r ≤ a) → row_items rows a ≡ row_items initial a
+
+pub none_moved : (moved : List Bool) (rows : List (List ℕ)) → KeepsOwn 0 moved rows rows
+none_moved moved rows a d = refl
+
+pub still_own : (r : ℕ) (moved : List Bool) (initial rows : List (List ℕ)) → KeepsOwn r moved initial rows → KeepsOwn (r + 1) moved initial rows
+still_own r moved initial rows h a d = h a (elim d [ inl e ↦ inl e | inr le ↦ inr (omega (arith, le)) ])
+
+pub one_more_own : (r : ℕ) (moved : List Bool) (initial rows new : List (List ℕ)) (is_moved : Bool) → r < length moved → KeepsOwn r moved initial rows → (is_moved ≡ false → new ≡ rows) → ((a : ℕ) → a ≢ r → row_items new a ≡ row_items rows a)
+    → KeepsOwn (r + 1) (set moved r is_moved) initial new
+one_more_own r moved initial rows new is_moved lt h stays others a d = elim (cases_eq a r) [
+  | inl same ↦ elim d [
+    | inl e ↦
+        let kept : is_moved ≡ false = sym (get_or-set_same moved r is_moved false lt) ∙ ap (λ i. get_or (set moved r is_moved) i false) (sym same) ∙ e in
+        ap (λ l. row_items l a) (stays kept) ∙ h a (inr (omega (arith, same)))
+    | inr le ↦ absurd (omega (arith, same, le))
+  ]
+  | inr ne ↦ others a ne ∙ h a (elim d [ inl e ↦ inl (sym (get_or-set_other moved r a is_moved false ne) ∙ e) | inr le ↦ inr (omega (arith, le)) ])
+]
+
+-- where all are marked, those past the end of the rows are left
+pub all_moved : (n m : ℕ) (moved : List Bool) (initial rows : List (List ℕ)) → length initial ≤ n → length initial ≤ m → length rows ≡ length initial → moved ≡ replicate n true → KeepsOwn m moved initial rows
+all_moved n m moved initial rows fits ends len all a d =
+    let past : length initial ≤ a = elim d [
+      | inl e ↦ elim (cases_lt a n) [
+        | inl lt ↦ absurd (false≢true (sym e ∙ ap (λ l. get_or l a false) all ∙ get_or-replicate n a true false lt))
+        | inr le ↦ omega (arith, le, fits)
+      ]
+      | inr le ↦ omega (arith, le, ends)
+    ] in
+    get_or_past rows a [] (omega (arith, past, len)) ∙ sym (get_or_past initial a [] past)
+
+-- before the first
+pub first_rows : (edges : List (List ℕ)) (removed : List Bool) (initial : List (List ℕ)) (bound : ℕ) → ((a x : ℕ) → Leads initial a x → x < bound) → RowsState edges removed initial bound 0 initial
+first_rows edges removed initial bound inside = record {
+  len = refl;
+  inside = inside;
+  done = λ a x u. absurd (let lt = u.1 in omega (arith, lt));
+  left = λ a x n. (λ i. i, λ i. i);
+}
+
+pub finds_redirects : (edges labels : List (List ℕ)) (flags moved : List Bool) (n : ℕ) (rows : List (List ℕ)) → length labels ≤ n → RowsState edges flags labels (length flags) n rows → length moved ≡ length flags → KeepsOwn n moved labels rows → FindsRedirects edges labels flags moved rows
+finds_redirects edges labels flags moved n rows all state count own = record {
+  len = state.len;
+  count = count;
+  redirects = λ r x lt gone. state.done r x (gone, omega (arith, all, lt));
+  own = λ r e. own r (inl e);
+  inside = state.inside;
+}

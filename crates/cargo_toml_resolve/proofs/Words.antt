@@ -1,0 +1,121 @@
+-- Bits of words.
+use Rattle.std.proofs.Common.{◌≡◌, ◌≢◌, ◌↔◌, ◌⊎◌, ◌<◌, ◌≤◌, ◌+◌, ◌*◌, ◌/◌, ◌%◌, ◌^◌, ℕ, List, [], ◌∷◌, ◌++◌, length, get_or, replicate, set, max, sym, ap, subst, inl, inr, ◌∙◌, arith, w64}
+use Rattle.std.specs.Prelude.{bit_or}
+use Rattle.std.specs.Int.{bit_at}
+use Rattle.std.proofs.lemmas.Bool.{cases_lt, cases_eq}
+use Rattle.std.proofs.lemmas.List.{get_or_past, get_or-replicate, get_or-set_same, get_or-set_other, length-replicate}
+use Rattle.std.proofs.lemmas.Nat.Bits.{bit_at_or, bit_at-zero, bit_at-lt, bit_at_set_same, bit_at_set_other}
+use Rattle.cargo_toml_graph.specs.Reach.{Among}
+use Rattle.cargo_toml_resolve.specs.Bits.{HasBit}
+use Rattle.cargo_toml_resolve.proofs.Steps.{among_either, among_first, among_last, read_at}
+
+-- past the last word there is no bit
+pub no_bit_past : (words : List ℕ) (x : ℕ) → length words ≤ x / 64 → ¬ HasBit words x
+no_bit_past words x past h =
+    let none : bit_at (get_or words (x / 64) 0) (x % 64) ≡ 0 = ap (λ w. bit_at w (x % 64)) (get_or_past words (x / 64) 0 past) ∙ bit_at-zero (x % 64) in
+    let one = h.stands in
+    absurd (omega (arith, none, one))
+
+-- nor among words that are none
+pub no_bit : (n : ℕ) (words : List ℕ) (x : ℕ) → words ≡ replicate n 0 → ¬ HasBit words x
+no_bit n words x are h =
+    let none : get_or (replicate n 0) (x / 64) 0 ≡ 0 = elim (cases_lt (x / 64) n) [
+      | inl lt ↦ get_or-replicate n (x / 64) 0 0 lt
+      | inr le ↦ get_or_past (replicate n 0) (x / 64) 0 (let l = length-replicate {A = ℕ} n 0 in omega (arith, l, le))
+    ] in
+    let zero : bit_at (get_or words (x / 64) 0) (x % 64) ≡ 0 = ap (λ w. bit_at (get_or w (x / 64) 0) (x % 64)) are ∙ ap (λ w. bit_at w (x % 64)) none ∙ bit_at-zero (x % 64) in
+    let one = h.stands in
+    absurd (omega (arith, zero, one))
+
+either_one : (p q : ℕ) → p < 2 → q < 2 → (max p q ≡ 1) ↔ ((p ≡ 1) ⊎ (q ≡ 1))
+either_one p q lp lq = (
+  λ m. elim (cases_eq p 1) [ inl e ↦ inl e | inr ne ↦ inr (omega arith) ],
+  elim [ inl e ↦ omega arith | inr e ↦ omega arith ],
+)
+
+word_joined : (u v w i : ℕ) → w ≡ bit_or u v → (bit_at w i ≡ 1) ↔ ((bit_at u i ≡ 1) ⊎ (bit_at v i ≡ 1))
+word_joined u v w i e =
+    let both : bit_at w i ≡ max (bit_at u i) (bit_at v i) = ap (λ z. bit_at z i) e ∙ bit_at_or u v i in
+    let either = either_one (bit_at u i) (bit_at v i) (bit_at-lt u i) (bit_at-lt v i) in
+    (λ h. either.0 (sym both ∙ h), λ h. both ∙ either.1 h)
+
+-- word by word
+pub joined_bits : (old new other : List ℕ) (n : ℕ) → length other ≤ n
+    → ((j : ℕ) → j < n → get_or new j 0 ≡ bit_or (get_or old j 0) (get_or other j 0))
+    → ((j : ℕ) → n ≤ j → get_or new j 0 ≡ get_or old j 0)
+    → (x : ℕ) → HasBit new x ↔ (HasBit old x ⊎ HasBit other x)
+joined_bits old new other n all done left x = elim (cases_lt (x / 64) n) [
+  | inl lt ↦
+      let w = word_joined (get_or old (x / 64) 0) (get_or other (x / 64) 0) (get_or new (x / 64) 0) (x % 64) (done (x / 64) lt) in (
+        λ h. elim (w.0 h.stands) [ inl e ↦ inl (record { stands = e }) | inr e ↦ inr (record { stands = e }) ],
+        λ h. record { stands = w.1 (elim h [ inl o ↦ inl o.stands | inr o ↦ inr o.stands ]) },
+      )
+  | inr ge ↦
+      let same : bit_at (get_or new (x / 64) 0) (x % 64) ≡ bit_at (get_or old (x / 64) 0) (x % 64) = ap (λ w. bit_at w (x % 64)) (left (x / 64) ge) in (
+        λ h. inl (record { stands = sym same ∙ h.stands }),
+        λ h. record { stands = same ∙ elim h [ inl o ↦ o.stands | inr o ↦ absurd (no_bit_past other x (omega (arith, all, ge)) o) ] },
+      )
+]
+
+module _ (words : List ℕ) (x : ℕ) (inside : x / 64 < length words) where
+  -- the word of x, with its bit
+  abbrev pub word_with : ℕ
+  word_with = bit_or (get_or words (x / 64) 0) (1 * 2 ^ (x % 64) % 2 ^ 64)
+
+  at_word : (y : ℕ) → y / 64 ≡ x / 64 → bit_at (get_or (set words (x / 64) word_with) (y / 64) 0) (y % 64) ≡ bit_at word_with (y % 64)
+  at_word y e = ap (λ z. bit_at (get_or (set words (x / 64) word_with) z 0) (y % 64)) e ∙ ap (λ w. bit_at w (y % 64)) (get_or-set_same words (x / 64) word_with 0 inside)
+
+  at_other : (y : ℕ) → y / 64 ≢ x / 64 → bit_at (get_or (set words (x / 64) word_with) (y / 64) 0) (y % 64) ≡ bit_at (get_or words (y / 64) 0) (y % 64)
+  at_other y ne = ap (λ w. bit_at w (y % 64)) (get_or-set_other words (x / 64) (y / 64) word_with 0 ne)
+
+  within : x % 64 < 64
+  within = omega arith
+
+  pub bit_put : (y : ℕ) → HasBit (set words (x / 64) word_with) y ↔ (HasBit words y ⊎ (y ≡ x))
+  bit_put y = elim (cases_eq (y / 64) (x / 64)) [
+    | inl word ↦ elim (cases_eq (y % 64) (x % 64)) [
+      | inl bit ↦ (
+        λ h. inr (omega (arith, word, bit)),
+        λ h. record { stands = at_word y word ∙ ap (λ i. bit_at word_with i) bit ∙ bit_at_set_same w64 (get_or words (x / 64) 0) (x % 64) within },
+      )
+      | inr other ↦
+          let same : bit_at word_with (y % 64) ≡ bit_at (get_or words (y / 64) 0) (y % 64) = bit_at_set_other w64 (get_or words (x / 64) 0) (x % 64) within (y % 64) other ∙ ap (λ z. bit_at (get_or words z 0) (y % 64)) (sym word) in (
+            λ h. inl (record { stands = sym same ∙ sym (at_word y word) ∙ h.stands }),
+            elim [ inl h ↦ record { stands = at_word y word ∙ same ∙ h.stands } | inr e ↦ absurd (other (ap (λ z. z % 64) e)) ],
+          )
+    ]
+    | inr apart ↦ (
+      λ h. inl (record { stands = sym (at_other y apart) ∙ h.stands }),
+      elim [ inl h ↦ record { stands = at_other y apart ∙ h.stands } | inr e ↦ absurd (apart (ap (λ z. z / 64) e)) ],
+    )
+  ]
+
+-- the word is read and written at the place p of x
+pub put_at : (words : List ℕ) (x p old : ℕ) → p ≡ x → x / 64 < length words → old ≡ get_or words (p / 64) old → (y : ℕ) → HasBit (set words (p / 64) (bit_or old (1 * 2 ^ (p % 64) % 2 ^ 64))) y ↔ (HasBit words y ⊎ (y ≡ x))
+put_at words x p old at inside is =
+    let there : get_or words (x / 64) 0 ≡ old = read_at words (x / 64) 0 old inside (subst (λ n. old ≡ get_or words (n / 64) old) at is) in
+    subst (λ n. (y : ℕ) → HasBit (set words (n / 64) (bit_or old (1 * 2 ^ (n % 64) % 2 ^ 64))) y ↔ (HasBit words y ⊎ (y ≡ x))) (sym at)
+    (subst (λ o. (y : ℕ) → HasBit (set words (x / 64) (bit_or o (1 * 2 ^ (x % 64) % 2 ^ 64))) y ↔ (HasBit words y ⊎ (y ≡ x))) there (bit_put words x inside))
+
+-- the numbers below n of which P holds, once n is looked at
+module _ (P : ℕ → Type 0) (row : List ℕ) (n : ℕ) (is : (y : ℕ) → Among row y ↔ ((y < n) × P y)) where
+  pub one_more_held : P n → (y : ℕ) → Among (row ++ n ∷ []) y ↔ ((y < n + 1) × P y)
+  one_more_held p y = (
+    λ i. elim (among_either row n y i) [
+      | inl a ↦ let lt = ((is y).0 a).0 in (omega (arith, lt), ((is y).0 a).1)
+      | inr e ↦ (omega (arith, e), subst P (sym e) p)
+    ],
+    λ h. elim (cases_eq y n) [
+      | inl e ↦ subst (Among (row ++ n ∷ [])) (sym e) (among_last row n)
+      | inr ne ↦ let lt = h.0 in among_first row (n ∷ []) y ((is y).1 (omega (arith, lt, ne), h.1))
+    ],
+  )
+
+  pub none_more_held : ¬ P n → (y : ℕ) → Among row y ↔ ((y < n + 1) × P y)
+  none_more_held lacks y = (
+    λ i. let lt = ((is y).0 i).0 in (omega (arith, lt), ((is y).0 i).1),
+    λ h. elim (cases_eq y n) [
+      | inl e ↦ absurd (lacks (subst P e h.1))
+      | inr ne ↦ let lt = h.0 in (is y).1 (omega (arith, lt, ne), h.1)
+    ],
+  )

@@ -1,6 +1,0 @@
-use Rattle.cargo_toml_resolve.specs.Holding.{AllTakeOver}
-use Rattle.cargo_toml_resolve.specs.Texts.{texts_now}
-use Rattle.cargo_toml_resolve.proofs.keeping.keep_all_by_bits.Given as goal
-
-abbrev pub invariant-loop-own : goal.invariant-loop-own
-invariant-loop-own l = AllTakeOver l.graph.edges l.graph.names l.graph.flags.items (texts_now l.graph.texts.items) l.own l.fn.features.items l.features.items

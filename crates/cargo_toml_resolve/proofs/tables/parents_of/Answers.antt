@@ -1,0 +1,30 @@
+use Rattle.std.proofs.Common.{rules, ◌+◌, ◌<◌, ◌↔◌, ℕ, ◌++◌, ◌∷◌, [], length, ap, sym, subst, ◌∙◌, arith}
+use Rattle.std.proofs.lemmas.Bool.{false≢true}
+use Rattle.cargo_toml_graph.specs.Reach.{Among}
+use Rattle.cargo_toml_resolve.specs.Bits.{HasBit, Holds}
+use Rattle.cargo_toml_resolve.proofs.Steps.{list_read}
+use Rattle.cargo_toml_resolve.proofs.Tabled.{holds_inside}
+use Rattle.cargo_toml_resolve.proofs.Words.{none_more_held, one_more_held}
+use Rattle.cargo_toml_resolve.proofs.tables.parents_of.Goals.{then-has_bit+in_ok-push, else-has_bit}
+use Rattle.cargo_toml_resolve.proofs.tables.parents_of.Goals as goal
+
+pub loop-a-preserved : goal.loop-a-preserved
+loop-a-preserved c =
+    let P : ℕ → Type 0 = λ y. Holds c.args.table.now y c.args.of in
+    let inside : c.loop-a.a < length c.args.table.now = search rules in
+    let read = c.as_slice.ensures.value ∙ sym (list_read c.args.table.now c.loop-a.a c.index-table-a.result inside c.index-table-a.is) in
+    elim c.if-has_bit.branch [
+      | then-has_bit+in_ok-push w ↦
+          let pushed = w.in_ok-push.ensures.items ∙ ap (λ n. c.loop-a.parents.items ++ n ∷ []) w.at.ensures in
+          rw w.parents-is (subst (λ r. (y : ℕ) → Among r y ↔ ((y < c.loop-a.a + 1) × P y)) (sym pushed)
+          (one_more_held P c.loop-a.parents.items c.loop-a.a c.loop-a.invariant (subst (λ t. HasBit t c.args.of) read (c.has_bit.ensures.0 w.if-has_bit.true))))
+      | else-has_bit w ↦
+          rw w.parents-is (none_more_held P c.loop-a.parents.items c.loop-a.a c.loop-a.invariant
+          (λ p. false≢true (sym w.if-has_bit.false ∙ c.has_bit.ensures.1 (subst (λ t. HasBit t c.args.of) (sym read) p))))
+    ]
+
+pub returns : goal.returns
+returns c = λ a. (
+  λ i. ((c.loop-a.invariant a).0 i).1,
+  λ h. let lt = holds_inside c.args.table.now a c.args.of h in (c.loop-a.invariant a).1 (omega (arith, lt), h),
+)

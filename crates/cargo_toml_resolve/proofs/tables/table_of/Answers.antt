@@ -1,0 +1,29 @@
+use Rattle.std.proofs.Common.{rules, ◌≡◌, ◌+◌, ◌↔◌, ℕ, length, sym, subst, ◌∙◌, ap, arith}
+use Rattle.cargo_toml_graph.specs.Reach.{Among}
+use Rattle.cargo_toml_resolve.specs.Bits.{HasBit}
+use Rattle.cargo_toml_resolve.specs.Numbers.{Leads, row_items}
+use Rattle.cargo_toml_resolve.proofs.Steps.{has_row}
+use Rattle.cargo_toml_resolve.proofs.Tabled.{IsTabled, tabled_all, tabled_more}
+use Rattle.cargo_toml_resolve.proofs.tables.table_of.Goals as goal
+
+pub bits_of-requires : goal.bits_of-requires
+bits_of-requires c = λ x i.
+    let read = c.row.ensures ∙ ap (row_items c.args.rows.now) c.at.ensures in
+    c.requires _ x (subst (λ t. Among t x) read i)
+
+pub loop-a-preserved : goal.loop-a-preserved
+loop-a-preserved c =
+    let read = c.row.ensures ∙ ap (row_items c.args.rows.now) c.at.ensures in
+    subst (IsTabled (Leads c.args.rows.now) c.args.width (c.loop-a.a + 1)) (sym c.in_ok-push.ensures.items)
+    (tabled_more (Leads c.args.rows.now) c.args.width c.loop-a.a c.loop-a.table.items c.loop-a.invariant c.in_ok-bits_of.field-0 c.in_ok-bits_of.ensures.len
+    (subst (λ t. (x : ℕ) → HasBit c.in_ok-bits_of.field-0.items x ↔ Among t x) read c.in_ok-bits_of.ensures.bits))
+
+pub returns : goal.returns
+returns c =
+    let rows = c.args.rows.now in
+    let all : c.loop-a.a ≡ length rows = search rules in
+    record {
+      len = c.loop-a.invariant.len ∙ all;
+      wide = c.loop-a.invariant.wide;
+      bits = tabled_all (Leads rows) c.args.width c.loop-a.a c.loop-a.table.items c.loop-a.invariant (λ a x l. let lt = has_row rows a x l in omega (arith, lt, all));
+    }

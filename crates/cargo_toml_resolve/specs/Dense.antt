@@ -1,0 +1,24 @@
+-- What leads where in a dense graph, as tables of bits.
+use Rattle.std.specs.Prelude.{◌≡◌, ◌↔◌, ◌≤◌, ◌*◌, ℕ, Bool, true, List, length, Vec}
+use Rattle.cargo_toml_graph.specs.Reach.{GathersLabel, Reaches}
+use Rattle.cargo_toml_resolve.specs.Bits.{AreWide, Holds}
+use Rattle.cargo_toml_resolve.specs.Numbers.{FindsRedirects, IsWanted, Leads}
+use Rattle.cargo_toml_resolve.specs.declared.dense.Tables.{Tables}
+
+-- a table of n rows of so many words has the bits of which P holds
+pub record IsTable {Z : Type 0} (P : ℕ → ℕ → Type 0) (width n : ℕ)
+    (table : List (Vec ℕ Z)) : Type 0 where
+  pub len : length table ≡ n
+  pub wide : AreWide width table
+  pub bits : (a x : ℕ) → Holds table a x ↔ P a x
+
+-- the tables have what each vertex reaches through removed ones, and the labels of it and of those,
+-- and what stands for the removed ones
+pub record AreTables (edges names : List (List ℕ)) (flags : List Bool) (t : Tables) : Type 0 where
+  pub width : ℕ
+  pub enough : length flags ≤ 64 * width
+  pub paths : IsTable (Reaches (Leads edges) (IsWanted flags true)) width (length edges)
+      t.paths.items
+  pub labels : IsTable (GathersLabel (Leads edges) (IsWanted flags true) (Leads names)) width
+      (length edges) t.labels.items
+  pub redirects : FindsRedirects edges names flags t.redirects.moved.items t.redirects.rows

@@ -1,0 +1,104 @@
+//! What stands for removed vertices, one after another.
+ghost use Rattle.std.specs.Prelude.{◌≡◌, ◌≢◌, ◌<◌, ◌≤◌, ◌↔◌, ℕ, List, length, false};
+ghost use Rattle.std.specs.Prelude.{IfOk, OnOk};
+ghost use Rattle.cargo_toml_graph.specs.Reach.{Among};
+ghost use Rattle.cargo_toml_resolve.specs.Numbers.{AreWithin, FindsRedirects, HasLabel, IsPassed};
+ghost use Rattle.cargo_toml_resolve.specs.Numbers.{Leads, Replaces, row_items};
+
+use crate::rows::Rows;
+use crate::walk::{Walk, has_flagged};
+use cargo_toml_features::node::Node;
+use std::alloc::{AllocError, Global};
+
+// The row of a vertex becomes what it and the passed rows have, without the finished ones. Whether
+// it had to change.
+fn finish(
+    rows: &mut Rows,
+    own: Node,
+    finished: &[bool],
+    walk: &mut Walk,
+) -> Result<bool, AllocError>
+    requires own { own < length rows.old }
+    requires passed { (b : ℕ) → Among walk.old.passed.items b → b < length rows.old }
+    requires fits { length walk.old.met ≤ length finished.now }
+    requires inside { (a x : ℕ) → Leads rows.old a x → x < length walk.old.met }
+    ensures row { OnOk result (Replaces own
+        (HasLabel (Among walk.old.passed.items) rows.old finished.now own) rows.old rows.new) }
+    ensures stays { IfOk result (λ is_moved. is_moved ≡ false → rows.new ≡ rows.old) }
+    ensures others { OnOk result ((a : ℕ) → a ≢ own → row_items rows.new a ≡ row_items rows.old a) }
+    ensures passed { OnOk result (walk.new.passed ≡ walk.old.passed) }
+    ensures len { OnOk result (length walk.new.met ≡ length walk.old.met) }
+{
+    if walk.passed.is_empty() && !has_flagged(rows.row(own), finished) {
+        return Ok(false);
+    }
+    walk.label(own, rows, finished)?;
+    rows.replace(own, walk.labels.as_slice())?;
+    Ok(true)
+}
+
+/// What stands for each removed vertex, and whether that isn't what it has itself.
+#[derive(Debug, Drop)]
+pub struct Redirects {
+    /// The redirect of each removed vertex, and the labels of the others.
+    pub rows: Rows,
+    /// For each node whether its row was replaced.
+    pub moved: Vec<bool>,
+}
+
+// The redirect of one removed vertex. Whether it had to change.
+fn redirect(
+    edges: &mut Rows,
+    labels: &mut Rows,
+    own: Node,
+    finished: &[bool],
+    walk: &mut Walk,
+) -> Result<bool, AllocError>
+    requires own { own < length edges.old }
+    requires within { AreWithin edges.old labels.old finished.now }
+    requires room { length walk.old.met ≡ length finished.now }
+    ensures rows { OnOk result ((passed : List ℕ)
+        × ((b : ℕ) → Among passed b ↔ IsPassed edges.old finished.now own b)
+        × Replaces own (HasLabel (Among passed) edges.old finished.now own) edges.old edges.new
+        × Replaces own (HasLabel (Among passed) labels.old finished.now own)
+        labels.old labels.new) }
+    ensures stays { IfOk result (λ is_moved. is_moved ≡ false → labels.new ≡ labels.old) }
+    ensures others { OnOk result ((a : ℕ) → a ≢ own
+        → row_items labels.new a ≡ row_items labels.old a) }
+    ensures room { OnOk result (length walk.new.met ≡ length walk.old.met) }
+{
+    walk.pass(own, edges, finished)?;
+    let is_moved = finish(labels, own, finished, walk)?;
+    finish(edges, own, finished, walk)?;
+    Ok(is_moved)
+}
+
+/// For each removed vertex its redirect: the labels that it has once the removed vertices below it
+/// are taken out. The others keep their labels.
+pub fn find_redirects(
+    alloc: Global,
+    mut edges: Rows,
+    mut labels: Rows,
+    is_removed: &[bool],
+    walk: &mut Walk,
+) -> Result<Redirects, AllocError>
+    requires within { AreWithin edges labels is_removed.now }
+    requires room { length walk.old.met ≡ length is_removed.now }
+    ensures { IfOk result (λ r. FindsRedirects edges labels is_removed.now r.moved.items r.rows) }
+{
+    let total = is_removed.len();
+    let mut finished = Vec::from_elem(alloc, false, total)?;
+    let mut moved = Vec::from_elem(alloc, false, total)?;
+    for r in 0..edges.len() {
+        if is_removed[r] {
+            let own = Node::at(r);
+            let flags = finished.as_slice();
+            moved[r] = redirect(&mut edges, &mut labels, own, flags, walk)?;
+            finished[r] = true;
+        }
+    }
+    Ok(Redirects {
+        rows: labels,
+        moved,
+    })
+}

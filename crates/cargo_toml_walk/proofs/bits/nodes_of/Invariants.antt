@@ -1,8 +1,0 @@
-use Rattle.std.proofs.Common.{◌<◌, ◌↔◌, ℕ}
-use Rattle.cargo_toml_graph.specs.Reach.{Among}
-use Rattle.cargo_toml_walk.specs.Bits.{HasBit}
-use Rattle.cargo_toml_walk.specs.Numbers.{IsWanted}
-use Rattle.cargo_toml_walk.proofs.bits.nodes_of.Given as goal
-
-abbrev pub invariant-loop-x : goal.invariant-loop-x
-invariant-loop-x l = (y : ℕ) → Among l.row.items y ↔ ((y < l.x) × (HasBit l.bits y × IsWanted l.flags l.wanted y))

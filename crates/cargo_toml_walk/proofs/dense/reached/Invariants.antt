@@ -1,6 +1,0 @@
-use Rattle.std.proofs.Common.{length}
-use Rattle.cargo_toml_walk.proofs.Closing.{HasPaths}
-use Rattle.cargo_toml_walk.proofs.dense.reached.Given as goal
-
-abbrev pub invariant-loop-r : goal.invariant-loop-r
-invariant-loop-r l = HasPaths l.is_removed l.edges (length l.edges) l.width l.r l.table.items

@@ -1,7 +1,0 @@
-use Rattle.std.proofs.Common.{take}
-use Rattle.cargo_toml_graph.specs.Reach.{Among}
-use Rattle.cargo_toml_walk.specs.Bits.{Gains, HasBit}
-use Rattle.cargo_toml_walk.proofs.tables.join_rows.Given as goal
-
-abbrev pub invariant-loop-a : goal.invariant-loop-a
-invariant-loop-a l = Gains (Among (take l.a-index l.named)) (HasBit l.bits) l.initial.table.items l.table.items

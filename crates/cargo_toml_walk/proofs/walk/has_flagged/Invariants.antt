@@ -1,7 +1,0 @@
-use Rattle.std.proofs.Common.{take, false, ℕ}
-use Rattle.cargo_toml_graph.specs.Reach.{Among}
-use Rattle.cargo_toml_walk.specs.Numbers.{IsWanted}
-use Rattle.cargo_toml_walk.proofs.walk.has_flagged.Given as goal
-
-abbrev pub invariant-loop-x : goal.invariant-loop-x
-invariant-loop-x l = (x : ℕ) → Among (take l.x-index l.row) x → IsWanted l.flags false x

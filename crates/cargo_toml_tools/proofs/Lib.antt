@@ -30,3 +30,4 @@ pub mod Inserted
 pub mod Using
 pub mod Unused
 pub mod Sorting
+mod FileFacts

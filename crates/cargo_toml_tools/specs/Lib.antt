@@ -17,6 +17,10 @@ pub mod Patterns
 pub mod Places
 pub mod MemberFolders
 pub mod Documented
+-- what the tools answer of files, and why they refuse
+pub mod FromFiles
+pub mod LintedFiles
+pub mod IndexedFiles
 -- the code's own steps, in contracts of inner functions alone: nothing here has to be believed
 pub mod Checked
 pub mod Sections

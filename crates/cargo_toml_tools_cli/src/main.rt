@@ -4,7 +4,7 @@
 #![tactic(auto)]
 
 use cargo_toml_tools::escape::fault_line;
-use cargo_toml_tools_files::{audit, document, index, lint};
+use cargo_toml_tools::files::{audit, document, index, lint};
 use cargo_toml_tools_words::{Outcome, Request, USAGE, read_request};
 use std::env::FillError;
 use std::fmt::Display;

@@ -12,9 +12,9 @@ use Rattle.cargo_toml_tools.specs.Indexed.{Wanted, refusal_of}
 use Rattle.cargo_toml_tools.specs.Sections.{told}
 use Rattle.cargo_toml_tools.specs.declared.index.IndexError.{IndexError}
 use Rattle.cargo_toml_tools.specs.declared.index.IndexError.TheVariants.{Memory}
-use Rattle.cargo_toml_tools_files.specs.FromFiles.{IsCompletedIn, IsOfInput, IsUncompleted}
-use Rattle.cargo_toml_tools_files.specs.declared.indexing.Fault.{Fault}
-use Rattle.cargo_toml_tools_files.specs.declared.indexing.Fault.TheVariants as fault
+use Rattle.cargo_toml_tools.specs.FromFiles.{IsCompletedIn, IsOfInput, IsUncompleted}
+use Rattle.cargo_toml_tools.specs.declared.files.indexing.Fault.{Fault}
+use Rattle.cargo_toml_tools.specs.declared.files.indexing.Fault.TheVariants as fault
 
 -- some text of the file at this path reads and completes as a manifest that an index takes
 pub record IsIndexed (path : Text) (w : Wanted) : Type 0 where

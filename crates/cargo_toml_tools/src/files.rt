@@ -1,5 +1,4 @@
 //! What the tools make of files: each manifest is read, completed and held here, on the heap.
-#![tactic(auto)]
 
 mod auditing;
 mod documenting;

@@ -4,8 +4,8 @@ use Rattle.toml.specs.View.{view}
 use Rattle.cargo_toml.specs.Manifests.{ManifestRefuses, manifest_meaning, manifest_reads}
 use Rattle.cargo_toml.specs.Texts.{AnyRefuses, any_tree}
 use Rattle.cargo_toml_manifest.proofs.PathFaults.{refused_in_file}
-use Rattle.cargo_toml_tools_files.proofs.FileFacts.{completed_as}
-use Rattle.cargo_toml_tools_files.proofs.indexing.index.Goals as goal
+use Rattle.cargo_toml_tools.proofs.FileFacts.{completed_as}
+use Rattle.cargo_toml_tools.proofs.files.indexing.index.Goals as goal
 
 pub returns-in_err-read-clause-refused : goal.returns-in_err-read-clause-refused
 returns-in_err-read-clause-refused g c =

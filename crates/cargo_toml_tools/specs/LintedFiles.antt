@@ -5,7 +5,7 @@ use Rattle.cargo_toml.specs.Action.{Text}
 use Rattle.cargo_toml.specs.Manifest.{Manifest}
 use Rattle.cargo_toml.specs.Manifests.{held}
 use Rattle.cargo_toml_tools.specs.Linted.{IsAmiss}
-use Rattle.cargo_toml_tools_files.specs.FromFiles.{IsManifestIn}
+use Rattle.cargo_toml_tools.specs.FromFiles.{IsManifestIn}
 
 -- some text reads as a manifest in which something is amiss exactly where the flag is set
 pub record IsLinted (amiss : Bool) : Type 0 where

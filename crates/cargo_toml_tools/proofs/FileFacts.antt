@@ -7,7 +7,7 @@ use Rattle.toml.specs.declared.value.Value.{Value}
 use Rattle.cargo_toml.specs.Action.{Text}
 use Rattle.cargo_toml.specs.Error.{Error}
 use Rattle.cargo_toml.specs.Manifest.{Manifest}
-use Rattle.cargo_toml_tools_files.specs.FromFiles.{IsCompletedIn, IsOfInput, IsUnreadable}
+use Rattle.cargo_toml_tools.specs.FromFiles.{IsCompletedIn, IsOfInput, IsUnreadable}
 
 pub of_input : (e : Error) → IsOfInput e → IsUnreadable e
 of_input e (inl memory) = inl memory

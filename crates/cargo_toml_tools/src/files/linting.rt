@@ -1,11 +1,11 @@
 //! What is amiss with features.
 ghost use Rattle.std.specs.Prelude.{IfErr, IfOk};
-ghost use Rattle.cargo_toml_tools_files.specs.FromFiles.{IsUnreadable};
-ghost use Rattle.cargo_toml_tools_files.specs.LintedFiles.{IsLinted};
+ghost use Rattle.cargo_toml_tools.specs.FromFiles.{IsUnreadable};
+ghost use Rattle.cargo_toml_tools.specs.LintedFiles.{IsLinted};
 
-use crate::reading::manifest_in;
+use super::reading::manifest_in;
+use crate::lint::lint_lines;
 use cargo_toml::Error;
-use cargo_toml_tools::lint::lint_lines;
 use std::hash::RandomState;
 use std::random::RandomSource;
 use std::rt::Files;

@@ -1,6 +1,6 @@
 use Rattle.std.proofs.lemmas.Result.{err_from_is_err_and}
 use Rattle.cargo_toml_discovery.proofs.Faults.{from_input}
-use Rattle.cargo_toml_tools_files.proofs.indexing.findings_of.Goals as goal
+use Rattle.cargo_toml_tools.proofs.files.indexing.findings_of.Goals as goal
 
 pub returns-in_err-state : goal.returns-in_err-state
 returns-in_err-state g c =

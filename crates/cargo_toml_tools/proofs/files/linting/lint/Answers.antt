@@ -1,9 +1,9 @@
 use Rattle.std.proofs.Common.{subst, sym}
 use Rattle.std.proofs.lemmas.Result.{IfOk-weaker, err_from_is_err_and}
 use Rattle.cargo_toml_discovery.proofs.Faults.{from_input}
-use Rattle.cargo_toml_tools_files.specs.FromFiles.{IsManifestIn}
-use Rattle.cargo_toml_tools_files.proofs.FileFacts.{of_input}
-use Rattle.cargo_toml_tools_files.proofs.linting.lint.Goals as goal
+use Rattle.cargo_toml_tools.specs.FromFiles.{IsManifestIn}
+use Rattle.cargo_toml_tools.proofs.FileFacts.{of_input}
+use Rattle.cargo_toml_tools.proofs.files.linting.lint.Goals as goal
 
 pub returns-in_err-state-clause-refused : goal.returns-in_err-state-clause-refused
 returns-in_err-state-clause-refused g c =

@@ -1,9 +1,9 @@
 //! The report on a workspace.
 
-use crate::reading::manifest_in;
+use super::reading::manifest_in;
+use crate::audit::{Audit, json, lines};
+use crate::members::{Members, list_members, manifest_path};
 use cargo_toml::{Error, Manifest, Workspace};
-use cargo_toml_tools::audit::{Audit, json, lines};
-use cargo_toml_tools::members::{Members, list_members, manifest_path};
 use std::alloc::{AllocError, Global};
 use std::io;
 use std::rt::Files;

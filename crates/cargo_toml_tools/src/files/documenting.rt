@@ -1,11 +1,11 @@
 //! What is documented of features.
 ghost use Rattle.std.specs.Prelude.{◌≡◌, true, IfErr};
-ghost use Rattle.cargo_toml_tools_files.specs.FromFiles.{IsOfInput, IsUnreadable};
+ghost use Rattle.cargo_toml_tools.specs.FromFiles.{IsOfInput, IsUnreadable};
 
-use crate::reading::manifest_in;
+use super::reading::manifest_in;
+use crate::document::{graph, page};
 use cargo_toml::features::{Features, Resolver};
 use cargo_toml::{Error, Manifest};
-use cargo_toml_tools::document::{graph, page};
 use std::alloc::{AllocError, Global};
 use std::hash::RandomState;
 use std::random::RandomSource;

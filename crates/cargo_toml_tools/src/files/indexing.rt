@@ -2,13 +2,13 @@
 ghost use Rattle.std.specs.Prelude.{IfErr, IsSome, OnOk};
 ghost use Rattle.std.specs.Path.{path_parent};
 ghost use Rattle.cargo_toml_tools.specs.Sections.{wanted_of};
-ghost use Rattle.cargo_toml_tools_files.specs.FromFiles.{IsOfInput};
-ghost use Rattle.cargo_toml_tools_files.specs.IndexedFiles.{IsIndexFault, IsIndexed};
+ghost use Rattle.cargo_toml_tools.specs.FromFiles.{IsOfInput};
+ghost use Rattle.cargo_toml_tools.specs.IndexedFiles.{IsIndexFault, IsIndexed};
 
-use crate::reading::{completed_of, text_in};
+use super::reading::{completed_of, text_in};
+use crate::index::{IndexError, Options, index_entry};
 use cargo_toml::{Error, Manifest};
 use cargo_toml_lint::{Finding, lint};
-use cargo_toml_tools::index::{IndexError, Options, index_entry};
 use std::alloc::AllocError;
 use std::fmt;
 use std::hash::RandomState;
@@ -26,7 +26,7 @@ pub enum Fault {
 
 impl From<Error> for Fault {
     ghost use Rattle.std.specs.Prelude.{◌≡◌};
-    ghost use Rattle.cargo_toml_tools_files.specs.declared.indexing.Fault.TheVariants as fault;
+    ghost use Rattle.cargo_toml_tools.specs.declared.files.indexing.Fault.TheVariants as fault;
 
     ghost from_gives = { λ inner e. e ≡ fault.Manifest inner };
 
@@ -37,7 +37,7 @@ impl From<Error> for Fault {
 
 impl From<IndexError> for Fault {
     ghost use Rattle.std.specs.Prelude.{◌≡◌};
-    ghost use Rattle.cargo_toml_tools_files.specs.declared.indexing.Fault.TheVariants as fault;
+    ghost use Rattle.cargo_toml_tools.specs.declared.files.indexing.Fault.TheVariants as fault;
 
     ghost from_gives = { λ inner e. e ≡ fault.Index inner };
 
@@ -49,7 +49,7 @@ impl From<IndexError> for Fault {
 impl From<AllocError> for Fault {
     ghost use Rattle.std.specs.Prelude.{◌≡◌};
     ghost use Rattle.cargo_toml.specs.Error.{Memory};
-    ghost use Rattle.cargo_toml_tools_files.specs.declared.indexing.Fault.TheVariants as fault;
+    ghost use Rattle.cargo_toml_tools.specs.declared.files.indexing.Fault.TheVariants as fault;
 
     ghost from_gives = { λ _ e. e ≡ fault.Manifest Memory };
 
@@ -60,7 +60,7 @@ impl From<AllocError> for Fault {
 
 /// The words of the fault inside.
 impl fmt::Display for Fault {
-    ghost use Rattle.cargo_toml_tools_files.specs.IndexedFiles.{WritesOwnWords};
+    ghost use Rattle.cargo_toml_tools.specs.IndexedFiles.{WritesOwnWords};
 
     fn fmt<W: fmt::Write>(&self, f: &mut fmt::Formatter<W>) -> fmt::Result
         ensures words { WritesOwnWords W.write_str_gives f.old result self.now f.new }

@@ -6,8 +6,8 @@ ghost use Rattle.cargo_toml.specs.Action.{Text};
 ghost use Rattle.cargo_toml.specs.Manifests.{ManifestRefuses, manifest_meaning, manifest_reads};
 ghost use Rattle.cargo_toml.specs.RealFiles.{IsTextFault};
 ghost use Rattle.cargo_toml.specs.Texts.{AnyRefuses, any_tree};
-ghost use Rattle.cargo_toml_tools_files.specs.FromFiles.{IsCompletedIn, IsManifestIn};
-ghost use Rattle.cargo_toml_tools_files.specs.FromFiles.{IsOfInput, IsUnreadable};
+ghost use Rattle.cargo_toml_tools.specs.FromFiles.{IsCompletedIn, IsManifestIn};
+ghost use Rattle.cargo_toml_tools.specs.FromFiles.{IsOfInput, IsUnreadable};
 
 use cargo_toml::Error;
 use cargo_toml_held::HeldManifest;

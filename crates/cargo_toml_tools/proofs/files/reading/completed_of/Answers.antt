@@ -7,7 +7,7 @@ use Rattle.cargo_toml.specs.Manifests.{ManifestRefuses, held, manifest_meaning, 
 use Rattle.cargo_toml.specs.RealFiles.{ReadsAs}
 use Rattle.cargo_toml.specs.Texts.{AnyRefuses, any_tree}
 use Rattle.cargo_toml_manifest.proofs.PathFaults.{refused_of}
-use Rattle.cargo_toml_tools_files.proofs.reading.completed_of.Goals as goal
+use Rattle.cargo_toml_tools.proofs.files.reading.completed_of.Goals as goal
 
 pub returns-clause-completed : goal.returns-clause-completed
 returns-clause-completed g c = record {

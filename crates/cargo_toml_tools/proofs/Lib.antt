@@ -1,27 +1,20 @@
-pub mod Escaping
 pub mod Compared
 pub mod Gained
 pub mod Left
 pub mod Matched
-pub mod Pieces
 pub mod Placed
-pub mod Reporting
 pub mod Asked
 pub mod Grown
 pub mod Listed
-pub mod Parts
 pub mod Settled
-pub mod Signs
 pub mod Summed
 pub mod Told
 pub mod Refused
-pub mod Weighed
 pub mod Within
 pub mod Yielded
 pub mod Followed
 pub mod KeysInOrder
 pub mod Ordered
-pub mod Joined
 pub mod Reaching
 pub mod Rowed
 pub mod Exactly
@@ -30,3 +23,4 @@ pub mod Inserted
 pub mod Using
 pub mod Unused
 pub mod Sorting
+mod FileFacts

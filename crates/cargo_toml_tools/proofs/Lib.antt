@@ -1,14 +1,13 @@
 pub mod Escaping
 pub mod Compared
-pub mod Gained
 pub mod Left
+pub mod Kept
+pub mod Repeated
 pub mod Matched
 pub mod Pieces
 pub mod Placed
-pub mod Reporting
 pub mod Asked
 pub mod Grown
-pub mod Listed
 pub mod Parts
 pub mod Settled
 pub mod Signs
@@ -16,9 +15,9 @@ pub mod Summed
 pub mod Told
 pub mod Refused
 pub mod Weighed
+pub mod Walked
 pub mod Within
 pub mod Yielded
-pub mod Followed
 pub mod KeysInOrder
 pub mod Ordered
 pub mod Joined
@@ -28,6 +27,5 @@ pub mod Exactly
 pub mod Grouped
 pub mod Inserted
 pub mod Using
-pub mod Unused
 pub mod Sorting
 mod FileFacts

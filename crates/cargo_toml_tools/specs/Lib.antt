@@ -11,6 +11,7 @@ pub mod LeftKeys
 pub mod Noted
 pub mod Neighbours
 pub mod Overall
+pub mod Refusals
 pub mod Escapes
 pub mod Escaped
 pub mod Patterns
@@ -24,5 +25,4 @@ pub mod IndexedFiles
 -- the code's own steps, in contracts of inner functions alone: nothing here has to be believed
 pub mod Checked
 pub mod Sections
-pub mod FurtherFolders
 pub mod Rows

@@ -6,7 +6,9 @@ import random
 CORP = "https://example.com/corp/index"
 KEYS = ["log", "serde", "rand", "x-y"]
 REQUIREMENTS = ["1", "0.4", "^0.4", "=1.2.3", ">=1, <2", "*", "1.*", "~1.2"]
-VERSIONS = ["1.0.0", "0.1.2-rc.1", "2.0.0+meta"]
+VERSIONS = ["1.0.0", "0.1.2-rc.1", "2.0.0+meta", "0.0.0"]
+# What a workspace gives, each under the key of the package that is left to it.
+GIVEN = {"version": '"1.4.0"', "rust-version": '"1.91"', "publish": '["crates-io"]'}
 EDITIONS = ["2015", "2018", "2021", "2021", "2024"]
 NAMES = ["default", "a", "b", "c", "_h", "std", "log"]
 ODD_NAMES = ["", "a b", "a/b", "a:b", "dep:a", "+a", "-a", ".a", "a?", "é", "it"]
@@ -38,7 +40,7 @@ class Manifests:
         elif self.happens(0.1):
             parts = ['git = "https://example.com/git"'] + parts[: self.random.randrange(2)]
         elif self.happens(0.2):
-            parts.append('registry = "corp"')
+            parts.append(self.one(['registry = "corp"', f'registry-index = "{CORP}"']))
         if parts[0].startswith("version") and self.happens(0.2):
             parts.append(f'package = "{self.one([key, "renamed"])}"')
         if self.happens(0.3):
@@ -109,22 +111,27 @@ class Manifests:
     def manifest(self, name, path=None, is_odd=False, is_member=False, stubs=False):
         self.edition = self.one(EDITIONS)
         lines = ["[package]", f'name = "{name}"', f'edition = "{self.edition}"']
-        self.version = self.one(VERSIONS) if self.happens(0.97) else "0.0.0"
-        if self.version != "0.0.0":
-            lines.append(f'version = "{self.version}"')
         lines += ['description = "x"', 'license = "MIT"']
-        if self.happens(0.2):
-            lines.append('rust-version = "1.90"')
+        lines += self.values(is_member)
         if self.happens(0.1):
             lines.append('links = "z"')
-        if self.happens(0.2):
-            lines.append(f"publish = {self.one(PUBLISH)}")
         if stubs:
             lines += self.stubs()
         else:
             lines += self.tables(path, is_member)
         lines += self.features(is_odd)
         return "\n".join(lines) + "\n"
+
+    def values(self, is_member):
+        """What a package states itself, or leaves to its workspace."""
+        stated = {"version": f'"{self.one(VERSIONS)}"'} if self.happens(0.97) else {}
+        if self.happens(0.2):
+            stated["rust-version"] = '"1.90"'
+        if self.happens(0.2):
+            stated["publish"] = self.one(PUBLISH)
+        left = [key for key in stated if is_member and self.happens(0.15)]
+        self.version = (GIVEN if "version" in left else stated).get("version", '"0.0.0"')[1:-1]
+        return [f"{key}.workspace = true" if key in left else f"{key} = {stated[key]}" for key in stated]
 
     def stubs(self):
         """Dependencies that lie beside the manifest."""
@@ -136,10 +143,11 @@ class Manifests:
         return lines
 
     def member(self, name, path):
-        return self.manifest(name, path, is_member=True)
+        return self.manifest(name, path, is_odd=self.happens(0.15), is_member=True)
 
     def root(self, members):
         lines = ["[workspace]", f"members = {listed(members)}", 'resolver = "2"']
+        lines += ["[workspace.package]", *(f"{key} = {GIVEN[key]}" for key in GIVEN)]
         lines.append("[workspace.dependencies]")
         for key in KEYS:
             parts = [f'version = "{self.one(REQUIREMENTS)}"']

@@ -185,7 +185,9 @@ def is_of_second_version(text):
 
 def entries(manifest, workspace, own, names):
     targets = manifest.get("target", {})
-    for name, kind, target, table in tables(manifest):
+    # in the order of Cargo, which has build-dependencies of a target before its dev-dependencies
+    every = [*list(tables(manifest))[:3], *list(tables_to_fill(manifest))[3:]]
+    for name, kind, target, table in every:
         other = name.replace("-", "_")
         if other != name and other in (manifest if target is None else targets[target]):
             raise Refused(f"the table {other} has `_` in its name")

@@ -13,16 +13,6 @@ pub of_input : (e : Error) → IsOfInput e → IsUnreadable e
 of_input e (inl memory) = inl memory
 of_input e (inr input) = inr (inl input)
 
--- what is said of an answer twice is said at once
-pub both_hold : {T E : Type 0} {P Q R : T → Type 0} (r : Result T E) → ((x : T) → P x → Q x → R x) → IfOk r P → IfOk r Q → IfOk r R
-both_hold (Ok x) so p q = so x p q
-both_hold (Err e) so p q = tt
-
 -- the same text, and the same manifest
 pub completed_as : (path s t : Text) (m n : Manifest Value) → s ≡ t → m ≡ n → IsCompletedIn path s m → IsCompletedIn path t n
 completed_as path s t m n text is h = subst (λ (x : Text). IsCompletedIn path x n) text (subst (λ (x : Manifest Value). IsCompletedIn path s x) is h)
-
--- a name where one is wanted
-pub copied_then : (b : Bool) (x : Bor (List ℕ)) → option_copied (then_some b x) ≡ then_some b x.now
-copied_then true x = refl
-copied_then false x = refl

@@ -15,30 +15,6 @@ pub with_both : (xs ys : List (Text × Data)) (ms : Members) → with_rows (xs +
 with_both [] ys ms = refl
 with_both (x ∷ xs) ys ms = with_both xs ys (put x.0 x.1 ms)
 
-pub chained : (xs : List (Text × Data)) (row : Text × Data) (ys zs : List (Text × Data)) (a b c d e : Members)
-    → b ≡ with_rows xs a → c ≡ put row.0 row.1 b → d ≡ with_rows ys c → e ≡ with_rows zs d
-    → e ≡ with_rows (xs ++ (row ∷ (ys ++ zs))) a
-chained xs row ys zs a b c d e first then_row then_ys then_zs =
-    then_zs ∙ ap (with_rows zs) (then_ys ∙ ap (with_rows ys) (then_row ∙ ap (put row.0 row.1) first))
-    ∙ sym (with_both ys zs (put row.0 row.1 (with_rows xs a)))
-    ∙ sym (with_both xs (row ∷ (ys ++ zs)) a)
-
-pub if_ok_weaker : {T E : Type 0} (r : Result T E) (P Q : T → Type 0) → ((x : T) → P x → Q x) → IfOk r P → IfOk r Q
-if_ok_weaker (Ok x) P Q f h = f x h
-if_ok_weaker (Err e) P Q f h = tt
-
-pub begun_empty : (rows : List (Text × Data)) (es : List (String Global × Value)) → es ≡ [] → with_rows rows (members_view es) ≡ with_rows rows no_members
-begun_empty rows es e = ap (λ xs. with_rows rows (members_view xs)) e
-
--- members of what is left, one after another
-module _ {A : Type 0} (f : A → List (Text × Data)) where
-  pub rows_step : (x : A) (left rest : List A) (a b whole : Members) → left ≡ x ∷ rest → b ≡ with_rows (f x) a → with_rows (flat_map f left) a ≡ whole → with_rows (flat_map f rest) b ≡ whole
-  rows_step x left rest a b whole is puts before =
-      ap (with_rows (flat_map f rest)) puts ∙ sym (with_both (f x) (flat_map f rest) a) ∙ ap (λ t. with_rows (flat_map f t) a) (sym is) ∙ before
-
-  pub rows_end : (left : List A) (a whole : Members) → left ≡ [] → with_rows (flat_map f left) a ≡ whole → a ≡ whole
-  rows_end left a whole none before = ap (λ t. with_rows (flat_map f t) a) (sym none) ∙ before
-
 -- the members of an entry, in four parts
 pub in_four : (ws xs ys zs : List (Text × Data)) (a b c d e : Members) → b ≡ with_rows ws a → c ≡ with_rows xs b → d ≡ with_rows ys c → e ≡ with_rows zs d
     → e ≡ with_rows (ws ++ (xs ++ (ys ++ zs))) a
@@ -53,9 +29,6 @@ pub one_entry : (old new : List Value) (v : Value) (d : Data) (lacks : Bool) →
     → map view new ≡ map view old ++ (if lacks then [] else d ∷ [])
 one_entry old new v d lacks e is h =
     ap (map view) e ∙ map-append view old (v ∷ []) ∙ ap (λ x. map view old ++ x ∷ []) is ∙ ap (λ b. map view old ++ (if b then [] else d ∷ [])) (sym h)
-
-pub no_entry : (old : List Value) (d : Data) (lacks : Bool) → lacks ≡ true → map view old ≡ map view old ++ (if lacks then [] else d ∷ [])
-no_entry old d lacks h = sym (append-nil (map view old)) ∙ ap (λ b. map view old ++ (if b then [] else d ∷ [])) (sym h)
 
 -- five members, and what stands for each
 pub in_five : (r s t u v : Text × Data) (a b c d e f : Members) → b ≡ put r.0 r.1 a → c ≡ put s.0 s.1 b → d ≡ put t.0 t.1 c → e ≡ put u.0 u.1 d → f ≡ put v.0 v.1 e

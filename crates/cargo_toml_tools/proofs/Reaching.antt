@@ -1,6 +1,7 @@
 -- What is gathered of all features that one turns on.
 use Rattle.std.proofs.Common.{◌≡◌, ◌≢◌, ◌⊎◌, ◌↔◌, ◌&&◌, ◌||◌, ◌∙◌, Bool, Bor, IsTrue, List, [], ◌∷◌}
-use Rattle.std.proofs.Common.{None, Option, Some, ap, ap₂, false, inl, inr, not, refl, subst, sym, true}
+use Rattle.std.proofs.Common.{None, Option, Some, ap, ap₂, false, inl, inr, not, option_map, refl}
+use Rattle.std.proofs.Common.{subst, sym, true}
 use Rattle.std.proofs.Math.Bool.{and-false, and-true, or-false}
 use Rattle.std.proofs.lemmas.Bool.{and_from, and_parts, false≢true, false_from_ne_true, not-true}
 use Rattle.std.proofs.lemmas.Bool.{not_from_false, or_left, or_right}
@@ -11,6 +12,7 @@ use Rattle.std.specs.BTreeSet.{BTreeSet}
 use Rattle.std.specs.Cmp.Lexicographic.{slice_cmp}
 use Rattle.std.specs.HashMap.{HashMap}
 use Rattle.std.specs.List.{list_any}
+use Rattle.std.specs.Map.{lookup}
 use Rattle.std.specs.Option.{option_map_or}
 use Rattle.std.specs.Ordering.{nat_cmp}
 use Rattle.std.specs.Prelude.{bytes_eq}
@@ -18,7 +20,8 @@ use Rattle.cargo_toml.specs.Action.{Action, IsJoin, Text, join_option}
 use Rattle.cargo_toml.specs.Feature.{Feature}
 use Rattle.cargo_toml.specs.Graph.{Table}
 use Rattle.cargo_toml.specs.Reached.{IsKeyed}
-use Rattle.cargo_toml.specs.Views.{action_at, set_has, table_in, value_at}
+use Rattle.cargo_toml.specs.Views.{action_at, action_of, set_has, table_in, value_at}
+use Rattle.cargo_toml_features.specs.declared.features.DepAction.{DepAction}
 use Rattle.cargo_toml_features.proofs.Naming.{none_left, none_yet, one_more}
 use Rattle.cargo_toml_features.proofs.Pending.{key_of}
 use Rattle.cargo_toml_features.proofs.TextKeys.{none_in}
@@ -147,6 +150,9 @@ module _ {S : Type 0} (m : HashMap (Bor Text) Feature S) (name : Text) where
     )
 
 -- ---- the actions of all of them
+abbrev pub found_in : Text → List (Bor Text × DepAction) → Option Action
+found_in k es = option_map action_of (lookup (is_at (λ q. slice_cmp nat_cmp k q.now)) es)
+
 module _ {S : Type 0} (t : Table) (m : HashMap (Bor Text) Feature S) (name : Text) where
   -- some name of the list acts so on k
   abbrev SaysOf : List (Bor Text) → Text → Action → Type 0

@@ -1,7 +1,7 @@
 -- What the line of an index holds of the features.
-use Rattle.std.specs.Prelude.{◌||◌, Bool, true, false, if◌then◌else◌, not, nat_eq}
+use Rattle.std.specs.Prelude.{◌||◌, Bool, true, false, if◌then◌else◌, not}
 use Rattle.std.specs.Prelude.{List, [], ◌∷◌, codes, filter, map}
-use Rattle.std.specs.List.{flat_map, list_any, starts_with}
+use Rattle.std.specs.List.{flat_map, list_any}
 use Rattle.std.specs.Option.{option_map_or}
 use Rattle.serde_json.specs.Data.{Data, no_members, number, object, unsigned}
 use Rattle.cargo_toml.specs.Action.{Item, Text, item_of}
@@ -32,18 +32,14 @@ kept_lists ts fs = map (λ f. (f.0, filter (is_kept ts) f.1)) fs
 
 -- ---- how they are written
 
--- the bytes stand somewhere in the text
-abbrev pub has_part : Text → Text → Bool
-has_part part [] = starts_with nat_eq [] part
-has_part part (b ∷ bs) = starts_with nat_eq (b ∷ bs) part || has_part part bs
-
--- an action of the second version of the index: it has a `dep:` in front, or a `?/`
-abbrev pub is_newer : Text → Bool
-is_newer text = starts_with nat_eq text (codes "dep:") || has_part (codes "?/") text
+-- an action of the second version of the index: it has a `dep:` in front, or a `?` before its `/`
+abbrev pub is_newer : Item → Bool
+is_newer (Name x) = false
+is_newer (On key a) = a.is_dep_only || a.is_conditional
 
 -- a list with such an action
 abbrev pub is_extended : List Text → Bool
-is_extended list = list_any is_newer list
+is_extended list = list_any (λ text. is_newer (item_of text)) list
 
 -- in `features2` the lists that are extended; in `features` the others, and an empty one for each
 -- of these, so that what names such a feature can be read by who knows the first version alone

@@ -4,7 +4,7 @@ use Rattle.std.specs.Prelude.{List, [], ◌∷◌, Option, Some, None, is_none, 
 use Rattle.std.specs.Prelude.{bytes_eq, codes, option_and_then, option_map, unwrap_or}
 use Rattle.std.specs.List.{flat_map, list_any}
 use Rattle.std.specs.Option.{option_map_or, option_or}
-use Rattle.toml.specs.Data.{Data, Members, as_table, get, get_member, no_members}
+use Rattle.toml.specs.Data.{Data, Members, as_bool, as_table, get, get_member, no_members}
 use Rattle.toml.specs.Parse.{parse_document}
 use Rattle.cargo_toml.specs.Action.{Text}
 use Rattle.cargo_toml.specs.Dependencies.{DependencyMeaning, simple, inherited, detailed}
@@ -95,8 +95,12 @@ table_at target place kind entries = record {
 abbrev pub tables_at : Option Text → Option Members → List (Kind × Entries) → List DependencyTable
 tables_at target place ts = map (λ t. table_at target place t.0 t.1) ts
 
+-- those of a target, in the order in which Cargo writes them
 abbrev pub target_tables : Members → Text × TargetMeaning → List DependencyTable
-target_tables document t = tables_at (Some t.0) (place_of document t.0) (target_by_kind t.1)
+target_tables document t =
+    tables_at (Some t.0) (place_of document t.0)
+    ((Normal, t.1.dependencies) ∷ (Build, t.1.build_dependencies)
+    ∷ (Dev, t.1.dev_dependencies) ∷ [])
 
 -- those of a manifest that was read from the document
 abbrev pub dependency_tables : {M : Type 0} → Members → ManifestMeaning M → List DependencyTable
@@ -196,29 +200,35 @@ table_refusal names t =
     option_or (refuse_if t.has_other_name fault.OtherTable (other_name t.kind))
     (first_refusal (entry_refusal names t) t.entries)
 
--- the table `package` has a key `version`
-abbrev pub names_version : Members → Bool
-names_version ms =
-    is_some (option_and_then (get (codes "version")) (get_member (codes "package") ms))
+-- what the table `package` has under a key
+abbrev pub in_package : Text → Members → Option Data
+in_package key ms = option_and_then (get key) (get_member (codes "package") ms)
 
 -- of the version. One that isn't written reads as 0.0.0
 abbrev pub version_refusal : Members → Inheritable Parts → Option Refusal
 version_refusal document Inherited = Some (fault.Incomplete, codes "version")
 version_refusal document (Set v) =
-    refuse_if (is_zero (Set v) && not (names_version document)) fault.NoVersion []
+    refuse_if (is_zero (Set v) && is_none (in_package (codes "version") document)) fault.NoVersion []
 
 -- a name is that of the registry with this address
 abbrev pub is_named : Text → List (Text × Text) → Text → Bool
 is_named own names name =
     option_map_or (λ address. bytes_eq address own) (address_named names name) false
 
-abbrev pub is_published : Text → List (Text × Text) → Registries → Bool
-is_published own names (everywhere b) = b
-is_published own names (among ns) = list_any (is_named own names) ns
+-- nothing is written of publishing, or that it is wanted. A package of version 0.0.0 reads as not
+-- published all the same
+abbrev pub is_open : Members → Bool
+is_open document =
+    option_map_or (λ d. unwrap_or (as_bool d) false) (in_package (codes "publish") document) true
 
-abbrev pub publish_refusal : Text → List (Text × Text) → Inheritable Registries → Option Refusal
-publish_refusal own names Inherited = Some (fault.Incomplete, codes "publish")
-publish_refusal own names (Set r) = refuse_if (not (is_published own names r)) fault.NotPublished []
+abbrev pub is_published : Wanted → Members → Registries → Bool
+is_published w document (everywhere b) = b || is_open document
+is_published w document (among ns) = list_any (is_named w.registry w.names) ns
+
+abbrev pub publish_refusal : Wanted → Members → Inheritable Registries → Option Refusal
+publish_refusal w document Inherited = Some (fault.Incomplete, codes "publish")
+publish_refusal w document (Set r) =
+    refuse_if (not (is_published w document r)) fault.NotPublished []
 
 abbrev pub is_error : Level → Bool
 is_error Error = true
@@ -230,12 +240,11 @@ abbrev pub finding_refusal : Finding → Option Refusal
 finding_refusal x = refuse_if (is_error (code_level x.code)) fault.Features x.feature.now
 
 -- of what isn't published in the registry, or has features at fault, unless it is wanted so
-abbrev pub choice_refusal : {M : Type 0} → Wanted → List Finding → PackageMeaning M
+abbrev pub choice_refusal : {M : Type 0} → Wanted → List Finding → Members → PackageMeaning M
     → Option Refusal
-choice_refusal w findings p =
+choice_refusal w findings document p =
     if w.force then None
-    else option_or (publish_refusal w.registry w.names p.publish)
-    (first_refusal finding_refusal findings)
+    else option_or (publish_refusal w document p.publish) (first_refusal finding_refusal findings)
 
 abbrev pub package_refusal : {M : Type 0} → Wanted → List Finding → Members
     → List DependencyTable → PackageMeaning M → Option Refusal
@@ -244,7 +253,7 @@ package_refusal w findings document ts p =
     (option_or
     (option_or (version_refusal document p.version) (first_refusal (table_refusal w.names) ts))
     (refuse_if (is_left_there p.rust_version) fault.Incomplete (codes "rust-version")))
-    (choice_refusal w findings p)
+    (choice_refusal w findings document p)
 
 abbrev pub refusal_if_any : {M : Type 0} → Wanted → List Finding → Members
     → List DependencyTable → Option (PackageMeaning M) → Option Refusal

@@ -1,4 +1,4 @@
--- what an index takes, what is amiss or odd, and how names are written: a user has to believe these
+-- what an index takes, and what is amiss, documented or odd: a user has to believe these
 pub mod Indexed
 pub mod IndexRows
 pub mod IndexEntries
@@ -12,8 +12,6 @@ pub mod Noted
 pub mod Neighbours
 pub mod Overall
 pub mod Refusals
-pub mod Escapes
-pub mod Escaped
 pub mod Patterns
 pub mod Places
 pub mod MemberFolders
@@ -21,6 +19,7 @@ pub mod Documented
 -- what the tools answer of files, and why they refuse
 pub mod FromFiles
 pub mod LintedFiles
+pub mod DocumentedFiles
 pub mod IndexedFiles
 -- the code's own steps, in contracts of inner functions alone: nothing here has to be believed
 pub mod Checked

@@ -4,7 +4,7 @@
 #![tactic(auto)]
 
 use cargo_toml_tools::escape::fault_line;
-use cargo_toml_tools::files::{audit, document, index, lint};
+use cargo_toml_tools::files::{audit, document_text, index_line, lint_lines};
 use cargo_toml_tools_words::{Outcome, Request, USAGE, read_request};
 use std::env::FillError;
 use std::fmt::Display;
@@ -54,19 +54,19 @@ fn answer<R: Files + Print + Eprint + RandomSource + AllocGlobal>(
     match request {
         Request::Index(files, wanted) => {
             for file in files {
-                let made = as_due(index(rt, *file, wanted.options()));
+                let made = as_due(index_line(rt, *file, wanted.options()));
                 outcome = put(rt, *file, made)?.max(outcome);
             }
         }
         Request::Lint(files) => {
             for file in files {
-                let made = lint(rt, *file, files.len() > 1);
+                let made = lint_lines(rt, *file, files.len() > 1);
                 outcome = put(rt, *file, made)?.max(outcome);
             }
         }
         Request::Document(files, dot) => {
             for file in files {
-                let made = as_due(document(rt, *file, *dot));
+                let made = as_due(document_text(rt, *file, *dot));
                 outcome = put(rt, *file, made)?.max(outcome);
             }
         }

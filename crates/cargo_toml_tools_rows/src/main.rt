@@ -14,7 +14,7 @@ use cargo_toml::Error;
 use cargo_toml_row_files::templates::text_in;
 use cargo_toml_row_files::tree::{fresh_folder, make_tree, remove_tree};
 use cargo_toml_tools::escape::fault_line;
-use cargo_toml_tools::files::{audit, document, index, lint};
+use cargo_toml_tools::files::{audit, document_text, index_line, lint_lines};
 use cargo_toml_tools::index::{CRATES_IO, Options};
 use cargo_toml_tools_words::Outcome;
 use std::alloc::Global;
@@ -77,7 +77,7 @@ fn told_of_index<R: Files + RandomSource + AllocGlobal>(
         checksum: checksum.as_ref().map(|text| text.as_str().trim_end()),
         force,
     };
-    told(alloc, "FILE", index(rt, file, options))
+    told(alloc, "FILE", index_line(rt, file, options))
 }
 
 /// The same of a row whose manifest or workspace lies in `folder`.
@@ -96,9 +96,9 @@ fn answer<R: Files + RandomSource + Eprint + AllocGlobal>(
             let limit = limit.as_ref().map(|text| text.as_str().trim_end());
             findings::lines(rt, file.as_str(), limit)
         }
-        "lint" => reported(alloc, "FILE", lint(rt, file.as_str(), false)),
-        "document" => told(alloc, "FILE", document(rt, file.as_str(), false)),
-        "graph" => told(alloc, "FILE", document(rt, file.as_str(), true)),
+        "lint" => reported(alloc, "FILE", lint_lines(rt, file.as_str(), false)),
+        "document" => told(alloc, "FILE", document_text(rt, file.as_str(), false)),
+        "graph" => told(alloc, "FILE", document_text(rt, file.as_str(), true)),
         "audit" => reported(alloc, "FOLDER", audit(rt, folder, false, false)),
         "report" => reported(alloc, "FOLDER", audit(rt, folder, true, false)),
         _ => Err(Error::Other("no such kind of row")),

@@ -1,17 +1,16 @@
 //! The line of a registry's index.
-ghost use Rattle.std.specs.Prelude.{IfErr, IsSome, OnOk};
-ghost use Rattle.std.specs.Path.{path_parent};
-ghost use Rattle.cargo_toml_tools.specs.Sections.{wanted_of};
-ghost use Rattle.cargo_toml_tools.specs.FromFiles.{IsOfInput};
+ghost use Rattle.std.specs.Prelude.{IfErr, IfOk};
+ghost use Rattle.serde_json.specs.View.{view};
 ghost use Rattle.cargo_toml_tools.specs.IndexedFiles.{IsIndexFault, IsIndexed};
+ghost use Rattle.cargo_toml_tools.specs.Sections.{wanted_of};
 
+use super::linting::findings_of;
 use super::reading::{completed_of, text_in};
 use crate::index::{IndexError, Options, index_entry};
-use cargo_toml::{Error, Manifest};
-use cargo_toml_lint::{Finding, lint};
+use cargo_toml::Error;
+use serde_json::Value;
 use std::alloc::AllocError;
 use std::fmt;
-use std::hash::RandomState;
 use std::random::RandomSource;
 use std::rt::Files;
 
@@ -72,15 +71,14 @@ impl fmt::Display for Fault {
     }
 }
 
-/// The line that an index has of the crate of this file, which is completed first. Refused where
-/// the file can't be read or completed as a manifest, or has what no index takes.
+/// What an index has of the crate of this file, which is completed first: an object of JSON.
+/// Refused where the file can't be read or completed as a manifest, or has what no index takes.
 pub fn index<R: Files + RandomSource + AllocGlobal>(
     rt: &R,
     file: &str,
     options: Options<'_>,
-) -> Result<String, Fault>
-    ensures indexed { OnOk result (IsIndexed file.now (wanted_of options.entry)) }
-    ensures named { OnOk result (IsSome (path_parent file.now)) }
+) -> Result<Value, Fault>
+    ensures indexed { IfOk result (λ v. IsIndexed file.now (wanted_of options.entry) (view v)) }
     ensures refused { IfErr result (IsIndexFault file.now (wanted_of options.entry)) }
 {
     let read = text_in(rt, file)?;
@@ -88,19 +86,5 @@ pub fn index<R: Files + RandomSource + AllocGlobal>(
     let held = completed_of(rt, file, text)?;
     let manifest = &*held.manifest;
     let findings = findings_of(rt, manifest)?;
-    let entry = index_entry(rt.alloc(), manifest, text, findings.as_slice(), options)?;
-    let mut line = entry.to_string(rt.alloc())?;
-    line.push_str("\n")?;
-    Ok(line)
-}
-
-/// What lint finds of the features of a manifest.
-fn findings_of<'m, R: RandomSource + AllocGlobal>(
-    rt: &R,
-    manifest: &'m Manifest,
-) -> Result<Vec<Finding<'m>>, Error>
-    ensures { IfErr result IsOfInput }
-{
-    let state = RandomState::new(rt)?;
-    lint(rt.alloc(), state, manifest)
+    Ok(index_entry(rt.alloc(), manifest, text, findings.as_slice(), options)?)
 }

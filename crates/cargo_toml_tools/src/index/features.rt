@@ -2,7 +2,7 @@
 ghost use Rattle.std.specs.Prelude.{◌≡◌, ◌++◌, ◌∷◌, [], IfOk, OnOk, filter, map, string_bytes};
 ghost use Rattle.std.specs.List.{list_any};
 ghost use Rattle.serde_json.specs.View.{members_view, view};
-ghost use Rattle.cargo_toml.specs.Action.{Text};
+ghost use Rattle.cargo_toml.specs.Action.{Text, item_of};
 ghost use Rattle.cargo_toml_dependencies.specs.Replacing.{entries_meaning};
 ghost use Rattle.cargo_toml_tools.specs.Checked.{lists_meaning};
 ghost use Rattle.cargo_toml_tools.specs.IndexFeatures.{feature_rows, is_extended, is_kept};
@@ -188,7 +188,12 @@ fn is_extended(texts: &[&str]) -> bool
 }
 
 fn is_newer(text: &str) -> bool
-    ensures { result ≡ is_newer text.now }
+    ensures { result ≡ is_newer (item_of text.now) }
 {
-    text.starts_with("dep:") || text.contains("?/")
+    let action = read_action(text);
+    if action.acts() {
+        action.is_dep_only || action.is_conditional
+    } else {
+        false
+    }
 }

@@ -16,8 +16,8 @@ ghost use Rattle.cargo_toml_lint.specs.Findings.{code_level};
 ghost use Rattle.cargo_toml_tools.specs.Indexed.{choice_refusal, entry_refusal};
 ghost use Rattle.cargo_toml_tools.specs.Indexed.{finding_refusal, first_refusal};
 ghost use Rattle.cargo_toml_tools.specs.Indexed.{has_other_flag, is_dev, is_error, is_named};
-ghost use Rattle.cargo_toml_tools.specs.Indexed.{is_published, keeps_other_flag, lacks_version};
-ghost use Rattle.cargo_toml_tools.specs.Indexed.{names_version};
+ghost use Rattle.cargo_toml_tools.specs.Indexed.{in_package, is_open, is_published};
+ghost use Rattle.cargo_toml_tools.specs.Indexed.{keeps_other_flag, lacks_version};
 ghost use Rattle.cargo_toml_tools.specs.Indexed.{other_name, package_refusal, publish_refusal};
 ghost use Rattle.cargo_toml_tools.specs.Indexed.{refuse_if, table_refusal, version_refusal};
 ghost use Rattle.cargo_toml_tools.specs.Sections.{names_of, refused, table_of, wanted_of};
@@ -94,22 +94,23 @@ pub(super) fn package_refusal<'a, M>(
     version_refusal(&package.version, document)
         .or(tables_refusal(options.names, sections))
         .or(rust_version)
-        .or(choice_refusal(package, findings, options))
+        .or(choice_refusal(package, document, findings, options))
 }
 
 /// The refusal of what a caller may want all the same.
 fn choice_refusal<'a, M>(
     package: &'a Package<M>,
+    document: &Table,
     findings: &'a [Finding<'a>],
     options: Options<'a>,
 ) -> Option<Refusal<'a>>
     ensures { option_map refused result ≡ choice_refusal (wanted_of options.entry)
-        findings.now (held_package «package».now) }
+        findings.now (table_view document.now) (held_package «package».now) }
 {
     if options.force {
         return None;
     }
-    publish_refusal(options, &package.publish).or(features_refusal(findings))
+    publish_refusal(options, document, &package.publish).or(features_refusal(findings))
 }
 
 /// A manifest without a version reads as of version 0.0.0.
@@ -119,7 +120,7 @@ fn version_refusal(version: &Inheritable<SemVer>, document: &Table) -> Option<Re
 {
     match version {
         Inheritable::Set(version) => refuse_if(
-            is_zero(version) && !names_version(document),
+            is_zero(version) && in_package(document, "version").is_none(),
             Fault::NoVersion,
             "",
         ),
@@ -138,14 +139,11 @@ fn is_zero(version: &SemVer) -> bool
         && version.build.is_empty()
 }
 
-/// Whether the table `package` has a key `version`.
-fn names_version(document: &Table) -> bool
-    ensures { result ≡ names_version (table_view document.now) }
+/// What the table `package` has under a key.
+fn in_package<'a>(document: &'a Table, key: &str) -> Option<&'a Value>
+    ensures { option_map (λ v. view v.now) result ≡ in_package key.now (table_view document.now) }
 {
-    match member(document, "package") {
-        Some(package) => package.get("version").is_some(),
-        None => false,
-    }
+    member(document, "package")?.get(key)
 }
 
 /// What a package may leave to the workspace.
@@ -280,25 +278,41 @@ fn is_dev(kind: Kind) -> bool
 }
 
 /// The refusal of a package that isn't published in the registry.
-fn publish_refusal<'a>(options: Options<'a>, publish: &Inheritable<Publish>) -> Option<Refusal<'a>>
-    ensures { option_map refused result ≡ publish_refusal options.entry.registry.now
-        (names_of options.entry.names.now) (inheritable_map publish_meaning publish.now) }
+fn publish_refusal(
+    options: Options<'_>,
+    document: &Table,
+    publish: &Inheritable<Publish>,
+) -> Option<Refusal<'static>>
+    ensures { option_map refused result ≡ publish_refusal (wanted_of options.entry)
+        (table_view document.now) (inheritable_map publish_meaning publish.now) }
 {
     match publish {
         Inheritable::Set(publish) => {
-            refuse_if(!is_published(options, publish), Fault::NotPublished, "")
+            let is_published = is_published(options, document, publish);
+            refuse_if(!is_published, Fault::NotPublished, "")
         }
         Inheritable::Inherited => refuse_if(true, Fault::Incomplete, "publish"),
     }
 }
 
-fn is_published(options: Options<'_>, publish: &Publish) -> bool
-    ensures { result ≡ is_published options.entry.registry.now
-        (names_of options.entry.names.now) (publish_meaning publish.now) }
+fn is_published(options: Options<'_>, document: &Table, publish: &Publish) -> bool
+    ensures { result ≡ is_published (wanted_of options.entry) (table_view document.now)
+        (publish_meaning publish.now) }
 {
     match publish {
-        Publish::Flag(everywhere) => *everywhere,
+        Publish::Flag(everywhere) => *everywhere || is_open(document),
         Publish::Registry(names) => names_registry(options, names.as_slice()),
+    }
+}
+
+/// Whether nothing is written of publishing, or that it is wanted. A package of version 0.0.0 reads
+/// as not published all the same.
+fn is_open(document: &Table) -> bool
+    ensures { result ≡ is_open (table_view document.now) }
+{
+    match in_package(document, "publish") {
+        Some(flag) => flag.as_bool().unwrap_or(false),
+        None => true,
     }
 }
 

@@ -74,8 +74,8 @@ fn push_target<'a>(
         written: place_of(document, name),
     };
     push_section(all, place, Kind::Normal, &target.dependencies)?;
-    push_section(all, place, Kind::Dev, &target.dev_dependencies)?;
-    push_section(all, place, Kind::Build, &target.build_dependencies)
+    push_section(all, place, Kind::Build, &target.build_dependencies)?;
+    push_section(all, place, Kind::Dev, &target.dev_dependencies)
 }
 
 fn push_section<'a>(

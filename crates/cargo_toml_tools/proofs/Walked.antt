@@ -1,10 +1,10 @@
 -- What is told of each disk that answered so, passed on from call to call.
-use Rattle.std.proofs.Common.{◌≡◌, ◌+◌, ◌++◌, ◌∙◌, ◌<◌, ◌≤◌, ℕ, Bool, true, false, List, [], ◌∷◌, String, Global, ap, inl, inr, length, map, refl, string_bytes, subst, sym, Some}
+use Rattle.std.proofs.Common.{◌≡◌, ◌+◌, ◌++◌, ◌∙◌, ◌<◌, ◌≤◌, ℕ, Bool, true, false, List, [], ◌∷◌, String, Global, ap, inl, inr, length, map, refl, string_bytes, subst, suc, sym, Some, if◌then◌else◌}
 use Rattle.std.proofs.lemmas.List.{append-nil, map-append}
 use Rattle.std.specs.List.{flat_map}
 use Rattle.cargo_toml.specs.Action.{Text}
 use Rattle.cargo_toml.specs.Reach.{Among}
-use Rattle.cargo_toml_tools.specs.MemberFolders.{Adds, Agrees, Disk, IsAnswer, Tells, levels, names_told}
+use Rattle.cargo_toml_tools.specs.MemberFolders.{Adds, Agrees, Disk, IsAnswer, Tells, levels, names_told, subfolders}
 use Rattle.cargo_toml_tools.specs.declared.members.walk.Answer.{Answer}
 use Rattle.cargo_toml_tools.specs.declared.members.walk.Answer.TheVariants as answer
 use Rattle.cargo_toml_tools.specs.declared.members.walk.There.{There}
@@ -64,3 +64,30 @@ module _ (f : Disk → Text → List Text) (whole : Disk → List Text) where
 
   pub walks_end : (o m : List Look) (left : List Text) (items : List (String Global)) → left ≡ [] → Walks o m left items → Tells whole o m (map string_bytes items)
   walks_end o m left items none before d h = let all = before d h in (all.0, flat_end (f d) left (map string_bytes items) (whole d) none all.1)
+
+-- what is added by a test of what lies at a path
+pub adds_if : (o m : List Look) (path : Text) (t : There) (test : There → Bool) (b : Bool) (give : Bool → List Text) (items more : List (String Global))
+    → Tells (λ d. d.there path) o m t → test t ≡ b → map string_bytes more ≡ map string_bytes items ++ give b → Adds (λ d. give (test (d.there path))) o m items more
+adds_if o m path t test b give items more told is added d h =
+    let n = told d h in
+    (n.0, added ∙ ap (λ x. map string_bytes items ++ give x) (sym is ∙ ap test n.1))
+
+-- the same where what is added is told only then
+pub adds_then : (o m n : List Look) (path : Text) (t : There) (test : There → Bool) (f : Disk → List Text) (items more : List (String Global))
+    → Tells (λ d. d.there path) o m t → test t ≡ true → Adds f m n items more → Adds (λ d. if test (d.there path) then f d else []) o n items more
+adds_then o m n path t test f items more told is adds d h =
+    let one = adds d h in
+    let before = told d one.0 in
+    (before.0, one.1 ∙ ap (λ x. map string_bytes items ++ (if x then f d else [])) (sym is ∙ ap test before.1))
+
+-- nothing, for what isn't there
+pub adds_none : (f : Disk → List Text) (o m : List Look) (items : List (String Global)) → ((d : Disk) → Agrees d m → Agrees d o × (f d ≡ [])) → Adds f o m items items
+adds_none f o m items none d h = let n = none d h in (n.0, sym (append-nil (map string_bytes items)) ∙ ap (λ ts. map string_bytes items ++ ts) (sym n.1))
+
+-- the same by an equal one
+pub adds_same : (f g : Disk → List Text) (o m : List Look) (items more : List (String Global)) → ((d : Disk) → f d ≡ g d) → Adds f o m items more → Adds g o m items more
+adds_same f g o m items more same adds d h = let n = adds d h in (n.0, n.1 ∙ ap (λ ts. map string_bytes items ++ ts) (same d))
+
+-- one level more
+pub levels_on : (d : Disk) (n : ℕ) (folders : List Text) → levels d (suc n) folders ≡ folders ++ levels d n (flat_map (subfolders d) folders)
+levels_on d n folders = refl

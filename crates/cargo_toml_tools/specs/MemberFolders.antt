@@ -14,8 +14,9 @@ use Rattle.std.specs.declared.io.Error.{Error as IoError}
 use Rattle.cargo_toml.specs.Action.{Text}
 use Rattle.cargo_toml.specs.Reach.{Among}
 use Rattle.cargo_toml.specs.RealFiles.{is_absent}
-use Rattle.cargo_toml_tools.specs.Patterns.{Part, is_deep, is_pattern, just, matches, parts_of}
-use Rattle.cargo_toml_tools.specs.Places.{is_rooted, normalized, path_below, path_from, pieces}
+use Rattle.cargo_toml_tools.specs.Patterns.{Part, is_deep, is_pattern, just, many, matches}
+use Rattle.cargo_toml_tools.specs.Patterns.{one, parts_of, within, without}
+use Rattle.cargo_toml_tools.specs.Places.{is_rooted, normalized, path_below, pieces, place_of}
 use Rattle.cargo_toml_tools.specs.declared.members.walk.Answer.{Answer}
 use Rattle.cargo_toml_tools.specs.declared.members.walk.Answer.TheVariants as answer
 use Rattle.cargo_toml_tools.specs.declared.members.walk.Look.{Look}
@@ -59,13 +60,19 @@ named_so folder pattern names =
     map (path_below folder) (filter (λ name. matches pattern (chars name)) names)
 
 -- a pattern that begins with a dot stands for `.` and `..` too, but not right behind `**`
+abbrev pub is_dot : Part → Bool
+is_dot (just c) = c == 46
+is_dot many = false
+is_dot one = false
+is_dot (within content) = false
+is_dot (without content) = false
+
 abbrev pub begins_with_dot : List Part → Bool
 begins_with_dot [] = false
 begins_with_dot (part ∷ pattern) = is_dot part
-  where
-    abbrev is_dot : Part → Bool
-    is_dot (just c) = c == 46
-    is_dot _ = false
+
+abbrev pub dots_if : Bool → List Text
+dots_if wanted = if wanted then codes "." ∷ codes ".." ∷ [] else []
 
 module _ (d : Disk) where
   abbrev pub folder_if : Text → List Text
@@ -85,15 +92,16 @@ module _ (d : Disk) where
   abbrev pub with_below : List Text → List Text
   with_below folders = levels 2048 folders
 
-  abbrev pub names_with_dots : Bool → List Part → Text → List Text
-  names_with_dots behind_deep pattern folder =
-      d.names folder
-      ++ (if not behind_deep && begins_with_dot pattern then codes "." ∷ codes ".." ∷ [] else [])
+  abbrev pub all_from : Bool → List Text → List Text
+  all_from behind_deep folders = if behind_deep then with_below folders else folders
 
   abbrev pub matched : Bool → List Part → Text → List Text
   matched behind_deep pattern folder =
-      if is_folder (d.there folder)
-      then named_so folder pattern (names_with_dots behind_deep pattern folder) else []
+      if is_folder (d.there folder) then named_so folder pattern
+      (d.names folder ++ dots_if (not behind_deep && begins_with_dot pattern)) else []
+
+  abbrev pub path_if : Text → List Text
+  path_if path = if is_there (d.there path) then path ∷ [] else []
 
   -- what a name leads to from a folder: itself, where something is there, or what its pattern
   -- matches
@@ -101,7 +109,7 @@ module _ (d : Disk) where
   further behind_deep name folder =
       if behind_deep || is_pattern name
       then option_map_or (λ pattern. matched behind_deep pattern folder) (parts_of (chars name)) []
-      else (if is_there (d.there (path_below folder name)) then path_below folder name ∷ [] else [])
+      else path_if (path_below folder name)
 
   -- what names lead to from folders, one after the other; `**` leads to them and all below, and at
   -- the end just to those below
@@ -110,8 +118,7 @@ module _ (d : Disk) where
       if behind_deep then with_below (flat_map subfolders folders) else folders
   led behind_deep folders (name ∷ names) =
       if is_deep name || (behind_deep && (length name == 0)) then led true folders names
-      else led false (flat_map (further behind_deep name)
-      (if behind_deep then with_below folders else folders)) names
+      else led false (flat_map (further behind_deep name) (all_from behind_deep folders)) names
 
   abbrev pub begins_at : Text → Text → Text
   begins_at root entry = if is_rooted entry then codes "/" else root
@@ -124,11 +131,11 @@ module _ (d : Disk) where
 
   -- the folders among that, or the entry itself where nothing lies there
   abbrev pub places_if : Text → List Text → List Text
-  places_if itself [] = normalized itself ∷ []
+  places_if itself [] = itself ∷ []
   places_if itself (path ∷ paths) = flat_map place_if (path ∷ paths)
 
   abbrev pub places_of : Text → Text → List Text
-  places_of root entry = places_if (path_from root entry) (led_to root entry)
+  places_of root entry = places_if (place_of root entry) (led_to root entry)
 
 -- ---- what was asked and answered
 

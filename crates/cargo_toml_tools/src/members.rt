@@ -14,6 +14,7 @@ pub use places::{Limits, excludes, lies_in, manifest_path, place_of, seen_from};
 pub use walk::{Answer, Look, There, look_at};
 
 use patterns::{is_deep, tokens_of};
+use places::pieces;
 use std::alloc::{AllocError, Global};
 use std::collections::BTreeSet;
 use std::rt::Files;
@@ -60,7 +61,7 @@ fn add_places<R: Files + AllocGlobal>(
 fn is_wrong(alloc: Global, entry: &str) -> Result<bool, AllocError>
     ensures { IfOk result (λ b. b ≡ is_wrong entry.now) }
 {
-    let names: Vec<&str> = entry.split('/').collect(alloc)?;
+    let names = pieces(alloc, entry)?;
     for name in names.as_slice() {
         if is_wrong_name(alloc, *name)? {
             return Ok(true);

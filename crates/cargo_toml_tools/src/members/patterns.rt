@@ -2,10 +2,11 @@
 //! `[a-c]` and `[!a]` one of some characters. `**` is none of these: it stands for any folders.
 ghost use Rattle.std.specs.Prelude.{◌≡◌, ◌∷◌, IfOk, OnOk, false, map, option_map};
 ghost use Rattle.std.specs.Str.{chars};
-ghost use Rattle.cargo_toml_tools.specs.Patterns.{accepts, is_among, is_deep, is_pattern, matches};
+ghost use Rattle.cargo_toml_tools.specs.Patterns.{accepts, is_among, is_deep, is_many};
+ghost use Rattle.cargo_toml_tools.specs.Patterns.{is_pattern, matches};
 ghost use Rattle.cargo_toml_tools.specs.Patterns.{part_of, parts_of, read_all, read_in_brackets, read_more};
 ghost use Rattle.cargo_toml_tools.specs.Patterns.{read_of, read_plain, whole_parts};
-ghost use Rattle.cargo_toml_tools.specs.Rows.{is_many, next, scan, shift};
+ghost use Rattle.cargo_toml_tools.specs.Rows.{next, scan, shift};
 
 use std::alloc::{AllocError, Global};
 use std::mem;

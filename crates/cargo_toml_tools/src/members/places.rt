@@ -59,6 +59,13 @@ fn or_dot(alloc: Global, path: String) -> Result<String, AllocError>
     Ok(path)
 }
 
+/// What stands between the slashes of a path.
+pub fn pieces<'a>(alloc: Global, path: &'a str) -> Result<Vec<&'a str>, AllocError>
+    ensures { IfOk result (λ names. map (λ t. t.now) names.items ≡ pieces path.now) }
+{
+    path.split('/').collect(alloc)
+}
+
 /// The names of a path, but for those that lead nowhere.
 fn some_names<'a>(alloc: Global, path: &'a str) -> Result<Vec<&'a str>, AllocError>
     ensures { IfOk result (λ names. map (λ t. t.now) names.items
@@ -150,7 +157,7 @@ pub fn path_below(alloc: Global, folder: &str, name: &str) -> Result<String, All
 }
 
 /// A path that is written in a folder: its own, where it is absolute, or one below the folder.
-pub fn path_from(alloc: Global, folder: &str, path: &str) -> Result<String, AllocError>
+fn path_from(alloc: Global, folder: &str, path: &str) -> Result<String, AllocError>
     ensures { IfOk result (λ whole. string_bytes whole ≡ path_from folder.now path.now) }
 {
     if is_rooted(path) {

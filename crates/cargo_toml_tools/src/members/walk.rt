@@ -7,15 +7,17 @@ ghost use Rattle.std.specs.Prelude.{string_bytes};
 ghost use Rattle.std.specs.IoError.{error_kind};
 ghost use Rattle.std.specs.List.{flat_map};
 ghost use Rattle.cargo_toml.specs.RealFiles.{is_absent};
-ghost use Rattle.cargo_toml_tools.specs.MemberFolders.{Adds, Leads, Tells, begins_at};
-ghost use Rattle.cargo_toml_tools.specs.MemberFolders.{begins_with_dot, by_found, by_link};
-ghost use Rattle.cargo_toml_tools.specs.MemberFolders.{folder_if, further, led_to, matched, named_so};
-ghost use Rattle.cargo_toml_tools.specs.MemberFolders.{names_told, place_if, places_of, subfolders};
+ghost use Rattle.cargo_toml_tools.specs.MemberFolders.{Adds, Leads, Tells, all_from, begins_at};
+ghost use Rattle.cargo_toml_tools.specs.MemberFolders.{begins_with_dot, by_found, by_link, dots_if};
+ghost use Rattle.cargo_toml_tools.specs.MemberFolders.{folder_if, further, is_folder, is_there, led};
+ghost use Rattle.cargo_toml_tools.specs.MemberFolders.{led_to, matched, named_so, names_told};
+ghost use Rattle.cargo_toml_tools.specs.MemberFolders.{path_if, place_if, places_of, subfolders};
 ghost use Rattle.cargo_toml_tools.specs.MemberFolders.{with_below};
 ghost use Rattle.cargo_toml_tools.specs.Patterns.{part_of};
+ghost use Rattle.cargo_toml_tools.specs.Places.{place_of};
 
 use super::patterns::{Token, is_deep, is_pattern, matches, tokens_of};
-use super::places::{normalized, path_below, path_from};
+use super::places::{normalized, path_below, pieces, place_of};
 use std::alloc::{AllocError, Global};
 use std::rt::Files;
 use std::{fs, io};
@@ -177,14 +179,34 @@ pub fn places_of<R: Files + AllocGlobal>(
     ensures { IfOk result (λ places. Tells (λ d. places_of d root.now entry.now)
         looks.old.items looks.new.items (map string_bytes places.items)) }
 {
-    let alloc = rt.alloc();
     let found = led_to(rt, looks, root, entry)?;
-    let mut places = Vec::new(alloc);
     if found.is_empty() {
-        let whole = path_from(alloc, root, entry)?;
-        places.push(normalized(alloc, whole.as_str())?)?;
+        return itself(rt.alloc(), root, entry);
     }
-    for path in &found {
+    folders_among(rt, looks, found.as_slice())
+}
+
+/// The place of an entry that stands for itself.
+fn itself(alloc: Global, root: &str, entry: &str) -> Result<Vec<String>, AllocError>
+    ensures { IfOk result
+        (λ places. map string_bytes places.items ≡ place_of root.now entry.now ∷ []) }
+{
+    let mut places = Vec::new(alloc);
+    places.push(place_of(alloc, root, entry)?)?;
+    Ok(places)
+}
+
+/// The places of those paths where a folder lies.
+fn folders_among<R: Files + AllocGlobal>(
+    rt: &R,
+    looks: &mut Vec<Look>,
+    paths: &[String],
+) -> Result<Vec<String>, AllocError>
+    ensures { IfOk result (λ places. Tells (λ d. flat_map (place_if d) (map string_bytes paths.now))
+        looks.old.items looks.new.items (map string_bytes places.items)) }
+{
+    let mut places = Vec::new(rt.alloc());
+    for path in paths {
         add_place(rt, looks, path.as_str(), &mut places)?;
     }
     Ok(places)
@@ -200,10 +222,23 @@ fn add_place<R: Files + AllocGlobal>(
     ensures { OnOk result (Adds (λ d. place_if d path.now)
         looks.old.items looks.new.items places.old.items places.new.items) }
 {
-    if look_at(rt, looks, path)? == There::Folder {
-        places.push(normalized(rt.alloc(), path)?)?;
+    if !is_folder(look_at(rt, looks, path)?) {
+        return Ok(());
     }
+    places.push(normalized(rt.alloc(), path)?)?;
     Ok(())
+}
+
+fn is_folder(there: There) -> bool
+    ensures { result ≡ is_folder there }
+{
+    matches!(there, There::Folder)
+}
+
+fn is_there(there: There) -> bool
+    ensures { result ≡ is_there there }
+{
+    !matches!(there, There::Nothing)
 }
 
 /// What lies where the names of an entry lead.
@@ -216,17 +251,30 @@ fn led_to<R: Files + AllocGlobal>(
     ensures { IfOk result (λ paths. Tells (λ d. led_to d root.now entry.now)
         looks.old.items looks.new.items (map string_bytes paths.items)) }
 {
-    let alloc = rt.alloc();
-    let names: Vec<&str> = entry.split('/').collect(alloc)?;
-    let mut step = begun(alloc, root, entry)?;
+    let names = pieces(rt.alloc(), entry)?;
+    let mut step = begun(rt.alloc(), root, entry)?;
     for name in names.as_slice() {
         step = one_further(rt, looks, step, *name)?;
     }
-    if step.is_deep {
-        let below = subfolders(rt, looks, step.paths.as_slice())?;
-        return with_below(rt, looks, below);
+    ended(rt, looks, step)
+}
+
+/// Where the names of an entry led at last.
+fn ended<R: Files + AllocGlobal>(
+    rt: &R,
+    looks: &mut Vec<Look>,
+    step: Step,
+) -> Result<Vec<String>, AllocError>
+    ensures { IfOk result
+        (λ paths. Tells (λ d. led d step.is_deep (map string_bytes step.paths.items) [])
+        looks.old.items looks.new.items (map string_bytes paths.items)) }
+{
+    let Step { paths, is_deep: is_behind } = step;
+    if !is_behind {
+        return Ok(paths);
     }
-    Ok(step.paths)
+    let below = subfolders(rt, looks, paths.as_slice())?;
+    with_below(rt, looks, below)
 }
 
 /// Where an entry begins: in the root, or where all paths begin.
@@ -263,19 +311,31 @@ fn one_further<R: Files + AllocGlobal>(
             is_deep: true,
         });
     }
-    let from = if is_behind {
-        with_below(rt, looks, paths)?
-    } else {
-        paths
-    };
+    let from = all_from(rt, looks, paths, is_behind)?;
     let mut all = Vec::new(rt.alloc());
-    for folder in &from {
+    for folder in from.as_slice() {
         add_further(rt, looks, (folder.as_str(), is_behind), name, &mut all)?;
     }
     Ok(Step {
         paths: all,
         is_deep: false,
     })
+}
+
+/// These folders, and right behind `**` all below them.
+fn all_from<R: Files + AllocGlobal>(
+    rt: &R,
+    looks: &mut Vec<Look>,
+    paths: Vec<String>,
+    is_behind: bool,
+) -> Result<Vec<String>, AllocError>
+    ensures { IfOk result (λ all. Tells (λ d. all_from d is_behind (map string_bytes paths.items))
+        looks.old.items looks.new.items (map string_bytes all.items)) }
+{
+    if !is_behind {
+        return Ok(paths);
+    }
+    with_below(rt, looks, paths)
 }
 
 /// Adds what a name leads to from a folder, at times right behind `**`.
@@ -289,17 +349,29 @@ fn add_further<R: Files + AllocGlobal>(
     ensures { OnOk result (Adds (λ d. further d from.entry.1 name.now from.entry.0.now)
         looks.old.items looks.new.items all.old.items all.new.items) }
 {
-    let alloc = rt.alloc();
-    if from.1 || is_pattern(name) {
-        let Some(pattern) = tokens_of(alloc, name)? else {
-            return Ok(());
-        };
-        return add_matched(rt, looks, from, pattern.as_slice(), all);
+    if !from.1 && !is_pattern(name) {
+        return add_if_there(rt, looks, path_below(rt.alloc(), from.0, name)?, all);
     }
-    let path = path_below(alloc, from.0, name)?;
-    if look_at(rt, looks, path.as_str())? != There::Nothing {
-        all.push(path)?;
+    let Some(pattern) = tokens_of(rt.alloc(), name)? else {
+        return Ok(());
+    };
+    add_matched(rt, looks, from, pattern.as_slice(), all)
+}
+
+/// Adds a path where something lies.
+fn add_if_there<R: Files + AllocGlobal>(
+    rt: &R,
+    looks: &mut Vec<Look>,
+    path: String,
+    all: &mut Vec<String>,
+) -> Result<(), AllocError>
+    ensures { OnOk result (Adds (λ d. path_if d (string_bytes path))
+        looks.old.items looks.new.items all.old.items all.new.items) }
+{
+    if !is_there(look_at(rt, looks, path.as_str())?) {
+        return Ok(());
     }
+    all.push(path)?;
     Ok(())
 }
 
@@ -314,15 +386,30 @@ fn add_matched<R: Files + AllocGlobal>(
     ensures { OnOk result (Adds (λ d. matched d from.entry.1 (map part_of pattern.now) from.entry.0.now)
         looks.old.items looks.new.items all.old.items all.new.items) }
 {
-    if look_at(rt, looks, from.0)? != There::Folder {
+    if !is_folder(look_at(rt, looks, from.0)?) {
         return Ok(());
     }
-    let mut names = names_in(rt, looks, from.0)?;
-    if !from.1 && begins_with_dot(pattern) {
-        names.push(String::from_str(rt.alloc(), ".")?)?;
-        names.push(String::from_str(rt.alloc(), "..")?)?;
-    }
+    let names = names_in(rt, looks, from.0)?;
+    let names = with_dots(rt.alloc(), names, !from.1 && begins_with_dot(pattern))?;
     add_named(rt.alloc(), from.0, pattern, names.as_slice(), all)
+}
+
+/// The names, with `.` and `..` where these are wanted.
+fn with_dots(
+    alloc: Global,
+    names: Vec<String>,
+    wants_dots: bool,
+) -> Result<Vec<String>, AllocError>
+    ensures { IfOk result (λ all. map string_bytes all.items
+        ≡ map string_bytes names.items ++ dots_if wants_dots) }
+{
+    let mut names = names;
+    if !wants_dots {
+        return Ok(names);
+    }
+    names.push(String::from_str(alloc, ".")?)?;
+    names.push(String::from_str(alloc, "..")?)?;
+    Ok(names)
 }
 
 /// Whether a pattern begins with a dot. Then it stands for `.` and `..` too.
@@ -400,11 +487,11 @@ fn add_subfolders<R: Files + AllocGlobal>(
     ensures { OnOk result (Adds (λ d. subfolders d folder.now)
         looks.old.items looks.new.items all.old.items all.new.items) }
 {
-    if look_at(rt, looks, folder)? != There::Folder {
+    if !is_folder(look_at(rt, looks, folder)?) {
         return Ok(());
     }
     let names = names_in(rt, looks, folder)?;
-    for name in &names {
+    for name in names.as_slice() {
         let path = path_below(rt.alloc(), folder, name.as_str())?;
         add_folder(rt, looks, path, all)?;
     }
@@ -421,8 +508,9 @@ fn add_folder<R: Files + AllocGlobal>(
     ensures { OnOk result (Adds (λ d. folder_if d (string_bytes path))
         looks.old.items looks.new.items all.old.items all.new.items) }
 {
-    if look_at(rt, looks, path.as_str())? == There::Folder {
-        all.push(path)?;
+    if !is_folder(look_at(rt, looks, path.as_str())?) {
+        return Ok(());
     }
+    all.push(path)?;
     Ok(())
 }

@@ -4,7 +4,7 @@ use Rattle.std.proofs.lemmas.List.{append-nil, map-append}
 use Rattle.std.specs.List.{flat_map}
 use Rattle.cargo_toml.specs.Action.{Text}
 use Rattle.cargo_toml.specs.Reach.{Among}
-use Rattle.cargo_toml_tools.specs.MemberFolders.{Adds, Agrees, Disk, IsAnswer, Tells, levels, names_told, subfolders}
+use Rattle.cargo_toml_tools.specs.MemberFolders.{Adds, Agrees, Disk, IsAnswer, Tells, all_from, further, led, levels, names_told, skips, subfolders}
 use Rattle.cargo_toml_tools.specs.declared.members.walk.Answer.{Answer}
 use Rattle.cargo_toml_tools.specs.declared.members.walk.Answer.TheVariants as answer
 use Rattle.cargo_toml_tools.specs.declared.members.walk.There.{There}
@@ -91,3 +91,13 @@ adds_same f g o m items more same adds d h = let n = adds d h in (n.0, n.1 ∙ a
 -- one level more
 pub levels_on : (d : Disk) (n : ℕ) (folders : List Text) → levels d (suc n) folders ≡ folders ++ levels d n (flat_map (subfolders d) folders)
 levels_on d n folders = refl
+
+-- a name that leads no further, and one that does
+pub led_past : (d : Disk) (behind : Bool) (folders : List Text) (name : Text) (names : List Text) → skips name behind ≡ true → led d behind folders (name ∷ names) ≡ led d true folders names
+led_past d behind folders name names is =
+    ap (λ b. if b then led d true folders names else led d false (flat_map (further d behind name) (all_from d behind folders)) names) is
+
+pub led_on : (d : Disk) (behind : Bool) (folders : List Text) (name : Text) (names : List Text) → skips name behind ≡ false
+    → led d behind folders (name ∷ names) ≡ led d false (flat_map (further d behind name) (all_from d behind folders)) names
+led_on d behind folders name names is =
+    ap (λ b. if b then led d true folders names else led d false (flat_map (further d behind name) (all_from d behind folders)) names) is

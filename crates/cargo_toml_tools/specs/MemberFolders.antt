@@ -71,6 +71,14 @@ abbrev pub begins_with_dot : List Part → Bool
 begins_with_dot [] = false
 begins_with_dot (part ∷ pattern) = is_dot part
 
+-- a name that stands for itself; and one that leads no further, but is `**` or the empty one right
+-- behind that
+abbrev pub is_plain : Text → Bool → Bool
+is_plain name behind_deep = not behind_deep && not (is_pattern name)
+
+abbrev pub skips : Text → Bool → Bool
+skips name behind_deep = is_deep name || (behind_deep && (length name == 0))
+
 abbrev pub dots_if : Bool → List Text
 dots_if wanted = if wanted then codes "." ∷ codes ".." ∷ [] else []
 
@@ -107,9 +115,8 @@ module _ (d : Disk) where
   -- matches
   abbrev pub further : Bool → Text → Text → List Text
   further behind_deep name folder =
-      if behind_deep || is_pattern name
-      then option_map_or (λ pattern. matched behind_deep pattern folder) (parts_of (chars name)) []
-      else path_if (path_below folder name)
+      if is_plain name behind_deep then path_if (path_below folder name)
+      else option_map_or (λ pattern. matched behind_deep pattern folder) (parts_of (chars name)) []
 
   -- what names lead to from folders, one after the other; `**` leads to them and all below, and at
   -- the end just to those below
@@ -117,7 +124,7 @@ module _ (d : Disk) where
   led behind_deep folders [] =
       if behind_deep then with_below (flat_map subfolders folders) else folders
   led behind_deep folders (name ∷ names) =
-      if is_deep name || (behind_deep && (length name == 0)) then led true folders names
+      if skips name behind_deep then led true folders names
       else led false (flat_map (further behind_deep name) (all_from behind_deep folders)) names
 
   abbrev pub begins_at : Text → Text → Text

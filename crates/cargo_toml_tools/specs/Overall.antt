@@ -1,5 +1,5 @@
 -- What only all members together show.
-use Rattle.std.specs.Prelude.{◌++◌, if◌then◌else◌, Bool, false, List, []}
+use Rattle.std.specs.Prelude.{◌++◌, if◌then◌else◌, Bool, List, []}
 use Rattle.std.specs.Prelude.{◌∷◌, bytes_eq, filter, map, not, string_bytes}
 use Rattle.std.specs.BTreeSet.{contains_text}
 use Rattle.std.specs.Cmp.Lexicographic.{slice_cmp}
@@ -7,7 +7,7 @@ use Rattle.std.specs.List.{flat_map, list_all}
 use Rattle.std.specs.Ordering.{nat_cmp, ordering_then}
 use Rattle.std.specs.declared.cmp.Ordering.{Ordering}
 use Rattle.cargo_toml.specs.Action.{Text}
-use Rattle.cargo_toml.specs.Dependencies.{DependencyMeaning, detailed, inherited, simple}
+use Rattle.cargo_toml.specs.Dependencies.{is_optional}
 use Rattle.cargo_toml.specs.InheritedDependencies.{Entries}
 use Rattle.cargo_toml_tools.specs.MemberFolders.{repeats}
 use Rattle.cargo_toml_tools.specs.Neighbours.{runs_of}
@@ -23,11 +23,6 @@ abbrev pub unused_among : (Text → Bool) → Entries → List Text
 unused_among inherited es = map (λ e. e.0) (filter (λ e. not (inherited e.0)) es)
 
 -- those that are optional
-abbrev pub is_optional : DependencyMeaning → Bool
-is_optional (simple r) = false
-is_optional (inherited i) = i.optional
-is_optional (detailed d) = d.optional
-
 abbrev pub optional_among : Entries → List Text
 optional_among es = map (λ e. e.0) (filter (λ e. is_optional e.1) es)
 

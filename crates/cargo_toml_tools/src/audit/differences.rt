@@ -10,13 +10,13 @@ ghost use Rattle.cargo_toml.specs.Templates.{template_meaning};
 ghost use Rattle.cargo_toml_dependencies.specs.Replacing.{entries_meaning};
 ghost use Rattle.cargo_toml_tools.specs.Noted.{askings_of};
 ghost use Rattle.cargo_toml_tools.specs.Oddities.{Finds, differences_if_any, has_given, other_of};
-ghost use Rattle.cargo_toml_tools.specs.Overall.{asking_cmp, is_optional, optional_among};
+ghost use Rattle.cargo_toml_tools.specs.Overall.{asking_cmp, optional_among};
 ghost use Rattle.cargo_toml_tools.specs.Overall.{overall_oddities, unused_among};
 
 use super::uses::add_requirements;
 use super::{Audit, Code, Member};
 use crate::members::repeats;
-use cargo_toml::{Dependency, DepsSet, Edition, Workspace};
+use cargo_toml::{DepsSet, Edition, Workspace};
 use std::alloc::{AllocError, Global};
 use std::collections::BTreeSet;
 
@@ -103,7 +103,7 @@ fn unused(
         ≡ unused_among (contains_text inherited.now) (entries_meaning dependencies.now)) }
 {
     let mut all = Vec::new(alloc);
-    for (key, _) in dependencies {
+    for (key, _entry) in dependencies {
         let key = key.as_str();
         if inherited.contains(key) {
             continue;
@@ -120,22 +120,12 @@ fn optional(alloc: Global, dependencies: &DepsSet) -> Result<Vec<String>, AllocE
 {
     let mut all = Vec::new(alloc);
     for (key, dependency) in dependencies {
-        if !is_optional(dependency) {
+        if !dependency.optional() {
             continue;
         }
         all.push(String::from_str(alloc, key.as_str())?)?;
     }
     Ok(all)
-}
-
-fn is_optional(dependency: &Dependency) -> bool
-    ensures { result ≡ is_optional (dependency_meaning dependency.now) }
-{
-    match dependency {
-        Dependency::Simple(_) => false,
-        Dependency::Inherited(detail) => detail.optional,
-        Dependency::Detailed(detail) => detail.optional,
-    }
 }
 
 /// The names of members, in their order.

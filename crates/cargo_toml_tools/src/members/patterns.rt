@@ -2,10 +2,10 @@
 //! `[a-c]` and `[!a]` one of some characters. `**` is none of these: it stands for any folders.
 ghost use Rattle.std.specs.Prelude.{◌≡◌, ◌∷◌, IfOk, OnOk, false, map, option_map};
 ghost use Rattle.std.specs.Str.{chars};
-ghost use Rattle.cargo_toml_tools.specs.Patterns.{accepts, is_among, is_deep, is_many};
-ghost use Rattle.cargo_toml_tools.specs.Patterns.{is_pattern, matches};
-ghost use Rattle.cargo_toml_tools.specs.Patterns.{part_of, parts_of, read_all, read_in_brackets, read_more};
-ghost use Rattle.cargo_toml_tools.specs.Patterns.{read_of, read_plain, whole_parts};
+ghost use Rattle.cargo_toml_tools.specs.Patterns.{accepts, bracketed, is_among, is_deep, is_many};
+ghost use Rattle.cargo_toml_tools.specs.Patterns.{is_pattern, matches, part_of, parts_of, read_all};
+ghost use Rattle.cargo_toml_tools.specs.Patterns.{read_in_brackets, read_more, read_of, read_plain};
+ghost use Rattle.cargo_toml_tools.specs.Patterns.{whole_parts};
 ghost use Rattle.cargo_toml_tools.specs.Rows.{next, scan, shift};
 
 use std::alloc::{AllocError, Global};
@@ -154,12 +154,18 @@ impl Reading {
         }
         let content = mem::replace(&mut self.content, Vec::new(alloc));
         self.mode = Mode::Plain;
-        self.tokens.push(if is_other {
-            Token::Without(content)
-        } else {
-            Token::Within(content)
-        })?;
+        self.tokens.push(bracketed(is_other, content))?;
         Ok(())
+    }
+}
+
+fn bracketed(is_other: bool, content: Vec<char>) -> Token
+    ensures { part_of result ≡ bracketed is_other content.items }
+{
+    if is_other {
+        Token::Without(content)
+    } else {
+        Token::Within(content)
     }
 }
 

@@ -11,10 +11,10 @@ ghost use Rattle.cargo_toml_tools.specs.Places.{root_of, settled};
 use std::alloc::{AllocError, Global};
 
 /// Whether a path is `outer`, or goes on behind it.
-pub fn is_within(path: &str, outer: &str) -> bool
-    ensures { result ≡ is_within path.now outer.now }
+pub fn is_within(folder: &str, outer: &str) -> bool
+    ensures { result ≡ is_within folder.now outer.now }
 {
-    match path.strip_prefix(outer) {
+    match folder.strip_prefix(outer) {
         Some(rest) => rest.is_empty() || is_rooted(rest),
         None => false,
     }
@@ -71,9 +71,15 @@ fn some_names<'a>(alloc: Global, path: &'a str) -> Result<Vec<&'a str>, AllocErr
     ensures { IfOk result (λ names. map (λ t. t.now) names.items
         ≡ filter (λ name. not (is_nothing name)) (pieces path.now)) }
 {
-    path.split('/')
-        .filter(|name| !is_nothing(name))
-        .collect(alloc)
+    let all = pieces(alloc, path)?;
+    let mut names = Vec::new(alloc);
+    for name in all.as_slice() {
+        if is_nothing(*name) {
+            continue;
+        }
+        names.push(*name)?;
+    }
+    Ok(names)
 }
 
 /// The names of a path that nothing takes back.

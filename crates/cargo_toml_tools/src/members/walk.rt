@@ -9,9 +9,10 @@ ghost use Rattle.std.specs.List.{flat_map};
 ghost use Rattle.cargo_toml.specs.RealFiles.{is_absent};
 ghost use Rattle.cargo_toml_tools.specs.MemberFolders.{Adds, Leads, Tells, all_from, begins_at};
 ghost use Rattle.cargo_toml_tools.specs.MemberFolders.{begins_with_dot, by_found, by_link, dots_if};
-ghost use Rattle.cargo_toml_tools.specs.MemberFolders.{folder_if, further, is_folder, is_there, led};
+ghost use Rattle.cargo_toml_tools.specs.MemberFolders.{folder_if, further, is_folder, is_plain};
+ghost use Rattle.cargo_toml_tools.specs.MemberFolders.{is_there, led};
 ghost use Rattle.cargo_toml_tools.specs.MemberFolders.{led_to, matched, named_so, names_told};
-ghost use Rattle.cargo_toml_tools.specs.MemberFolders.{path_if, place_if, places_of, subfolders};
+ghost use Rattle.cargo_toml_tools.specs.MemberFolders.{path_if, place_if, places_of, skips, subfolders};
 ghost use Rattle.cargo_toml_tools.specs.MemberFolders.{with_below};
 ghost use Rattle.cargo_toml_tools.specs.Patterns.{part_of};
 ghost use Rattle.cargo_toml_tools.specs.Places.{place_of};
@@ -305,7 +306,7 @@ fn one_further<R: Files + AllocGlobal>(
         paths,
         is_deep: is_behind,
     } = step;
-    if is_deep(name) || (is_behind && name.is_empty()) {
+    if skips(name, is_behind) {
         return Ok(Step {
             paths,
             is_deep: true,
@@ -320,6 +321,13 @@ fn one_further<R: Files + AllocGlobal>(
         paths: all,
         is_deep: false,
     })
+}
+
+/// Whether a name is `**`, or the empty one behind a slash right behind that.
+fn skips(name: &str, is_behind: bool) -> bool
+    ensures { result ≡ skips name.now is_behind }
+{
+    is_deep(name) || (is_behind && name.is_empty())
 }
 
 /// These folders, and right behind `**` all below them.
@@ -349,13 +357,20 @@ fn add_further<R: Files + AllocGlobal>(
     ensures { OnOk result (Adds (λ d. further d from.entry.1 name.now from.entry.0.now)
         looks.old.items looks.new.items all.old.items all.new.items) }
 {
-    if !from.1 && !is_pattern(name) {
+    if is_plain(name, from.1) {
         return add_if_there(rt, looks, path_below(rt.alloc(), from.0, name)?, all);
     }
     let Some(pattern) = tokens_of(rt.alloc(), name)? else {
         return Ok(());
     };
     add_matched(rt, looks, from, pattern.as_slice(), all)
+}
+
+/// Whether a name stands for itself.
+fn is_plain(name: &str, is_behind: bool) -> bool
+    ensures { result ≡ is_plain name.now is_behind }
+{
+    !is_behind && !is_pattern(name)
 }
 
 /// Adds a path where something lies.

@@ -1,14 +1,16 @@
-"""`index` beside the line that Cargo writes into the registry that it makes for a workspace."""
+"""Holds `index` against the line that Cargo writes into the registry of a workspace."""
 
 import json
 import os
 import re
+import sys
 
-from judging import STUB, package, put, put_crate
+from judging import STUB, compare, package, put, put_crate
 from manifests import CORP, Manifests
 
 CRATES_IO = "https://github.com/rust-lang/crates.io-index"
 
+SAME = {"refused": "both refuse it"}
 MEANT = {
     "underscores": "the tool refuses `_` for `-` by name, where Cargo reads it up to edition 2021",
     "unversioned": "the tool refuses a package without a version, which Cargo takes as 0.0.0",
@@ -80,11 +82,11 @@ def answer_of(work, folder, seed):
             return "unversioned"
         return "unpublished" if "isn't published" in told else f"{told}\n{want}"
     if status != 0:
-        return None
+        return "refused"
     if OF_FEATURES.search(why) and not UNRESOLVED.search(why):
         return f"{out}\n{why}"
     return "unresolved" if UNRESOLVED.search(why) else "unread"
 
 
-def answers(work):
-    return work.each(lambda folder, seed: answer_of(work, folder, seed), work.places())
+if __name__ == "__main__":
+    sys.exit(compare(__doc__, answer_of, SAME, MEANT))

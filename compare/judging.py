@@ -1,16 +1,22 @@
-"""What the comparisons with Cargo share: Cargo without a network, the tool, and files."""
+"""What comparisons with Cargo share: Cargo without a network, the tool, files, and the count."""
 
+import argparse
+import collections
 import concurrent.futures
 import json
 import os
+import shutil
 import subprocess
+import tempfile
 
 from manifests import CORP, KEYS
 
 STUB = "[features]\nstd = []\nderive = []\nalloc = []\n"
 HEAD = 'edition = "2021"\ndescription = "x"\nlicense = "MIT"\n'
-# So many calls of Cargo run side by side.
+# So many calls of Cargo run side by side, and so many failures are printed.
 SIDE_BY_SIDE = 2
+SHOWN = 5
+BUILT = f"{os.path.dirname(os.path.dirname(os.path.realpath(__file__)))}/cargo-toml-tools"
 
 
 def put(path, text):
@@ -80,3 +86,27 @@ class Work:
         """What `answer` says of each place, in their order."""
         with concurrent.futures.ThreadPoolExecutor(SIDE_BY_SIDE) as pool:
             yield from zip(places, pool.map(lambda place: answer(*place), places))
+
+
+def compare(doc, answer_of, same, meant):
+    """Counts what came of each manifest, by the words of the command line: `answer_of(work, folder,
+    seed)` is None, a class of `same` or of what is `meant`, or the text of a failure."""
+    reader = argparse.ArgumentParser(description=doc)
+    reader.add_argument("--count", type=int, default=100)
+    reader.add_argument("--seed", type=int, default=1)
+    reader.add_argument("--program", default=BUILT)
+    words, folder, found = reader.parse_args(), tempfile.mkdtemp(), collections.Counter()
+    work, named = Work(words.program.split(), words.count, words.seed, folder), same | meant
+    for (place, seed), answer in work.each(lambda *at: answer_of(work, *at), work.places()):
+        kind = "same" if answer is None else answer if answer in named else "FAILED"
+        found[kind] += 1
+        if kind != "FAILED":
+            shutil.rmtree(place, ignore_errors=True)
+        elif found["FAILED"] <= SHOWN:
+            print(f"{place} (seed {seed})\n{answer}\n", flush=True)
+    for kind, times in found.most_common():
+        print(f"{times:6} {kind}" + (f": {named[kind]}" if kind in named else ""))
+    if found["FAILED"]:
+        return 1
+    shutil.rmtree(folder)
+    return 0

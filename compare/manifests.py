@@ -131,7 +131,8 @@ class Manifests:
             stated["publish"] = self.one(PUBLISH)
         left = [key for key in stated if is_member and self.happens(0.15)]
         self.version = (GIVEN if "version" in left else stated).get("version", '"0.0.0"')[1:-1]
-        return [f"{key}.workspace = true" if key in left else f"{key} = {stated[key]}" for key in stated]
+        stated |= dict.fromkeys(left, "{ workspace = true }")
+        return [f"{key} = {value}" for key, value in stated.items()]
 
     def stubs(self):
         """Dependencies that lie beside the manifest."""

@@ -1,6 +1,8 @@
 -- Lists that are made of another one, element by element: of all, or of those that pass a test.
 use Rattle.std.proofs.Common.{◌≡◌, ◌+◌, ◌++◌, ◌∙◌, ◌<◌, ◌≤◌, ◌||◌, ℕ, Bool, true, false, cond, List, [], ◌∷◌, String, Global, ap, append_assoc, drop, get_or, length, map, refl, string_bytes, sym}
 use Rattle.std.proofs.lemmas.List.{append-nil, drop_all, map-append}
+use Rattle.std.proofs.lemmas.List.Folds.{list_any-append}
+use Rattle.std.specs.List.{list_any}
 use Rattle.std.specs.Prelude.{filter}
 use Rattle.cargo_toml.specs.Action.{Text}
 use Rattle.cargo_toml_tools.proofs.Grown.{drop_next}
@@ -48,3 +50,11 @@ cond_or true true = refl
 cond_or true false = refl
 cond_or false true = refl
 cond_or false false = refl
+
+-- ---- whether some element passes, part by part
+module _ {X : Type 0} (p : X → Bool) (xs ys zs : List X) (whole : Bool) (is : zs ≡ xs ++ ys) (before : list_any p zs ≡ whole) where
+  pub any_past : list_any p xs ≡ false → list_any p ys ≡ whole
+  any_past none = ap (λ b. b || list_any p ys) (sym none) ∙ sym (list_any-append p xs ys) ∙ ap (list_any p) (sym is) ∙ before
+
+  pub any_here : list_any p xs ≡ true → true ≡ whole
+  any_here some = ap (λ b. b || list_any p ys) (sym some) ∙ sym (list_any-append p xs ys) ∙ ap (list_any p) (sym is) ∙ before

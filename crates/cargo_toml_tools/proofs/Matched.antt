@@ -1,9 +1,10 @@
 -- A row of tests with one more character of the pattern.
-use Rattle.std.proofs.Common.{◌≡◌, ◌+◌, ◌++◌, ◌&&◌, ◌||◌, ◌∙◌, ℕ, Bool, List, [], ◌∷◌, true, false, refl, sym, ap, append_assoc, inl, inr, ◌⊎◌, ◌<◌, add-one, drop, drop-cons, length, get_or, replicate, reverse}
+use Rattle.std.proofs.Common.{◌≡◌, ◌-◌, ◌+◌, arith, map, ◌++◌, ◌&&◌, ◌||◌, ◌∙◌, ℕ, Bool, List, [], ◌∷◌, true, false, refl, sym, ap, append_assoc, inl, inr, ◌⊎◌, ◌<◌, add-one, drop, drop-cons, length, get_or, replicate, reverse}
 use Rattle.std.proofs.Math.Bool.{and_comm, or_comm}
 use Rattle.std.proofs.lemmas.List.{append-nil}
 use Rattle.cargo_toml_tools.specs.Patterns.{Part, accepts, after_any, after_one, begins, is_empty, matches}
 use Rattle.cargo_toml_tools.specs.Rows.{next, row, scan, shift}
+use Rattle.cargo_toml_tools.proofs.Grown.{left_next}
 use mathlib.Core.List.{reverse_aux}
 
 shifted : (w : Part) (test : List ℕ → Bool) (end cs : List ℕ) → after_one w test end ∷ shift w (row test end cs) cs ≡ row (after_one w test) end cs
@@ -64,3 +65,12 @@ pub shift_end : (w : Part) (items left : List Bool) (cs : List ℕ) (whole : Lis
 shift_end w items left cs whole (inl none) before = sym (append-nil items) ∙ ap (λ t. items ++ shift w t cs) (sym none) ∙ before
 shift_end w items left cs whole (inr none) before =
     sym (append-nil items) ∙ ap (λ t. items ++ t) (sym (shift_none w left)) ∙ ap (λ t. items ++ shift w left t) (sym none) ∙ before
+
+-- one more part of a pattern, from its end on
+pub back_next : {A B : Type 0} (f : A → B) (xs : List A) (i k : ℕ) (x : A) → i < length xs → k ≡ length xs - 1 - i → x ≡ get_or xs k x
+    → map f (drop (length xs - (i + 1)) xs) ≡ f x ∷ map f (drop (length xs - i) xs)
+back_next f xs i k x within is at =
+    let here : length xs - (i + 1) ≡ k = omega arith in
+    let behind : k + 1 ≡ length xs - i = omega arith in
+    let inside : k < length xs = omega arith in
+    ap (λ n. map f (drop n xs)) here ∙ left_next f xs k x inside at ∙ ap (λ n. f x ∷ map f (drop n xs)) behind

@@ -71,6 +71,10 @@ abbrev pub begins_with_dot : List Part → Bool
 begins_with_dot [] = false
 begins_with_dot (part ∷ pattern) = is_dot part
 
+-- where the names of an entry begin
+abbrev pub begins_at : Text → Text → Text
+begins_at root entry = if is_rooted entry then codes "/" else root
+
 -- a name that stands for itself; and one that leads no further, but is `**` or the empty one right
 -- behind that
 abbrev pub is_plain : Text → Bool → Bool
@@ -126,9 +130,6 @@ module _ (d : Disk) where
   led behind_deep folders (name ∷ names) =
       if skips name behind_deep then led true folders names
       else led false (flat_map (further behind_deep name) (all_from behind_deep folders)) names
-
-  abbrev pub begins_at : Text → Text → Text
-  begins_at root entry = if is_rooted entry then codes "/" else root
 
   abbrev pub led_to : Text → Text → List Text
   led_to root entry = led false (begins_at root entry ∷ []) (pieces entry)

@@ -19,7 +19,7 @@ mod uses;
 
 use cargo_toml::{Error, Manifest, Workspace};
 use inherited::{add_inherited_dependencies, inherited_keys};
-pub use refusals::{Standing, has_no_target, refusals};
+pub use refusals::{Standing, has_no_target, refusal_codes};
 pub use report::{json, lines};
 use std::alloc::{AllocError, Global};
 use std::collections::BTreeSet;

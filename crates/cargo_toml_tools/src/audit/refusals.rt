@@ -33,7 +33,7 @@ pub struct Standing<'a> {
 }
 
 /// What Cargo refuses of a manifest as it is written.
-pub fn refusals<M>(
+pub fn refusal_codes<M>(
     alloc: Global,
     standing: Standing<'_>,
     written: &Manifest<M>,
@@ -146,7 +146,12 @@ fn any_table(tables: Tables<'_>) -> bool
 fn any_entry(table: &DepsSet) -> bool
     ensures { result ≡ list_any (λ e. is_false e.1) (entries_meaning table.now) }
 {
-    table.values().any(is_false)
+    for (_, dependency) in table {
+        if is_false(dependency) {
+            return true;
+        }
+    }
+    false
 }
 
 fn is_false(dependency: &Dependency) -> bool

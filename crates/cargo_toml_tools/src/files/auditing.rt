@@ -1,7 +1,7 @@
 //! The report on a workspace.
 
 use super::reading::manifest_in;
-use crate::audit::{Audit, Code, Standing, has_no_target, json, lines, refusals};
+use crate::audit::{Audit, Code, Standing, has_no_target, json, lines, refusal_codes};
 use crate::members::{Limits, Look, There, excludes, included, lies_in, listed, look_at};
 use crate::members::{manifest_path, place_of, repeats, unseen, wrong_entries};
 use crate::tables::Tables;
@@ -354,7 +354,7 @@ fn add_member<R: Files + RandomSource + AllocGlobal>(
         has_errors: has_errors(rt, &*held.manifest)?,
         lacks_lints: root.workspace.lints.is_empty(),
     };
-    let codes = refusals(alloc, standing, &*held.manifest)?;
+    let codes = refusal_codes(alloc, standing, &*held.manifest)?;
     audit.find_each(codes.as_slice(), place)?;
     let inherits = audit.add_written(&*held.manifest)?;
     held.manifest

@@ -181,8 +181,8 @@ pub fn matches(alloc: Global, pattern: &[Token], name: &str) -> Result<bool, All
     let mut reached = vec![in alloc; false; name.len()]?;
     reached.insert(0, true)?;
     for taken in 0..pattern.len() {
-        let wanted = &pattern[pattern.len() - 1 - taken];
-        reached = one_more(alloc, reached.as_slice(), name, wanted)?;
+        let k = pattern.len() - 1 - taken;
+        reached = one_more(alloc, reached.as_slice(), name, &pattern[k])?;
     }
     Ok(reached.get(name.len()).copied().unwrap_or(false))
 }

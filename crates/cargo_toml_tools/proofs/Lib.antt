@@ -1,18 +1,18 @@
 pub mod Compared
-pub mod Gained
 pub mod Left
+pub mod Kept
+pub mod Repeated
 pub mod Matched
 pub mod Placed
 pub mod Asked
 pub mod Grown
-pub mod Listed
 pub mod Settled
 pub mod Summed
 pub mod Told
 pub mod Refused
+pub mod Walked
 pub mod Within
 pub mod Yielded
-pub mod Followed
 pub mod KeysInOrder
 pub mod Ordered
 pub mod Reaching
@@ -21,6 +21,5 @@ pub mod Exactly
 pub mod Grouped
 pub mod Inserted
 pub mod Using
-pub mod Unused
 pub mod Sorting
 mod FileFacts

@@ -11,6 +11,7 @@ pub mod LeftKeys
 pub mod Noted
 pub mod Neighbours
 pub mod Overall
+pub mod Refusals
 pub mod Patterns
 pub mod Places
 pub mod MemberFolders
@@ -23,5 +24,4 @@ pub mod IndexedFiles
 -- the code's own steps, in contracts of inner functions alone: nothing here has to be believed
 pub mod Checked
 pub mod Sections
-pub mod FurtherFolders
 pub mod Rows

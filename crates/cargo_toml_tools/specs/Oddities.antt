@@ -1,23 +1,18 @@
--- What a report finds odd, and what each call adds to that.
-use Rattle.std.specs.Prelude.{◌⊎◌, ◌++◌, Bool, false, List, [], ◌∷◌, Option, Some, None}
-use Rattle.std.specs.Prelude.{if◌then◌else◌, map, bytes_eq, filter, option_map}
+-- What a report finds odd, and what a member has otherwise than its workspace.
+use Rattle.std.specs.Prelude.{◌≡◌, ◌++◌, Bool, false, List, [], ◌∷◌, Option, Some, None, Vec}
+use Rattle.std.specs.Prelude.{if◌then◌else◌, map, bytes_eq, option_map}
 use Rattle.std.specs.Prelude.{option_and_then, string_bytes}
-use Rattle.std.specs.BTreeSet.{BTreeSet}
 use Rattle.std.specs.Option.{option_map_or}
+use Rattle.std.specs.declared.alloc.Global.{Global}
 use Rattle.cargo_toml.specs.Action.{Text}
 use Rattle.cargo_toml.specs.InheritableValues.{value_of}
 use Rattle.cargo_toml.specs.Manifests.{ManifestMeaning}
 use Rattle.cargo_toml.specs.Packages.{PackageMeaning}
-use Rattle.cargo_toml.specs.Reach.{Among}
 use Rattle.cargo_toml.specs.Settings.{edition_text}
 use Rattle.cargo_toml.specs.Templates.{TemplateMeaning}
 use Rattle.cargo_toml_tools.specs.declared.audit.Code.{Code}
-use Rattle.cargo_toml_tools.specs.declared.audit.Code.TheVariants.{Incomplete, ListedTwice}
 use Rattle.cargo_toml_tools.specs.declared.audit.Code.TheVariants.{OtherEdition, OtherLicense}
-use Rattle.cargo_toml_tools.specs.declared.audit.Code.TheVariants.{Outside}
 use Rattle.cargo_toml_tools.specs.declared.audit.Finding.{Finding}
-use Rattle.cargo_toml_tools.specs.declared.members.Members.{Members}
-use Rattle.cargo_toml_tools.specs.Places.{leads_out}
 
 -- what a finding tells: its code, and the folder or the dependency that it is about. Its words are
 -- for people
@@ -32,34 +27,13 @@ oddity_of f = record { code = f.code; subject = string_bytes f.subject }
 abbrev pub oddity_with : Code → Text → Oddity
 oddity_with code subject = record { code = code; subject = subject }
 
--- some finding tells this
-abbrev pub IsReported : BTreeSet Finding → Oddity → Type 0
-IsReported findings o = Among (map oddity_of findings.keys) o
+-- what findings tell, in order
+abbrev pub oddities_of : Vec Finding Global → List Oddity
+oddities_of findings = map oddity_of findings.items
 
--- all of these are found
-abbrev pub AreReported : BTreeSet Finding → List Oddity → Type 0
-AreReported findings os = (o : Oddity) → Among os o → IsReported findings o
-
--- no finding is lost, and each new one is such
-pub record GainsOnly (Such : Oddity → Type 0) (old new : BTreeSet Finding) : Type 0 where
-  pub kept : (o : Oddity) → IsReported old o → IsReported new o
-  pub gained : (o : Oddity) → IsReported new o → IsReported old o ⊎ Such o
-
--- a member that doesn't complete
-abbrev pub refusal_of : Text → Oddity
-refusal_of folder = oddity_with Incomplete folder
-
-abbrev pub repeat_of : Text → Oddity
-repeat_of folder = oddity_with ListedTwice folder
-
-abbrev pub outsider_of : Text → Oddity
-outsider_of folder = oddity_with Outside folder
-
--- what is odd of how members are listed: those that are listed twice, and those outside
-abbrev pub listing_oddities : Members → List Oddity
-listing_oddities m =
-    map repeat_of (map string_bytes m.twice.keys)
-    ++ map outsider_of (filter leads_out (map string_bytes m.folders.keys))
+-- these are found, behind what was found before
+abbrev pub Finds : List Oddity → Vec Finding Global → Vec Finding Global → Type 0
+Finds os old new = oddities_of new ≡ oddities_of old ++ os
 
 -- a member has what its workspace gives
 abbrev pub has_given : Option Text → Text → Bool

@@ -1,27 +1,34 @@
 -- What only all members together show.
 use Rattle.std.specs.Prelude.{◌++◌, if◌then◌else◌, Bool, List, []}
-use Rattle.std.specs.Prelude.{◌∷◌, bytes_eq, filter, map, not}
+use Rattle.std.specs.Prelude.{◌∷◌, bytes_eq, filter, map, not, string_bytes}
 use Rattle.std.specs.BTreeSet.{contains_text}
 use Rattle.std.specs.Cmp.Lexicographic.{slice_cmp}
 use Rattle.std.specs.List.{flat_map, list_all}
 use Rattle.std.specs.Ordering.{nat_cmp, ordering_then}
 use Rattle.std.specs.declared.cmp.Ordering.{Ordering}
 use Rattle.cargo_toml.specs.Action.{Text}
+use Rattle.cargo_toml.specs.Dependencies.{is_optional}
 use Rattle.cargo_toml.specs.InheritedDependencies.{Entries}
+use Rattle.cargo_toml_tools.specs.MemberFolders.{repeats}
 use Rattle.cargo_toml_tools.specs.Neighbours.{runs_of}
 use Rattle.cargo_toml_tools.specs.Noted.{Asking, askings_of}
 use Rattle.cargo_toml_tools.specs.Oddities.{Oddity, oddity_with}
 use Rattle.cargo_toml_tools.specs.declared.audit.Audit.{Audit}
+use Rattle.cargo_toml_tools.specs.declared.audit.Code.TheVariants.{OptionalShared, SameName}
 use Rattle.cargo_toml_tools.specs.declared.audit.Code.TheVariants.{SeveralRequirements}
 use Rattle.cargo_toml_tools.specs.declared.audit.Code.TheVariants.{UnusedDependency}
 
--- of the dependencies of the workspace, by their keys, those that no member inherits
-abbrev pub unused_of : Text → Oddity
-unused_of key = oddity_with UnusedDependency key
+-- the keys of the workspace's dependencies that no member inherits
+abbrev pub unused_among : (Text → Bool) → Entries → List Text
+unused_among inherited es = map (λ e. e.0) (filter (λ e. not (inherited e.0)) es)
 
-abbrev pub unused_among : Audit → List Text → List Oddity
-unused_among audit keys =
-    map unused_of (filter (λ key. not (contains_text audit.inherited key)) keys)
+-- those that are optional
+abbrev pub optional_among : Entries → List Text
+optional_among es = map (λ e. e.0) (filter (λ e. is_optional e.1) es)
+
+-- the names of the members of a report
+abbrev pub member_names : Audit → List Text
+member_names audit = map (λ m. string_bytes m.name) audit.members.items
 
 abbrev pub asks_for_same : Asking → Asking → Bool
 asks_for_same a b = bytes_eq a.name b.name
@@ -51,4 +58,8 @@ several_among asked = flat_map several_of (runs_of asks_for_same asked)
 -- all that, by the dependencies of the workspace
 abbrev pub overall_oddities : Entries → Audit → List Oddity
 overall_oddities dependencies audit =
-    unused_among audit (map (λ e. e.0) dependencies) ++ several_among (askings_of audit.uses)
+    map (oddity_with UnusedDependency)
+    (unused_among (contains_text audit.inherited) dependencies)
+    ++ (map (oddity_with OptionalShared) (optional_among dependencies)
+    ++ (map (oddity_with SameName) (repeats (member_names audit))
+    ++ several_among (askings_of audit.uses)))

@@ -3,9 +3,10 @@
 use super::{Audit, Finding, Member};
 use crate::escape::{Format, comma_before, push_escaped};
 use crate::json::{put_text, put_texts};
+use crate::members::seen_from;
 use serde_json::{Map, Value, push, put};
 use std::alloc::{AllocError, Global};
-use std::collections::BTreeSet;
+use std::collections::{BTreeMap, BTreeSet};
 
 /// The report as lines: one for each member, and then one for each finding, in byte order.
 ///
@@ -13,18 +14,50 @@ use std::collections::BTreeSet;
 /// `finding CODE | SUBJECT | WORDS`, where `-` stands for what isn't there.
 pub fn lines(alloc: Global, audit: &Audit) -> Result<String, AllocError> {
     let mut text = String::new(alloc);
-    for member in &audit.members {
-        push_member(&mut text, member)?;
+    for (folder, member) in &shown_members(alloc, audit)? {
+        push_member(&mut text, folder.as_str(), member)?;
     }
-    for finding in &audit.findings {
+    for finding in &shown_findings(alloc, audit)? {
         push_finding(&mut text, finding)?;
     }
     Ok(text)
 }
 
-fn push_member(text: &mut String, member: &Member) -> Result<(), AllocError> {
+/// The members by their folders, as they are seen from the workspace's.
+fn shown_members<'a>(
+    alloc: Global,
+    audit: &'a Audit,
+) -> Result<BTreeMap<String, &'a Member>, AllocError> {
+    let mut all = BTreeMap::new(alloc);
+    for member in &audit.members {
+        let folder = seen_from(alloc, audit.root.as_str(), member.folder.as_str())?;
+        all.insert(folder, member)?;
+    }
+    Ok(all)
+}
+
+/// What was found, each once. A place is told as it is seen from the workspace.
+fn shown_findings(alloc: Global, audit: &Audit) -> Result<BTreeSet<Finding>, AllocError> {
+    let mut all = BTreeSet::new(alloc);
+    for finding in &audit.findings {
+        let subject = if finding.code.is_of_place() {
+            seen_from(alloc, audit.root.as_str(), finding.subject.as_str())?
+        } else {
+            finding.subject.clone()?
+        };
+        let words = finding.words.clone()?;
+        all.insert(Finding {
+            code: finding.code,
+            subject,
+            words,
+        })?;
+    }
+    Ok(all)
+}
+
+fn push_member(text: &mut String, folder: &str, member: &Member) -> Result<(), AllocError> {
     text.push_str("member ")?;
-    push_escaped(text, member.folder.as_str(), Format::Line)?;
+    push_escaped(text, folder, Format::Line)?;
     push_cell(text, member.name.as_str())?;
     push_cell(text, member.version.as_str())?;
     push_cell(text, member.edition.as_str())?;
@@ -66,8 +99,8 @@ fn push_keys(text: &mut String, keys: &[String]) -> Result<(), AllocError> {
 
 /// The same as a line of JSON, an object of two lists: `findings` and `members`.
 pub fn json(alloc: Global, audit: &Audit) -> Result<String, AllocError> {
-    let members = member_values(alloc, audit.members.as_slice())?;
-    let findings = finding_values(alloc, &audit.findings)?;
+    let members = member_values(alloc, &shown_members(alloc, audit)?)?;
+    let findings = finding_values(alloc, &shown_findings(alloc, audit)?)?;
     let mut report = Map::new(alloc);
     put(&mut report, alloc, "members", Value::from(members))?;
     put(&mut report, alloc, "findings", Value::from(findings))?;
@@ -76,10 +109,13 @@ pub fn json(alloc: Global, audit: &Audit) -> Result<String, AllocError> {
     Ok(text)
 }
 
-fn member_values(alloc: Global, members: &[Member]) -> Result<Vec<Value>, AllocError> {
+fn member_values(
+    alloc: Global,
+    members: &BTreeMap<String, &Member>,
+) -> Result<Vec<Value>, AllocError> {
     let mut values = Vec::new(alloc);
-    for member in members {
-        push(&mut values, member_value(alloc, member)?)?;
+    for (folder, member) in members {
+        push(&mut values, member_value(alloc, folder.as_str(), member)?)?;
     }
     Ok(values)
 }
@@ -92,9 +128,9 @@ fn finding_values(alloc: Global, findings: &BTreeSet<Finding>) -> Result<Vec<Val
     Ok(values)
 }
 
-fn member_value(alloc: Global, member: &Member) -> Result<Value, AllocError> {
+fn member_value(alloc: Global, folder: &str, member: &Member) -> Result<Value, AllocError> {
     let mut object = Map::new(alloc);
-    put_text(alloc, &mut object, "folder", Some(member.folder.as_str()))?;
+    put_text(alloc, &mut object, "folder", Some(folder))?;
     put_text(alloc, &mut object, "name", Some(member.name.as_str()))?;
     put_text(alloc, &mut object, "version", Some(member.version.as_str()))?;
     put_text(alloc, &mut object, "edition", Some(member.edition.as_str()))?;

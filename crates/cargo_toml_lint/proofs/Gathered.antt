@@ -43,10 +43,6 @@ pub put_if : (old new same test : Bool) → test ≡ true → new ≡ (old || sa
 put_if old new same test is put = put
     ∙ ap (λ b. old || b) (sym (ap (λ b. same && b) is ∙ and-true same))
 
-pub put_none : (old same test : Bool) → test ≡ false → old ≡ (old || (same && test))
-put_none old same test is = sym (ap (λ b. old || (same && b)) is
-    ∙ ap (λ b. old || b) (and-false same) ∙ or-false old)
-
 -- one more of the first elements
 pub any_more : {X Y : Type 0} (p : Y → Bool) (g : X → Y) (xs : List X) (i : ℕ) (x : X)
     → i < length xs → x ≡ get_or xs i x →
@@ -57,23 +53,7 @@ any_more p g xs i x below read =
     ∙ ap (list_any p) (map_push g (take i xs) x) ∙ list_any-append p (map g (take i xs)) (g x ∷ [])
     ∙ ap (λ b. list_any p (map g (take i xs)) || b) (or-false (p (g x)))
 
--- each of the elements
-pub all_seen : {X Y : Type 0} (p : Y → Bool) (g : X → Y) (xs : List X) (i : ℕ) → length xs ≤ i
-    → list_any p (map g (take i xs)) ≡ list_any p (map g xs)
-all_seen p g xs i past = ap (λ ys. list_any p (map g ys)) (take_all i xs past)
-
 pub any_map : {X Y : Type 0} (p : Y → Bool) (g : X → Y) (xs : List X) → list_any p (map g xs)
     ≡ list_any (λ x. p (g x)) xs
 any_map p g [] = refl
 any_map p g (x ∷ xs) = ap (λ b. p (g x) || b) (any_map p g xs)
-
--- one more hit, after those that were there
-pub more_hits : (start before old new hit now : Bool) → old ≡ (start || before) → new ≡ (old || hit)
-    → now ≡ (before || hit) → new ≡ (start || now)
-more_hits start before old new hit now had put is = put ∙ ap (λ b. b || hit) had
-    ∙ or_assoc start before hit ∙ ap (λ b. start || b) (sym is)
-
-pub no_hit : (start before old hit now : Bool) → old ≡ (start || before) → hit ≡ false → now
-    ≡ (before || hit) → old ≡ (start || now)
-no_hit start before old hit now had miss is = had
-    ∙ ap (λ b. start || b) (sym (is ∙ ap (λ b. before || b) miss ∙ or-false before))

@@ -1,0 +1,13 @@
+use Rattle.std.proofs.Common.{◌++◌, map, ap, ◌∙◌}
+use Rattle.cargo_toml.specs.Manifests.{manifest_meaning}
+use Rattle.cargo_toml_lint.specs.Findings.{about}
+use Rattle.cargo_toml_lint.proofs.Counted.{found_first}
+use Rattle.cargo_toml_lint.proofs.linting.found_in.Goals as goal
+
+pub returns-clause-exact : goal.returns-clause-exact
+returns-clause-exact g c = (
+  c.in_ok-links.links,
+  c.in_ok-links.ensures,
+  λ d f t. found_first c.new-found.ensures.items c.in_ok-add_written.ensures
+      (c.in_order.ensures.same d f t) (c.in_ok-add_counting.ensures d f t),
+)

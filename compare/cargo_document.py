@@ -1,9 +1,10 @@
-"""Holds the rows of `document` against Cargo, offline, on random manifests: what `default` turns on,
-and what each feature turns on, by `cargo metadata --features F`.
+"""Holds the rows of `document` against Cargo, offline, on random manifests: what `default` and each
+feature turn on, by `cargo metadata --features F`.
 
     compare/cargo_document.py [--count N] [--seed N] [--program PROGRAM]
 
-The manifests are made as those of `cargo_lint.py`, less odd; those that Cargo takes count. A page doesn't name hidden features.
+The manifests are made as those of `cargo_lint.py`, less odd; those that Cargo takes count. A page
+doesn't name hidden features.
 """
 
 import argparse

@@ -24,8 +24,8 @@ KEYS = ["d", "e", "x-y", "_h"]
 NAMES = ["default", "a", "b", "c", "_p", "d", "std", "1.0"]
 ODD_NAMES = ["", "a b", "a/b", "a:b", "a?", "dep:a", "+a", "-a", ".a", "a+", "a-b", "a.b", "é", "_"]
 ODD_NAMES += ["\u0301a", "a\u0301", "a\n", "ⅷ", "a\u2028", "😀", "a😀", "0", "ª", "a·b", "٣", "a٣"]
-ODD_TEXTS = ["no", "dep:no", "no/f", "no?/f", "d?", "dep:d?", "dep:d/f", "dep:d?/f", "d/f/g", "", "/"]
-ODD_TEXTS += ["d/", "/f", "d??/f", "dep:", "dep:dep:d", "d/a b", "d?/-f", "default", "?", "dep:x-y/f"]
+ODD_TEXTS = ["no", "dep:no", "no/f", "no?/f", "d?", "dep:d?", "dep:d/f", "dep:d?/f", "d/f/g", ""]
+ODD_TEXTS += ["/", "d/", "/f", "d??/f", "dep:", "dep:dep:d", "d/a b", "d?/-f", "default", "?"]
 REQUESTS = ["f", "g", "f", "e/f", "dep:f", "", "a b", "f?"]
 TARGETS = ["", "", "", "target.'cfg(unix)'.", "target.x86_64-pc-windows-gnu."]
 KINDS = ["dependencies", "dev-dependencies", "build-dependencies"]
@@ -139,7 +139,8 @@ class Manifest:
             if self.happens(0.1):
                 texts = [self.of_list(NAMES) for _ in range(self.random.randrange(3))]
                 self.products.append(kind)
-                lines += [f"[[{kind}]]", f'name = "it-{kind}"', f"required-features = {listed(texts)}"]
+                lines += [f"[[{kind}]]", f'name = "it-{kind}"']
+                lines.append(f"required-features = {listed(texts)}")
         return lines
 
     def write(self, folder):
@@ -173,7 +174,8 @@ class Judge:
 
     def __init__(self, top):
         compiler = f"{top}/compiler"
-        put(compiler, '#!/bin/sh\ncase "$*" in *-vV* | *--print*) exec rustc "$@" ;; esac\nexit 1\n')
+        asks = 'case "$*" in *-vV* | *--print*) exec rustc "$@" ;; esac'
+        put(compiler, f"#!/bin/sh\n{asks}\nexit 1\n")
         os.chmod(compiler, 0o755)
         self.env = os.environ | {"CARGO_HOME": f"{top}/home", "CARGO_NET_OFFLINE": "true"}
         self.env |= {"RUSTC": compiler, "CARGO_TERM_COLOR": "never"}

@@ -1,8 +1,8 @@
 -- What is found in an answer for a manifest is what holds of the manifest.
-use Rattle.std.proofs.Common.{◌≡◌, ◌⊎◌, ◌↔◌, ◌||◌, ◌++◌, [], ℕ, Some, true, IsTrue, refl, sym, ap, subst, inl, inr, ◌∙◌}
+use Rattle.std.proofs.Common.{◌≡◌, ◌⊎◌, ◌↔◌, ◌||◌, ◌++◌, [], ℕ, Some, true, IsTrue, refl, sym, ap, ap₂, subst, inl, inr, ◌∙◌}
 use Rattle.std.specs.List.{flat_map}
 use Rattle.cargo_toml.specs.Action.{Text}
-use Rattle.cargo_toml.specs.Admitted.{admitted}
+use Rattle.cargo_toml.specs.Admitted.{Listed, admitted}
 use Rattle.cargo_toml.specs.Graph.{Table}
 use Rattle.cargo_toml.specs.Manifests.{ManifestMeaning}
 use Rattle.cargo_toml.specs.Parsed.{IsParsed, parsed_entries, parsed_table}
@@ -11,7 +11,7 @@ use Rattle.cargo_toml.specs.Removal.{is_removed}
 use Rattle.cargo_toml.specs.Views.{answer_of, table_in}
 use Rattle.cargo_toml_features.specs.declared.features.Features.{Features}
 use Rattle.cargo_toml_lint.specs.Findings.{Counts, HoldsOf, IsOnlyDefault, feature_findings, is_hidden, is_over, is_private, products_findings, tables_findings, told, written_findings}
-use Rattle.cargo_toml_lint.specs.Known.{all_names}
+use Rattle.cargo_toml_lint.specs.Known.{Names, all_names}
 use Rattle.cargo_toml_lint.specs.Names.{listed_by, held_names}
 use Rattle.cargo_toml_lint.specs.Steps.{CountsIn, private_at, written_in}
 use Rattle.cargo_toml_lint.specs.Linked.{AreLinks, IsIn, IsOfDefault, name_at}
@@ -70,9 +70,10 @@ module _ {M S H : Type 0} (limit : ℕ) (m : ManifestMeaning M) (a : Features S 
         ++ (tables_findings limit m ++ products_findings (held_names known) m)))
         (written_is a.features (admitted limit m.features) (parsed_entries limit m) m.feature_details
         Removed none parsed.kept.resolved parsed.kept.marks (held_names known) limit (listed_by known))
-        ∙ (λ i. flat_map (λ e. feature_findings (names i) (is_over limit m.features e.0 e.1) e.0 e.1) (listed i)
+        ∙ ap₂ (λ (n : Names) (ls : Listed).
+        flat_map (λ e. feature_findings n (is_over limit m.features e.0 e.1) e.0 e.1) ls
         ++ (flat_map (λ e. told e.0 [] (Some FeatureTable)) m.feature_details
-        ++ (tables_findings limit m ++ products_findings (names i) m)))
+        ++ (tables_findings limit m ++ products_findings n m))) names listed
 
     -- what is found is what holds
     pub holds_is : (c : Code) (f t : Text)

@@ -43,6 +43,10 @@ pub put_if : (old new same test : Bool) → test ≡ true → new ≡ (old || sa
 put_if old new same test is put = put
     ∙ ap (λ b. old || b) (sym (ap (λ b. same && b) is ∙ and-true same))
 
+pub put_none : (old same test : Bool) → test ≡ false → old ≡ (old || (same && test))
+put_none old same test is = sym (ap (λ b. old || (same && b)) is
+    ∙ ap (λ b. old || b) (and-false same) ∙ or-false old)
+
 -- one more of the first elements
 pub any_more : {X Y : Type 0} (p : Y → Bool) (g : X → Y) (xs : List X) (i : ℕ) (x : X)
     → i < length xs → x ≡ get_or xs i x →

@@ -2,11 +2,7 @@
 use Rattle.std.specs.Prelude.{◌≡◌, ◌≢◌, ◌⊎◌, ℕ, ◌-◌, ◌==◌, Bool, false, true, ◌&&◌, ◌||◌, not}
 use Rattle.std.specs.Prelude.{if◌then◌else◌, nat_eq, nat_lt, length, List, [], ◌∷◌, ◌++◌, map}
 use Rattle.std.specs.Prelude.{IsTrue, IsFalse, bytes_eq, codes, Option, Some, None, unwrap_or}
-use Rattle.std.specs.Cmp.Lexicographic.{slice_cmp}
 use Rattle.std.specs.List.{flat_map, starts_with}
-use Rattle.std.specs.List.Sorted.{IsStrictlySortedBy}
-use Rattle.std.specs.Ordering.{nat_cmp, ordering_then}
-use Rattle.std.specs.declared.cmp.Ordering.{Ordering}
 use Rattle.cargo_toml.specs.Action.{Text, Item, item_of}
 use Rattle.cargo_toml.specs.Action.Item.{Name, On}
 use Rattle.cargo_toml.specs.Admitted.{Listed, admitted, is_explicit}
@@ -75,7 +71,7 @@ text_fault n f t = if is_bad_text t then Some BadText else item_fault n f (item_
 -- a name that no feature has, be it listed or the key of an optional dependency that no text names
 -- by `dep:`; or an action on no dependency
 abbrev pub is_missing : Names → Item → Bool
-is_missing n (Name x) = not (n.listed x) && not (n.optional x && not (n.reserved x))
+is_missing n (Name x) = not (n.listed x || (n.optional x && not (n.reserved x)))
 is_missing n (On k a) = not (n.dependency k)
 
 -- with a text that a target requires
@@ -208,7 +204,7 @@ module _ {M : Type 0} (limit : ℕ) (m : ManifestMeaning M) where
   HoldsOf c f t = Among written_findings (c, f, t) ⊎ ((t ≡ []) × Counts c f)
 
 -- ---- the answer
--- the level of a code, and its place among them in byte order of level and name
+-- the level of a code
 abbrev pub code_level : Code → Level
 code_level Implied = Hint
 code_level PrivateDefault = Hint
@@ -218,37 +214,9 @@ code_level OverLimit = Warning
 code_level Unreachable = Warning
 code_level _ = Error
 
-abbrev pub code_rank : Code → ℕ
-code_rank BadName = 0
-code_rank BadRequest = 1
-code_rank BadRequired = 2
-code_rank BadText = 3
-code_rank FeatureTable = 4
-code_rank NamesItself = 5
-code_rank NotOptional = 6
-code_rank OptionalDev = 7
-code_rank Reserved = 8
-code_rank SameName = 9
-code_rank Unknown = 10
-code_rank Implied = 11
-code_rank PrivateDefault = 12
-code_rank Cycle = 13
-code_rank Missing = 14
-code_rank OverLimit = 15
-code_rank Unreachable = 16
-
 abbrev pub about : Finding → About
 about x = (x.code, x.feature.now, x.text.now)
 
 -- there is a finding of the code for f and its text t
 abbrev pub IsFound : List Finding → Code → Text → Text → Type 0
 IsFound xs c f t = Among (map about xs) (c, f, t)
-
--- by level and code, then by feature, then by text, each in byte order
-abbrev pub about_cmp : About → About → Ordering
-about_cmp a b =
-    ordering_then (nat_cmp (code_rank a.0) (code_rank b.0))
-    (ordering_then (slice_cmp nat_cmp a.1 b.1) (slice_cmp nat_cmp a.2 b.2))
-
-abbrev pub AreSorted : List Finding → Type 0
-AreSorted xs = IsStrictlySortedBy about_cmp (map about xs)

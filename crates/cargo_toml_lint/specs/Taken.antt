@@ -1,26 +1,25 @@
 -- Which names of features, and which texts, Cargo takes.
-use Rattle.std.specs.Prelude.{ℕ, Bool, false, ◌==◌, ◌&&◌, ◌||◌, not, List, [], ◌∷◌, codes}
-use Rattle.std.specs.Prelude.{if◌then◌else◌, nat_eq, nat_le}
+use Rattle.std.specs.Prelude.{ℕ, Bool, false, ◌==◌, ◌&&◌, ◌||◌, not, codes, slice_get}
+use Rattle.std.specs.Prelude.{if◌then◌else◌, nat_eq}
+use Rattle.std.specs.Char.{is_ascii_digit}
 use Rattle.std.specs.List.{after_first, before_first, ends_with, list_all, list_any, starts_with}
+use Rattle.std.specs.Option.{option_map_or}
 use Rattle.std.specs.Str.{chars}
 use Rattle.cargo_toml.specs.Action.{Text, is_slash}
 use Rattle.unicode_ident.specs.Ident.{is_xid_continue, is_xid_start}
 
 -- a character with which a name may begin: what begins an identifier by Unicode, `_`, `0` to `9`
 abbrev pub may_start : ℕ → Bool
-may_start c = is_xid_start c || (c == 95 || (nat_le 48 c && nat_le c 57))
+may_start c = is_xid_start c || (c == 95) || is_ascii_digit c
 
 -- one that may stand in a name: what goes on in an identifier by Unicode, `-`, `+`, `.`
 abbrev pub may_follow : ℕ → Bool
-may_follow c = is_xid_continue c || (c == 45 || (c == 43 || c == 46))
-
-abbrev pub starts_well : List ℕ → Bool
-starts_well [] = false
-starts_well (c ∷ cs) = may_start c
+may_follow c = is_xid_continue c || (c == 45) || (c == 43) || (c == 46)
 
 -- the name of a feature: its first character may begin one, and each may stand in one
 abbrev pub is_feature_name : Text → Bool
-is_feature_name f = starts_well (chars f) && list_all may_follow (chars f)
+is_feature_name f =
+    option_map_or may_start (slice_get (chars f) 0) false && list_all may_follow (chars f)
 
 -- a text with a slash has no `dep:`, and behind the first slash a feature's name; one without a
 -- slash doesn't end in `?`

@@ -3,13 +3,15 @@ ghost use Rattle.std.specs.Prelude.{◌≡◌, ◌||◌, not, nat_lt, length, ma
 ghost use Rattle.cargo_toml.specs.Action.{item_of};
 ghost use Rattle.cargo_toml_lint.specs.Findings.{has_same_name, is_missing};
 ghost use Rattle.cargo_toml_lint.specs.Findings.{action_fault, name_fault, required_fault};
-ghost use Rattle.cargo_toml_lint.specs.Findings.{text_fault};
+ghost use Rattle.cargo_toml_lint.specs.Findings.{text_fault, when};
 ghost use Rattle.cargo_toml_lint.specs.Names.{held_names};
 ghost use Rattle.cargo_toml_lint.specs.Steps.{explicit_at};
+ghost use Rattle.cargo_toml_lint.specs.Taken.{is_feature_name};
+ghost use Rattle.cargo_toml_lint.specs.declared.finding.Code.TheVariants.{BadRequest};
 
 use crate::finding::Code;
 use crate::known::Known;
-use crate::names::{is_bad_text, is_never_required};
+use crate::names::{is_bad_text, is_feature_name, is_never_required};
 use cargo_toml::features::Feature;
 use cargo_toml_features::action::read_action;
 use std::collections::HashMap;
@@ -34,14 +36,15 @@ fn name_fault(known: &Known<'_>, feature: &str, name: &str) -> Option<Code>
     Some(Code::Unknown)
 }
 
-// What is wrong with an action on the dependency of this key, as on one that is optional.
-fn action_fault(known: &Known<'_>, key: &str, is_optional: bool) -> Option<Code>
-    ensures { result ≡ action_fault (held_names known.now) key.now is_optional }
+// What is wrong with an action on the dependency of this key, which may be marked as one on an
+// optional dependency.
+fn action_fault(known: &Known<'_>, key: &str, is_marked: bool) -> Option<Code>
+    ensures { result ≡ action_fault (held_names known.now) key.now is_marked }
 {
     if !known.dependencies.contains(key) {
         return Some(Code::Unknown);
     }
-    (is_optional && !known.optional.contains(key)).then_some(Code::NotOptional)
+    (is_marked && !known.optional.contains(key)).then_some(Code::NotOptional)
 }
 
 /// What is wrong with a text in the list of a feature.
@@ -53,8 +56,8 @@ pub(crate) fn text_fault(known: &Known<'_>, feature: &str, text: &str) -> Option
     }
     let action = read_action(text);
     if action.acts() {
-        let is_optional = action.is_dep_only || action.is_conditional;
-        action_fault(known, action.target, is_optional)
+        let is_marked = action.is_dep_only | action.is_conditional;
+        action_fault(known, action.target, is_marked)
     } else {
         name_fault(known, feature, action.target)
     }
@@ -68,7 +71,7 @@ fn is_missing(known: &Known<'_>, text: &str) -> bool
     if action.acts() {
         !known.dependencies.contains(action.target)
     } else {
-        !known.lists(action.target) && !known.is_implied(action.target)
+        !known.has_feature(action.target)
     }
 }
 
@@ -80,6 +83,17 @@ pub(crate) fn required_fault(known: &Known<'_>, text: &str) -> Option<Code>
         return Some(Code::BadRequired);
     }
     (is_bad_text(text) || is_missing(known, text)).then_some(Code::Missing)
+}
+
+/// What is wrong with a feature that is asked for of a dependency.
+pub(crate) fn request_fault(text: &str) -> Option<Code>
+    ensures { result ≡ when (not (is_feature_name text.now)) BadRequest }
+{
+    if is_feature_name(text) {
+        None
+    } else {
+        Some(Code::BadRequest)
+    }
 }
 
 /// Whether a feature and an optional dependency on which no text acts have the name.

@@ -8,7 +8,7 @@ ghost use Rattle.cargo_toml.specs.Products.{product_meaning};
 ghost use Rattle.cargo_toml.specs.Reads.{map_meaning};
 ghost use Rattle.cargo_toml_lint.specs.Findings.{feature_findings, list_findings};
 ghost use Rattle.cargo_toml_lint.specs.Findings.{product_findings, products_findings};
-ghost use Rattle.cargo_toml_lint.specs.Findings.{required_findings, told};
+ghost use Rattle.cargo_toml_lint.specs.Findings.{required_findings, told, when};
 ghost use Rattle.cargo_toml_lint.specs.Names.{held_names, listed_by};
 ghost use Rattle.cargo_toml_lint.specs.Steps.{Finds, explicit_at, named};
 ghost use Rattle.cargo_toml_lint.specs.declared.finding.Code.TheVariants.{FeatureTable};
@@ -33,14 +33,34 @@ pub(crate) fn add<'m>(
     ensures { OnOk result (Finds (told feature.now text.now fault) found.old.items
         found.new.items) }
 {
-    if let Some(code) = fault {
-        found.push(Finding {
-            code,
-            feature,
-            text,
-        })?;
+    match fault {
+        Some(code) => {
+            found.push(Finding {
+                code,
+                feature,
+                text,
+            })?;
+            Ok(())
+        }
+        None => Ok(()),
     }
-    Ok(())
+}
+
+/// Adds a finding of the code for a feature, if it holds.
+pub(crate) fn add_if<'m>(
+    found: &mut Vec<Finding<'m>>,
+    holds: bool,
+    code: Code,
+    feature: &'m str,
+) -> Result<(), AllocError>
+    ensures { OnOk result (Finds (told feature.now [] (when holds code)) found.old.items
+        found.new.items) }
+{
+    if holds {
+        add(found, Some(code), feature, "")
+    } else {
+        Ok(())
+    }
 }
 
 // Adds what is found of the texts of a feature's list.
@@ -71,12 +91,9 @@ fn add_feature<'m>(
     ensures { OnOk result (Finds (feature_findings (held_names known.now) is_over name.now
         (map string_bytes texts.now)) found.old.items found.new.items) }
 {
-    let bad_name = (!is_feature_name(name)).then_some(Code::BadName);
-    add(found, bad_name, name, "")?;
-    let same_name = is_same_name(known, name).then_some(Code::SameName);
-    add(found, same_name, name, "")?;
-    let over_limit = is_over.then_some(Code::OverLimit);
-    add(found, over_limit, name, "")?;
+    add_if(found, !is_feature_name(name), Code::BadName, name)?;
+    add_if(found, is_same_name(known, name), Code::SameName, name)?;
+    add_if(found, is_over, Code::OverLimit, name)?;
     add_texts(found, known, name, texts)
 }
 

@@ -1,5 +1,5 @@
 //! Which names a manifest has: of features, of dependencies, and those that `dep:` names.
-ghost use Rattle.std.specs.Prelude.{◌≡◌, ◌&&◌, ◌∷◌, [], not, IfOk, OnOk, map, string_bytes};
+ghost use Rattle.std.specs.Prelude.{◌≡◌, ◌&&◌, ◌||◌, ◌∷◌, [], not, IfOk, OnOk, map, string_bytes};
 ghost use Rattle.std.specs.List.{flat_map};
 ghost use Rattle.cargo_toml.specs.Dependencies.{dependency_meaning};
 ghost use Rattle.cargo_toml.specs.Manifests.{held};
@@ -11,7 +11,7 @@ ghost use Rattle.cargo_toml_lint.specs.Names.{AddsKeys, HoldsKeys, listed_by, he
 ghost use Rattle.cargo_toml_lint.specs.declared.known.Keys.{Keys};
 
 use cargo_toml::{DepsSet, FeatureSet, Manifest, Target, TargetDepsSet};
-use cargo_toml_features::action::read_action;
+use cargo_toml_features::action::{add_text, read_action};
 use std::alloc::{AllocError, Global};
 use std::collections::BTreeSet;
 
@@ -52,11 +52,12 @@ impl<'m> Keys<'m> {
     fn add(&mut self, key: &'m str, is_marked: bool) -> Result<(), AllocError>
         ensures { OnOk result (AddsKeys ((key.now, is_marked) ∷ []) self.old self.new) }
     {
-        self.all.insert(key)?;
+        add_text(&mut self.all, key)?;
         if is_marked {
-            self.marked.insert(key)?;
+            add_text(&mut self.marked, key)
+        } else {
+            Ok(())
         }
-        Ok(())
     }
 
     // Adds those of a table: marked are those of optional dependencies.
@@ -72,7 +73,8 @@ impl<'m> Keys<'m> {
 
     // Adds those of the tables of a target.
     fn add_target(&mut self, target: &'m Target) -> Result<(), AllocError>
-        ensures { OnOk result (AddsKeys (target_keys (target_meaning target.now)) self.old self.new) }
+        ensures { OnOk result
+            (AddsKeys (target_keys (target_meaning target.now)) self.old self.new) }
     {
         self.add_table(&target.dependencies)?;
         self.add_table(&target.build_dependencies)?;
@@ -158,11 +160,13 @@ impl Known<'_> {
         self.features.contains_key(name)
     }
 
-    /// Whether the name is the key of an optional dependency that no text names by `dep:`.
-    pub(crate) fn is_implied(&self, name: &str) -> bool
-        ensures { result ≡ ((held_names self.now).optional name.now
-            && not ((held_names self.now).reserved name.now)) }
+    /// Whether the name is that of a feature: one that is listed, or an optional dependency that no
+    /// text names by `dep:`.
+    pub(crate) fn has_feature(&self, name: &str) -> bool
+        ensures { result ≡ ((held_names self.now).listed name.now
+            || ((held_names self.now).optional name.now
+            && not ((held_names self.now).reserved name.now))) }
     {
-        self.optional.contains(name) && !self.reserved.contains(name)
+        self.lists(name) || (self.optional.contains(name) && !self.reserved.contains(name))
     }
 }

@@ -1,5 +1,6 @@
 //! What is found of a manifest.
 ghost use Rattle.std.specs.Prelude.{◌≡◌, ◌≤◌, ◌⊎◌, ◌↔◌, [], true, IfErr, IfOk, OnOk, map};
+ghost use Rattle.std.specs.List.Sorted.{IsStrictlySortedBy};
 ghost use Rattle.cargo_toml.specs.Action.{Text};
 ghost use Rattle.cargo_toml.specs.Error.{Memory};
 ghost use Rattle.cargo_toml.specs.Limits.{MAX_ITEMS};
@@ -8,7 +9,7 @@ ghost use Rattle.cargo_toml.specs.Parsed.{IsParsed};
 ghost use Rattle.cargo_toml.specs.Reach.{Among};
 ghost use Rattle.cargo_toml.specs.Views.{answer_of, set_has, table_in};
 ghost use Rattle.cargo_toml_lint.specs.declared.finding.Code.{Code};
-ghost use Rattle.cargo_toml_lint.specs.Findings.{AreSorted, HoldsOf, IsFound, about};
+ghost use Rattle.cargo_toml_lint.specs.Findings.{HoldsOf, IsFound};
 ghost use Rattle.cargo_toml_lint.specs.Steps.{CountsIn, Finds, written_in};
 ghost use Rattle.cargo_toml_lint.specs.Linked.{AreFound, AreLinks};
 ghost use Rattle.cargo_toml_lint.specs.Names.{held_names, listed_by};
@@ -98,7 +99,7 @@ fn add_counting<'m, S: BuildHasher>(
 fn in_order<'m>(mut found: Vec<Finding<'m>>) -> Vec<Finding<'m>>
     ensures same { (c : Code) (f t : Text) → IsFound result.items c f t
         ↔ IsFound found.entry.items c f t }
-    ensures in_order { AreSorted result.items }
+    ensures in_order { IsStrictlySortedBy ⟦<Finding<'m> as Ord>⟧.cmp result.items }
 {
     found.sort_unstable();
     found.dedup();
@@ -119,7 +120,8 @@ fn found_in<'m, M, S: BuildHasher>(
         × ((c : Code) (f t : Text) → IsFound v.items c f t
         ↔ (Among (written_in features.now known.now limit (held manifest.now)) (c, f, t)
         ⊎ ((t ≡ []) × CountsIn features.now l c f)))) }
-    ensures in_order { IfOk result (λ v. AreSorted v.items) }
+    ensures in_order { IfOk result
+        (λ v. IsStrictlySortedBy ⟦<Finding<'m> as Ord>⟧.cmp v.items) }
 {
     let names = keys_in_order(alloc, features)?;
     let links = links_of(alloc, known, features)?;
@@ -132,8 +134,8 @@ fn found_in<'m, M, S: BuildHasher>(
 /// What is found of the features of a manifest at a limit of items, which is at least 1.
 ///
 /// There is a finding of a code for a feature and a text exactly where what the code says holds of
-/// them, and one alone. They stand in byte order of level, code, feature and text. The one refusal
-/// is [`Error::Memory`].
+/// them, and one alone. They stand in their order: by code, then by feature and text. The one
+/// refusal is [`Error::Memory`].
 pub fn lint_limited<'m, M, S: BuildHasher + Clone + Drop>(
     alloc: Global,
     state: S,
@@ -143,7 +145,8 @@ pub fn lint_limited<'m, M, S: BuildHasher + Clone + Drop>(
     requires { 1 ≤ limit }
     ensures exact { IfOk result (λ v. (c : Code) (f t : Text) → IsFound v.items c f t
         ↔ HoldsOf limit (held manifest.now) c f t) }
-    ensures in_order { IfOk result (λ v. AreSorted v.items) }
+    ensures in_order { IfOk result
+        (λ v. IsStrictlySortedBy ⟦<Finding<'m> as Ord>⟧.cmp v.items) }
     ensures refused { IfErr result (λ e. e ≡ Memory) }
 {
     let resolved = resolve_whole(alloc, state, manifest, limit)?;
@@ -160,7 +163,8 @@ pub fn lint<'m, M, S: BuildHasher + Clone + Drop>(
 ) -> Result<Vec<Finding<'m>>, Error>
     ensures exact { IfOk result (λ v. (c : Code) (f t : Text) → IsFound v.items c f t
         ↔ HoldsOf MAX_ITEMS (held manifest.now) c f t) }
-    ensures in_order { IfOk result (λ v. AreSorted v.items) }
+    ensures in_order { IfOk result
+        (λ v. IsStrictlySortedBy ⟦<Finding<'m> as Ord>⟧.cmp v.items) }
     ensures refused { IfErr result (λ e. e ≡ Memory) }
 {
     lint_limited(alloc, state, manifest, MAX_ITEMS)

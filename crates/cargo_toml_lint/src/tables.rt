@@ -9,9 +9,9 @@ ghost use Rattle.cargo_toml_lint.specs.Findings.{entry_findings, request_finding
 ghost use Rattle.cargo_toml_lint.specs.Findings.{table_findings, tables_findings, target_findings};
 ghost use Rattle.cargo_toml_lint.specs.Steps.{Finds};
 
+use crate::faults::request_fault;
 use crate::finding::{Code, Finding};
-use crate::gathering::add;
-use crate::names::is_feature_name;
+use crate::gathering::{add, add_if};
 use cargo_toml::{Dependency, DepsSet, Manifest, Target, TargetDepsSet};
 use std::alloc::AllocError;
 
@@ -26,8 +26,7 @@ fn add_requests<'m>(
 {
     for text in asked {
         let text = text.as_str();
-        let bad_request = (!is_feature_name(text)).then_some(Code::BadRequest);
-        add(found, bad_request, key, text)?;
+        add(found, request_fault(text), key, text)?;
     }
     Ok(())
 }
@@ -43,10 +42,9 @@ fn add_entry<'m>(
     ensures { OnOk result (Finds (entry_findings is_dev is_over key.now
         (dependency_meaning dependency.now)) found.old.items found.new.items) }
 {
-    let optional_dev = (is_dev && dependency.optional()).then_some(Code::OptionalDev);
-    add(found, optional_dev, key, "")?;
-    let over_limit = is_over.then_some(Code::OverLimit);
-    add(found, over_limit, key, "")?;
+    let is_refused = is_dev & dependency.optional();
+    add_if(found, is_refused, Code::OptionalDev, key)?;
+    add_if(found, is_over, Code::OverLimit, key)?;
     add_requests(found, key, dependency.req_features())
 }
 
@@ -63,7 +61,8 @@ fn add_table<'m>(
     let mut left = limit;
     for (key, dependency) in table {
         add_entry(found, key.as_str(), dependency, is_dev, left == 0)?;
-        left = left.saturating_sub(1);
+        let rest = left.saturating_sub(1);
+        left = rest;
     }
     Ok(())
 }

@@ -11,17 +11,23 @@ use Rattle.cargo_toml_lint.proofs.Adding.{begun, finding_done, finding_more, fla
 use Rattle.cargo_toml_lint.proofs.gathering.add_details.Goals as goal
 
 pub loop-name-init : goal.loop-name-init
-loop-name-init c = begun Finds _ _ _ (ap (flat_map (λ (k : String Global). told (string_bytes k) [] (Some FeatureTable)))
+loop-name-init c = begun Finds _ _ _ (ap (flat_map (λ (k : String Global). told (string_bytes k) []
+    (Some FeatureTable)))
     (c.into_iter-name-iterator.ensures.into_iter_gives ∙ c.keys-name-items.ensures.rest))
 
 pub loop-name-preserved : goal.loop-name-preserved
 loop-name-preserved c = finding_more
-    (ap (flat_map (λ (k : String Global). told (string_bytes k) [] (Some FeatureTable))) (rest_more deref _ _ _ c.in-Some.name c.in-Some.is c.next.ensures.steps))
+    (ap (flat_map (λ (k : String Global). told (string_bytes k) [] (Some FeatureTable))) (rest_more
+        deref _ _ _ c.in-Some.name c.in-Some.is c.next.ensures.steps))
     (subst (λ xs. Finds xs c.loop-name.found.items c.add.new.found.items)
-    (ap (λ (k : Text). told k [] (Some FeatureTable)) c.as_str.ensures.value) c.in_ok-add.ensures) c.loop-name.invariant
+    (ap (λ (k : Text). told k [] (Some FeatureTable)) c.as_str.ensures.value) c.in_ok-add.ensures)
+        c.loop-name.invariant
 
 pub returns : goal.returns
 returns c =
     subst (λ xs. Finds xs c.args.found.now.items c.loop-name.found.items)
-    (flat_keys (λ (k : Text). told k [] (Some FeatureTable)) string_bytes detail_of c.args.details.now.entries)
-    (finding_done (ap (flat_map (λ (k : String Global). told (string_bytes k) [] (Some FeatureTable))) (rest_all deref _ _ _ c.in-None.is c.next.ensures.steps)) c.loop-name.invariant)
+    (flat_keys (λ (k : Text). told k [] (Some FeatureTable)) string_bytes detail_of
+        c.args.details.now.entries)
+    (finding_done (ap (flat_map (λ (k : String Global). told (string_bytes k) [] (Some
+        FeatureTable))) (rest_all deref _ _ _ c.in-None.is c.next.ensures.steps))
+        c.loop-name.invariant)

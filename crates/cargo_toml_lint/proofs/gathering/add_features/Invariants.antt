@@ -12,4 +12,5 @@ abbrev pub invariant-loop-name : goal.invariant-loop-name
 invariant-loop-name g l =
     let of : Text × List Text → List About = λ e. feature_findings (held_names l.known)
     (nat_lt l.limit (length e.1) || not (explicit_at l.features e.0)) e.0 e.1 in
-    Adding Finds (flat_map of (told l.name-iterator)) (flat_map of (listed_by l.known)) l.initial.found.items l.found.items
+    Adding Finds (flat_map of (told l.name-iterator)) (flat_map of (listed_by l.known))
+        l.initial.found.items l.found.items

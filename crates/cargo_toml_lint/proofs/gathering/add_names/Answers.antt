@@ -6,11 +6,14 @@ use Rattle.cargo_toml_lint.proofs.Adding.{begun, finding_done, finding_more}
 use Rattle.cargo_toml_lint.proofs.gathering.add_names.Goals as goal
 
 pub loop-name-init : goal.loop-name-init
-loop-name-init c = begun Finds _ _ _ (ap (named c.args.code) c.into_iter-name-iterator.ensures.into_iter_gives.0)
+loop-name-init c = begun Finds _ _ _ (ap (named c.args.code)
+    c.into_iter-name-iterator.ensures.into_iter_gives.0)
 
 pub loop-name-preserved : goal.loop-name-preserved
-loop-name-preserved c = finding_more (ap (named c.args.code) (rest_more deref _ _ _ c.in-Some.name c.in-Some.is c.next.ensures.steps))
+loop-name-preserved c = finding_more (ap (named c.args.code) (rest_more deref _ _ _ c.in-Some.name
+    c.in-Some.is c.next.ensures.steps))
     c.in_ok-add.ensures c.loop-name.invariant
 
 pub returns : goal.returns
-returns c = finding_done (ap (named c.args.code) (rest_all deref _ _ _ c.in-None.is c.next.ensures.steps)) c.loop-name.invariant
+returns c = finding_done (ap (named c.args.code) (rest_all deref _ _ _ c.in-None.is
+    c.next.ensures.steps)) c.loop-name.invariant

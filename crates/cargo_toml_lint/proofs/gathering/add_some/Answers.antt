@@ -13,11 +13,14 @@ pub loop-product-preserved : goal.loop-product-preserved
 loop-product-preserved c =
     let n = held_names c.args.known.now in
     finding_more
-    (slice_left (product_findings n) product_meaning c.args.products.now c.loop-product.product-index c.product-item.result (omega arith) c.product-item.is)
+    (slice_left (product_findings n) product_meaning c.args.products.now
+        c.loop-product.product-index c.product-item.result (omega arith) c.product-item.is)
     (subst (λ xs. Finds xs c.loop-product.found.items c.add_required.new.found.items)
-    (ap₂ (λ f ts. required_findings n f (map string_bytes ts)) c.name_of.ensures c.as_slice-texts.ensures.value)
+    (ap₂ (λ f ts. required_findings n f (map string_bytes ts)) c.name_of.ensures
+        c.as_slice-texts.ensures.value)
     c.in_ok-add_required.ensures) c.loop-product.invariant
 
 pub returns : goal.returns
-returns c = finding_done (slice_none (product_findings (held_names c.args.known.now)) product_meaning c.args.products.now c.loop-product.product-index (omega arith))
+returns c = finding_done (slice_none (product_findings (held_names c.args.known.now))
+    product_meaning c.args.products.now c.loop-product.product-index (omega arith))
     c.loop-product.invariant

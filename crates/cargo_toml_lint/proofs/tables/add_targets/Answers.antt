@@ -10,16 +10,20 @@ use Rattle.cargo_toml_lint.proofs.Adding.{begun, finding_done, finding_more, fla
 use Rattle.cargo_toml_lint.proofs.tables.add_targets.Goals as goal
 
 pub loop-target-init : goal.loop-target-init
-loop-target-init c = begun Finds _ _ _ (ap (flat_map (λ (t : Target). target_findings c.args.limit (target_meaning t)))
+loop-target-init c = begun Finds _ _ _ (ap (flat_map (λ (t : Target). target_findings c.args.limit
+    (target_meaning t)))
     (c.into_iter-target-iterator.ensures.into_iter_gives ∙ c.values-target-items.ensures.rest))
 
 pub loop-target-preserved : goal.loop-target-preserved
 loop-target-preserved c = finding_more
-    (ap (flat_map (λ (t : Target). target_findings c.args.limit (target_meaning t))) (rest_more deref _ _ _ c.in-Some.target c.in-Some.is c.next.ensures.steps))
+    (ap (flat_map (λ (t : Target). target_findings c.args.limit (target_meaning t))) (rest_more
+        deref _ _ _ c.in-Some.target c.in-Some.is c.next.ensures.steps))
     c.in_ok-add_target.ensures c.loop-target.invariant
 
 pub returns : goal.returns
 returns c =
     subst (λ xs. Finds xs c.args.found.now.items c.loop-target.found.items)
-    (flat_values (target_findings c.args.limit) string_bytes target_meaning c.args.targets.now.entries)
-    (finding_done (ap (flat_map (λ (t : Target). target_findings c.args.limit (target_meaning t))) (rest_all deref _ _ _ c.in-None.is c.next.ensures.steps)) c.loop-target.invariant)
+    (flat_values (target_findings c.args.limit) string_bytes target_meaning
+        c.args.targets.now.entries)
+    (finding_done (ap (flat_map (λ (t : Target). target_findings c.args.limit (target_meaning t)))
+        (rest_all deref _ _ _ c.in-None.is c.next.ensures.steps)) c.loop-target.invariant)

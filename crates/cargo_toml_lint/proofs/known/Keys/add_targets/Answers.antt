@@ -10,16 +10,19 @@ use Rattle.cargo_toml_lint.proofs.Adding.{adding_done, adding_more, begun, flat_
 use Rattle.cargo_toml_lint.proofs.known.Keys.add_targets.Goals as goal
 
 pub loop-target-init : goal.loop-target-init
-loop-target-init c = begun AddsKeys _ _ c.args.self.now (ap (flat_map (λ (t : Target). target_keys (target_meaning t)))
+loop-target-init c = begun AddsKeys _ _ c.args.self.now (ap (flat_map (λ (t : Target). target_keys
+    (target_meaning t)))
     (c.into_iter-target-iterator.ensures.into_iter_gives ∙ c.values-target-items.ensures.rest))
 
 pub loop-target-preserved : goal.loop-target-preserved
 loop-target-preserved c = adding_more
-    (ap (flat_map (λ (t : Target). target_keys (target_meaning t))) (rest_more deref _ _ _ c.in-Some.target c.in-Some.is c.next.ensures.steps))
+    (ap (flat_map (λ (t : Target). target_keys (target_meaning t))) (rest_more deref _ _ _
+        c.in-Some.target c.in-Some.is c.next.ensures.steps))
     c.in_ok-add_target.ensures c.loop-target.invariant
 
 pub returns : goal.returns
 returns c =
     subst (λ ks. AddsKeys ks c.args.self.now c.loop-target.self)
     (flat_values target_keys string_bytes target_meaning c.args.targets.now.entries)
-    (adding_done (ap (flat_map (λ (t : Target). target_keys (target_meaning t))) (rest_all deref _ _ _ c.in-None.is c.next.ensures.steps)) c.loop-target.invariant)
+    (adding_done (ap (flat_map (λ (t : Target). target_keys (target_meaning t))) (rest_all deref _ _
+        _ c.in-None.is c.next.ensures.steps)) c.loop-target.invariant)

@@ -47,7 +47,7 @@ SAYINGS = [
     (r"feature `(?P<f>[^`]*)` includes `(?P<t>[^`]*)` which is neither", ["unknown", "bad-text"]),
     (r"`(?P<f>[^`]*)` includes `(?P<t>[^`]*)`, but `.*` is an optional dependency", ["reserved"]),
     (r"`(?P<f>[^`]*)` includes `(?P<t>[^`]*)`, but `.*` is not an opt", ["not-optional"]),
-    (r"`(?P<f>[^`]*)` includes `(?P<t>[^`]*)` with a `\?`, but", ["not-optional"]),
+    (r"`(?P<f>[^`]*)` includes `(?P<t>[^`]*)` with a `\?`, but", ["not-optional", "bad-text"]),
     (r"`(?P<f>[^`]*)` includes `(?P<t>[^`]*)`, but `.*` is not", ["unknown", "bad-text"]),
     (r"`(?P<f>[^`]*)` includes `(?P<t>[^`]*)` with both `dep:` and `/`", ["bad-text"]),
     (r"slashes in feature `(?P<t>[^`]*)` \(included by feature `(?P<f>[^`]*)`\)", ["bad-text"]),

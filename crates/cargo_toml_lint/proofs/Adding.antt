@@ -8,7 +8,7 @@ use Rattle.std.specs.List.{flat_map, list_any}
 use Rattle.cargo_toml.specs.Action.{Text}
 use Rattle.cargo_toml.specs.Views.{set_has}
 use Rattle.cargo_toml_lint.specs.Findings.{About, about}
-use Rattle.cargo_toml_lint.specs.Known.{Marked, has_key, has_marked}
+use Rattle.cargo_toml_lint.specs.Known.{Marked}
 use Rattle.cargo_toml_lint.specs.Names.{AddsKeys}
 use Rattle.cargo_toml_lint.specs.Steps.{Finds}
 use Rattle.cargo_toml_lint.specs.declared.finding.Finding.{Finding}
@@ -29,14 +29,18 @@ finds_none xs ys same = record { are = ap (map about) same ∙ sym (append-nil (
 
 pub finds_more : {xs ys : List About} {a b c : List Finding} → Finds xs a b → Finds ys b c
     → Finds (xs ++ ys) a c
-finds_more {xs} {ys} {a} first then = record { are = then.are ∙ ap (λ zs. zs ++ ys) first.are
-    ∙ append_assoc (map about a) xs ys }
+finds_more {xs} {ys} {a} first then = record {
+  are = then.are ∙ ap (λ zs. zs ++ ys) first.are
+      ∙ append_assoc (map about a) xs ys;
+}
 
 pub finding_more : {xs left rest all : List About} {start s n : List Finding} → left ≡ xs ++ rest
     → Finds xs s n
     → Adding Finds left all start s → Adding Finds rest all start n
-finding_more {s = s} is put adding = record { ends = λ m added. adding.ends m (subst (λ ys. Finds ys
-    s m) (sym is) (finds_more put added)) }
+finding_more {s = s} is put adding = record {
+  ends = λ m added. adding.ends m (subst (λ ys. Finds ys
+      s m) (sym is) (finds_more put added));
+}
 
 pub finding_done : {left all : List About} {start s : List Finding} → left ≡ []
     → Adding Finds left all start s → Finds all start s
@@ -61,14 +65,19 @@ keys_more {xs} {ys} {a} {b} {c} first then = record {
 }
 
 pub keys_none : (s : Keys) → AddsKeys [] s s
-keys_none s = record { all = λ k. sym (or-false (set_has s.all k)); marked = λ k. sym (or-false
-    (set_has s.marked k)) }
+keys_none s = record {
+  all = λ k. sym (or-false (set_has s.all k));
+  marked = λ k. sym (or-false
+      (set_has s.marked k));
+}
 
 pub adding_more : {xs left rest all : Marked} {start s n : Keys} → left ≡ xs ++ rest
     → AddsKeys xs s n
     → Adding AddsKeys left all start s → Adding AddsKeys rest all start n
-adding_more {s = s} is put adding = record { ends = λ m added. adding.ends m (subst (λ ys. AddsKeys
-    ys s m) (sym is) (keys_more put added)) }
+adding_more {s = s} is put adding = record {
+  ends = λ m added. adding.ends m (subst (λ ys. AddsKeys
+      ys s m) (sym is) (keys_more put added));
+}
 
 pub adding_done : {left all : Marked} {start s : Keys} → left ≡ []
     → Adding AddsKeys left all start s → AddsKeys all start s

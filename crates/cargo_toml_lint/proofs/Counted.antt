@@ -29,8 +29,11 @@ pub among_parts : {X : Type 0} (xs ys : List X) (x : X) → Among (xs ++ ys) x
     → Among xs x ⊎ Among ys x
 among_parts [] ys x i = inr i
 among_parts (y ∷ xs) ys x (inl e) = inl (inl e)
-among_parts (y ∷ xs) ys x (inr i) = elim (among_parts xs ys x i) [ inl j ↦ inl (inr j) | inr j ↦ inr
-    j ]
+among_parts (y ∷ xs) ys x (inr i) = elim (among_parts xs ys x i) [
+  | inl j ↦ inl (inr j)
+  | inr j ↦ inr
+      j
+]
 
 -- what is found after something was added
 pub found_after : {a b : List Finding} {xs : List About} → Finds xs a b → (c : Code) (f t : Text)
@@ -38,21 +41,30 @@ pub found_after : {a b : List Finding} {xs : List About} → Finds xs a b → (c
 found_after {a} {b} {xs} put c f t = (
   λ i. among_parts (map about a) xs (c, f, t) (subst (λ ys. Among ys (c, f, t)) put.are i),
   λ h. subst (λ ys. Among ys (c, f, t)) (sym put.are)
-      (elim h [ inl i ↦ among_left (map about a) xs (c, f, t) i | inr i ↦ among_right (map about a)
-          xs (c, f, t) i ]),
+      (elim h [
+        | inl i ↦ among_left (map about a) xs (c, f, t) i
+        | inr i ↦ among_right (map about a)
+            xs (c, f, t) i
+      ]),
 )
 
 -- what is found in the end, where nothing was found at first
 pub found_first : {P : Type 0} (a b d e : List Finding) (xs : List About) (c : Code) (f t : Text)
     → a ≡ [] → Finds xs a b
     → IsFound e c f t ↔ IsFound d c f t → IsFound d c f t ↔ (IsFound b c f t ⊎ P)
-        → IsFound e c f t ↔ (Among xs (c, f, t) ⊎ P)
+    → IsFound e c f t ↔ (Among xs (c, f, t) ⊎ P)
 found_first a b d e xs c f t none put same then =
     let is = put.are ∙ ap (λ ys. map about ys ++ xs) none in (
-      λ i. elim (then.0 (same.0 i)) [ inl j ↦ inl (subst (λ ys. Among ys (c, f, t)) is j) | inr p ↦
-          inr p ],
-      λ h. same.1 (then.1 (elim h [ inl j ↦ inl (subst (λ ys. Among ys (c, f, t)) (sym is) j) | inr
-          p ↦ inr p ])),
+      λ i. elim (then.0 (same.0 i)) [
+        | inl j ↦ inl (subst (λ ys. Among ys (c, f, t)) is j)
+        | inr p ↦
+            inr p
+      ],
+      λ h. same.1 (then.1 (elim h [
+        | inl j ↦ inl (subst (λ ys. Among ys (c, f, t)) (sym is) j)
+        | inr
+            p ↦ inr p
+      ])),
     )
 
 -- the code is d, and P holds of the feature
@@ -63,17 +75,24 @@ in_code : (d c : Code) (f t : Text) (ks : List (Bor Text)) → Among (named d ks
     → At d (λ f. IsTrue (has_in ks f)) c f t
 in_code d c f t [] i = absurd i
 in_code d c f t (k ∷ ks) (inl e) =
-    let same : f ≡ k.now = ap (λ (p : About). p.1) e in
-    (ap (λ (p : About). p.0) e, ap (λ (p : About). p.2) e, or_left _ _ (is_eq-slice_cmp f k.now
-        ∙ (bytes_eq-Decides f k.now).1 same))
+    let same : f ≡ k.now = ap (λ (p : About). p.1) e in (
+      ap (λ (p : About). p.0) e,
+      ap (λ (p : About). p.2) e,
+      or_left _ _ (is_eq-slice_cmp f k.now
+          ∙ (bytes_eq-Decides f k.now).1 same),
+    )
 in_code d c f t (k ∷ ks) (inr i) = let r = in_code d c f t ks i in (r.0, r.1, or_right _ _ r.2)
 
 of_code : (d c : Code) (f t : Text) (ks : List (Bor Text))
     → At d (λ f. IsTrue (has_in ks f)) c f t → Among (named d ks) (c, f, t)
 of_code d c f t [] h = absurd (false≢true h.2)
 of_code d c f t (k ∷ ks) h = elim (or_cases _ _ h.2) [
-  | inl e ↦ inl (λ i. (h.0 i, (bytes_eq-Decides f k.now).0 (sym (is_eq-slice_cmp f k.now)
-      ∙ e) i, h.1 i))
+  | inl e ↦ inl (λ i. (
+    h.0 i,
+    (bytes_eq-Decides f k.now).0 (sym (is_eq-slice_cmp f k.now)
+        ∙ e) i,
+    h.1 i,
+  ))
   | inr e ↦ inr (of_code d c f t ks (h.0, h.1, e))
 ]
 
@@ -82,10 +101,18 @@ module _ (d : Code) (P : Text → Type 0) (ks : List (Bor Text)) (so : (f : Text
   pub named_found : {a b : List Finding} → Finds (named d ks) a b → (c : Code) (f t : Text)
       → IsFound b c f t ↔ (IsFound a c f t ⊎ At d P c f t)
   named_found put c f t = let after = found_after put c f t in (
-    λ i. elim (after.0 i) [ inl j ↦ inl j | inr j ↦ inr (let r = in_code d c f t ks j in (r.0, r.1,
-        (so f).0 r.2)) ],
-    λ h. after.1 (elim h [ inl j ↦ inl j | inr r ↦ inr (of_code d c f t ks (r.0, r.1, (so f).1 r.2))
-        ]),
+    λ i. elim (after.0 i) [
+      | inl j ↦ inl j
+      | inr j ↦ inr (let r = in_code d c f t ks j in (
+        r.0,
+        r.1,
+        (so f).0 r.2,
+      ))
+    ],
+    λ h. after.1 (elim h [
+      | inl j ↦ inl j
+      | inr r ↦ inr (of_code d c f t ks (r.0, r.1, (so f).1 r.2))
+    ]),
   )
 
 -- the four codes of features that count, one after another
@@ -111,7 +138,7 @@ module _ {S : Type 0} (m : HashMap (Bor Text) Feature S) (l : Links) where
       → ((c : Code) (f t : Text) → IsFound y c f t ↔ (IsFound x c f t ⊎ Some Cycle c f t))
       → ((c : Code) (f t : Text) → IsFound z c f t ↔ (IsFound y c f t ⊎ Some Unreachable c f t))
       → (c : Code) (f t : Text) → IsFound z c f t ↔ (IsFound v c f t ⊎ ((t ≡ []) × CountsIn m l c
-          f))
+      f))
   all_found v w x y z first second third fourth c f t = (
     λ i. elim ((fourth c f t).0 i) [
       | inr h ↦ inr (some_of Unreachable c f t h)
@@ -119,8 +146,10 @@ module _ {S : Type 0} (m : HashMap (Bor Text) Feature S) (l : Links) where
         | inr h ↦ inr (some_of Cycle c f t h)
         | inl i ↦ elim ((second c f t).0 i) [
           | inr h ↦ inr (some_of PrivateDefault c f t h)
-          | inl i ↦ elim ((first c f t).0 i) [ inr h ↦ inr (some_of Implied c f t h) | inl i ↦ inl i
-              ]
+          | inl i ↦ elim ((first c f t).0 i) [
+            | inr h ↦ inr (some_of Implied c f t h)
+            | inl i ↦ inl i
+          ]
         ]
       ]
     ],

@@ -77,7 +77,7 @@ module _ {eq : Finding → Finding → Bool} (ties : (x y : Finding) → eq x y 
     λ there.
         let h = (found_where old (c, f, t)).0 there in
         let laws_of : IsEquivalence eq = subst IsEquivalence (sym alike) (eq_by_cmp_equiv
-            laws.total-law) in
+        laws.total-law) in
         let k = Any-dedup laws_of sorted h.0 (Contains-permutation old sorted h.0 moved h.1) in
         (found_where new (c, f, t)).1 (
           k.1,

@@ -1,9 +1,6 @@
 -- What is found in the maps of an answer, of the table of a manifest.
-use Rattle.std.proofs.Common.{◌≡◌, ◌↔◌, ◌||◌, ◌&&◌, ◌==◌, not, cond, Bool, true, false, ℕ, List, [], ◌∷◌, length, Option, Some, None, is_some, Bor, IsTrue, bytes_eq, codes, nat_lt, arith, refl, sym, ap, subst, inl, inr, ◌∙◌}
-use Rattle.std.proofs.lemmas.Bool.{false≢true, and_parts, and_from, not-true, not_from_false, false_from_ne_true, or_cases, or_left, or_right, eqb-true}
-use Rattle.std.proofs.lemmas.Bool.Decides.{Decides-eqb}
-use Rattle.std.proofs.lemmas.Map.Text.{is_eq-slice_cmp}
-use Rattle.std.proofs.lemmas.Slice.Eq.{bytes_eq-Decides}
+use Rattle.std.proofs.Common.{◌≡◌, ◌↔◌, ◌||◌, not, Bool, true, false, ℕ, List, length, Option, Some, None, is_some, Bor, IsTrue, nat_lt, refl, sym, ap, subst, inl, inr, ◌∙◌}
+use Rattle.std.proofs.lemmas.Bool.{false≢true, and_parts, not-true, not_from_false, false_from_ne_true, or_cases, or_left, or_right}
 use Rattle.std.specs.HashMap.{HashMap}
 use Rattle.std.specs.List.{flat_map}
 use Rattle.std.specs.Option.{option_map_or}

@@ -1,4 +1,4 @@
-use Rattle.std.proofs.Common.{Some, false, if◌then◌else◌, ap, sym, ◌∙◌}
+use Rattle.std.proofs.Common.{Some, if◌then◌else◌, ap, sym, ◌∙◌}
 use Rattle.cargo_toml.specs.Action.{item_of}
 use Rattle.cargo_toml_lint.specs.Findings.{item_fault}
 use Rattle.cargo_toml_lint.specs.Names.{held_names}
@@ -12,9 +12,9 @@ returns-then-acts c =
     let t = c.args.text.now in
     c.action_fault.ensures
     ∙ sym (ap (λ b. if b then Some BadText else of (item_of t)) (sym c.is_bad_text.ensures
-        ∙ c.if-is_bad_text.false)
+    ∙ c.if-is_bad_text.false)
     ∙ acting t c.read_action-action.result c.read_action-action.ensures.item of c.acts.result
-        c.acts.ensures c.if-acts.true)
+    c.acts.ensures c.if-acts.true)
 
 pub returns-else-acts : goal.returns-else-acts
 returns-else-acts c =
@@ -22,6 +22,6 @@ returns-else-acts c =
     let t = c.args.text.now in
     c.name_fault.ensures
     ∙ sym (ap (λ b. if b then Some BadText else of (item_of t)) (sym c.is_bad_text.ensures
-        ∙ c.if-is_bad_text.false)
+    ∙ c.if-is_bad_text.false)
     ∙ naming t c.read_action-action.result c.read_action-action.ensures.item of c.acts.result
-        c.acts.ensures c.if-acts.false)
+    c.acts.ensures c.if-acts.false)

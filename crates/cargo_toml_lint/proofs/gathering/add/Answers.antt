@@ -1,4 +1,4 @@
-use Rattle.std.proofs.Common.{Some, [], ◌∷◌, map, ap, refl, subst, sym, ◌∙◌}
+use Rattle.std.proofs.Common.{[], ◌∷◌, map, ap, refl, subst, sym, ◌∙◌}
 use Rattle.std.proofs.lemmas.List.{map_push}
 use Rattle.cargo_toml_lint.specs.Findings.{about, told}
 use Rattle.cargo_toml_lint.specs.Steps.{Finds}
@@ -12,7 +12,7 @@ returns-in_ok-push-in-Some c =
     let old = c.args.found.now.items in
     let new = c.push.new.self.items in
     let put : Finds ((c.in-Some.code, f, t) ∷ []) old new =
-    record { are = ap (map about) c.in_ok-push.ensures.items ∙ map_push about old _ } in
+    record { are = ap (map about) c.in_ok-push-in-Some.ensures.items ∙ map_push about old _ } in
     subst (λ o. Finds (told f t o) old new) (sym c.in-Some.is) put
 
 pub returns-in-None : goal.returns-in-None

@@ -18,16 +18,16 @@ loop-name-init c = begun Finds _ _ _ (ap (flat_map (λ (k : String Global). told
 pub loop-name-preserved : goal.loop-name-preserved
 loop-name-preserved c = finding_more
     (ap (flat_map (λ (k : String Global). told (string_bytes k) [] (Some FeatureTable))) (rest_more
-        deref _ _ _ c.in-Some.name c.in-Some.is c.next.ensures.steps))
+    deref _ _ _ c.in-Some.name c.in-Some.is c.next.ensures.steps))
     (subst (λ xs. Finds xs c.loop-name.found.items c.add.new.found.items)
     (ap (λ (k : Text). told k [] (Some FeatureTable)) c.as_str.ensures.value) c.in_ok-add.ensures)
-        c.loop-name.invariant
+    c.loop-name.invariant
 
 pub returns : goal.returns
 returns c =
     subst (λ xs. Finds xs c.args.found.now.items c.loop-name.found.items)
     (flat_keys (λ (k : Text). told k [] (Some FeatureTable)) string_bytes detail_of
-        c.args.details.now.entries)
+    c.args.details.now.entries)
     (finding_done (ap (flat_map (λ (k : String Global). told (string_bytes k) [] (Some
-        FeatureTable))) (rest_all deref _ _ _ c.in-None.is c.next.ensures.steps))
-        c.loop-name.invariant)
+    FeatureTable))) (rest_all deref _ _ _ c.in-None.is c.next.ensures.steps))
+    c.loop-name.invariant)

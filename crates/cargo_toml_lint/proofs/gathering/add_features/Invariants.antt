@@ -1,4 +1,4 @@
-use Rattle.std.proofs.Common.{◌||◌, Bool, List, length, map, nat_lt, not}
+use Rattle.std.proofs.Common.{◌||◌, List, length, nat_lt, not}
 use Rattle.std.specs.List.{flat_map}
 use Rattle.cargo_toml.specs.Action.{Text}
 use Rattle.cargo_toml_lint.specs.Findings.{About, feature_findings}
@@ -13,4 +13,4 @@ invariant-loop-name g l =
     let of : Text × List Text → List About = λ e. feature_findings (held_names l.known)
     (nat_lt l.limit (length e.1) || not (explicit_at l.features e.0)) e.0 e.1 in
     Adding Finds (flat_map of (told l.name-iterator)) (flat_map of (listed_by l.known))
-        l.initial.found.items l.found.items
+    l.initial.found.items l.found.items

@@ -17,15 +17,15 @@ returns g c =
     let third = c.add_some-3.new.found.items in
     let last = c.add_some-4.new.found.items in
     let bins = subst (λ ps. Finds (flat_map (product_findings n) (map product_meaning ps)) start
-        first)
+    first)
     c.as_slice.ensures.value c.in_ok-add_some.ensures in
     let examples = subst (λ ps. Finds (flat_map (product_findings n) (map product_meaning ps)) first
-        second)
+    second)
     c.as_slice-2.ensures.value c.in_ok-add_some-2.ensures in
     let tests = subst (λ ps. Finds (flat_map (product_findings n) (map product_meaning ps)) second
-        third)
+    third)
     c.as_slice-3.ensures.value c.in_ok-add_some-3.ensures in
     on_ok_weaker c.add_some-4.result (λ benches. finds_more bins (finds_more examples (finds_more
-        tests
+    tests
     (subst (λ ps. Finds (flat_map (product_findings n) (map product_meaning ps)) third last)
     c.as_slice-4.ensures.value benches)))) c.add_some-4.ensures

@@ -1,4 +1,4 @@
-use Rattle.std.proofs.Common.{arith, map, string_bytes, ap₂, refl, subst, ◌∙◌}
+use Rattle.std.proofs.Common.{arith, map, string_bytes, ap₂, refl, subst}
 use Rattle.cargo_toml.specs.Products.{product_meaning}
 use Rattle.cargo_toml_lint.specs.Findings.{product_findings, required_findings}
 use Rattle.cargo_toml_lint.specs.Names.{held_names}
@@ -14,10 +14,10 @@ loop-product-preserved c =
     let n = held_names c.args.known.now in
     finding_more
     (slice_left (product_findings n) product_meaning c.args.products.now
-        c.loop-product.product-index c.product-item.result (omega arith) c.product-item.is)
+    c.loop-product.product-index c.product-item.result (omega arith) c.product-item.is)
     (subst (λ xs. Finds xs c.loop-product.found.items c.add_required.new.found.items)
     (ap₂ (λ f ts. required_findings n f (map string_bytes ts)) c.name_of.ensures
-        c.as_slice-texts.ensures.value)
+    c.as_slice-texts.ensures.value)
     c.in_ok-add_required.ensures) c.loop-product.invariant
 
 pub returns : goal.returns

@@ -10,6 +10,6 @@ use Rattle.cargo_toml_lint.proofs.gathering.add_some.Given as goal
 abbrev pub invariant-loop-product : goal.invariant-loop-product
 invariant-loop-product l = Adding Finds
     (flat_map (product_findings (held_names l.known)) (map product_meaning (drop l.product-index
-        l.products)))
+    l.products)))
     (flat_map (product_findings (held_names l.known)) (map product_meaning l.products))
     l.initial.found.items l.found.items

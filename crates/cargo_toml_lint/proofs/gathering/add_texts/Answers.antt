@@ -16,15 +16,15 @@ loop-text-preserved c =
     let of = λ (t : Text). told f t (text_fault n f t) in
     finding_more
     (slice_left of string_bytes c.args.texts.now c.loop-text.text-index c.text-item.result (omega
-        arith) c.text-item.is)
+    arith) c.text-item.is)
     (subst (λ xs. Finds xs c.loop-text.found.items c.add.new.found.items)
     (ap (λ o. told f c.as_str-text.result.now o) c.text_fault.ensures
-        ∙ ap of c.as_str-text.ensures.value)
+    ∙ ap of c.as_str-text.ensures.value)
     c.in_ok-add.ensures) c.loop-text.invariant
 
 pub returns : goal.returns
 returns c = let n = held_names c.args.known.now in
     let f = c.args.feature.now in
     finding_done (slice_none (λ (t : Text). told f t (text_fault n f t)) string_bytes
-        c.args.texts.now c.loop-text.text-index (omega arith))
+    c.args.texts.now c.loop-text.text-index (omega arith))
     c.loop-text.invariant

@@ -16,15 +16,15 @@ loop-texts-init c = begun AddsKeys _ _ _ (ap (flat_map (λ (v : Vec (String Glob
 pub loop-texts-preserved : goal.loop-texts-preserved
 loop-texts-preserved c = adding_more
     (ap (flat_map (λ (v : Vec (String Global) Global). acted_by (map string_bytes v.items)))
-        (rest_more deref _ _ _ c.in-Some.texts c.in-Some.is c.next.ensures.steps))
+    (rest_more deref _ _ _ c.in-Some.texts c.in-Some.is c.next.ensures.steps))
     (subst (λ ts. AddsKeys (acted_by (map string_bytes ts)) c.loop-texts.keys c.add_list.new.self)
-        c.as_slice.ensures.value c.in_ok-add_list.ensures) c.loop-texts.invariant
+    c.as_slice.ensures.value c.in_ok-add_list.ensures) c.loop-texts.invariant
 
 pub returns : goal.returns
 returns c = c.no_keys-keys.ensures _ _
     (subst (λ ks. AddsKeys ks c.no_keys-keys.result c.loop-texts.keys)
     (flat_values (λ (ts : List Text). acted_by ts) string_bytes (λ (v : Vec (String Global) Global).
-        map string_bytes v.items) c.args.features.now.entries)
+    map string_bytes v.items) c.args.features.now.entries)
     (adding_done (ap (flat_map (λ (v : Vec (String Global) Global). acted_by (map string_bytes
-        v.items))) (rest_all deref _ _ _ c.in-None.is c.next.ensures.steps))
-        c.loop-texts.invariant))
+    v.items))) (rest_all deref _ _ _ c.in-None.is c.next.ensures.steps))
+    c.loop-texts.invariant))

@@ -18,10 +18,10 @@ returns g c =
     (c.in_ok-implied.ensures (implied_at m) (λ name r told. search (rules, tests)) f)
     (λ h. c.requires.names f ∙ implied_has m f h)) c.in_ok-add_names.ensures)
     (named_found PrivateDefault (CountsIn m l PrivateDefault)
-        c.in_ok-private_default.private_default.keys c.in_ok-private_default.ensures
-        c.in_ok-add_names-2.ensures)
+    c.in_ok-private_default.private_default.keys c.in_ok-private_default.ensures
+    c.in_ok-add_names-2.ensures)
     (named_found Cycle (CountsIn m l Cycle) c.in_ok-cyclic.cyclic.keys c.in_ok-cyclic.ensures
-        c.in_ok-add_names-3.ensures)
+    c.in_ok-add_names-3.ensures)
     (named_found Unreachable (CountsIn m l Unreachable) c.in_ok-unreachable.unreachable.keys
-        c.in_ok-unreachable.ensures last))
+    c.in_ok-unreachable.ensures last))
     c.add_names-4.ensures

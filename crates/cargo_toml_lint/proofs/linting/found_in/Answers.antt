@@ -1,6 +1,3 @@
-use Rattle.std.proofs.Common.{◌++◌, map, ap, ◌∙◌}
-use Rattle.cargo_toml.specs.Manifests.{manifest_meaning}
-use Rattle.cargo_toml_lint.specs.Findings.{about}
 use Rattle.cargo_toml_lint.proofs.Counted.{found_first}
 use Rattle.cargo_toml_lint.proofs.linting.found_in.Goals as goal
 

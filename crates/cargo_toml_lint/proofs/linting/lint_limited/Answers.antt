@@ -9,5 +9,5 @@ returns-clause-exact g c =
     λ d f t.
     let same = holds_is c.args.limit m c.in_ok-resolved.resolved c.in_ok-known.known
     c.in_ok-known.ensures.names c.in_ok-known.ensures.listed c.in_ok-resolved.ensures.resolved
-        found.0 found.1 d f t in
+    found.0 found.1 d f t in
     (λ i. same.0 ((found.2 d f t).0 i), λ h. (found.2 d f t).1 (same.1 h))

@@ -1,4 +1,4 @@
-use Rattle.std.proofs.Common.{rules, tests, ℕ}
+use Rattle.std.proofs.Common.{rules, tests}
 use Rattle.std.proofs.lemmas.Iterator.{YieldsList-from_chars}
 use Rattle.std.proofs.lemmas.Iterator.Search.{all_from_yields_List}
 use Rattle.cargo_toml_lint.specs.Taken.{may_follow}

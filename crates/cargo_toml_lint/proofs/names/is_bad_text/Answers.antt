@@ -8,19 +8,19 @@ pub returns-in-Some : goal.returns-in-Some
 returns-in-Some c =
     let t = c.args.text.now in
     let slash : list_any is_slash t ≡ true = sym c.split_slash-parts.ensures.found
-        ∙ ap is_some c.in-Some.is in
+    ∙ ap is_some c.in-Some.is in
     let after = rw c.in-Some.is at c.split_slash-parts.ensures.after in
     ap₂ (λ a b. a || not b) c.has_dep.ensures (c.is_feature_name.ensures ∙ ap is_feature_name after)
     ∙ sym (ap (λ b. if b then starts_with nat_eq t (codes "dep:") || not (is_feature_name
-        (after_first is_slash t))
+    (after_first is_slash t))
     else ends_with nat_eq t (codes "?")) slash)
 
 pub returns-in-None : goal.returns-in-None
 returns-in-None c =
     let t = c.args.text.now in
     let slash : list_any is_slash t ≡ false = sym c.split_slash-parts.ensures.found
-        ∙ ap is_some c.in-None.is in
+    ∙ ap is_some c.in-None.is in
     c.has_mark.ensures
     ∙ sym (ap (λ b. if b then starts_with nat_eq t (codes "dep:") || not (is_feature_name
-        (after_first is_slash t))
+    (after_first is_slash t))
     else ends_with nat_eq t (codes "?")) slash)

@@ -16,15 +16,15 @@ loop-text-preserved c =
     let of = λ (t : Text). told k t (when (not (is_feature_name t)) BadRequest) in
     finding_more
     (slice_left of string_bytes c.args.asked.now c.loop-text.text-index c.text-item.result (omega
-        arith) c.text-item.is)
+    arith) c.text-item.is)
     (subst (λ xs. Finds xs c.loop-text.found.items c.add.new.found.items)
     (ap (λ o. told k c.as_str-text.result.now o) c.request_fault.ensures
-        ∙ ap of c.as_str-text.ensures.value)
+    ∙ ap of c.as_str-text.ensures.value)
     c.in_ok-add.ensures) c.loop-text.invariant
 
 pub returns : goal.returns
 returns c =
     let k = c.args.key.now in
     finding_done (slice_none (λ (t : Text). told k t (when (not (is_feature_name t)) BadRequest))
-        string_bytes c.args.asked.now c.loop-text.text-index (omega arith))
+    string_bytes c.args.asked.now c.loop-text.text-index (omega arith))
     c.loop-text.invariant

@@ -1,4 +1,4 @@
-use Rattle.std.proofs.Common.{◌==◌, ◌-◌, Global, List, String, map, string_bytes, ap, subst, sym, ◌∙◌}
+use Rattle.std.proofs.Common.{◌==◌, Global, List, String, map, string_bytes, ap, subst}
 use Rattle.std.proofs.lemmas.Map.Iter.{rest_all, rest_more}
 use Rattle.std.specs.Map.Iter.{deref_pair}
 use Rattle.cargo_toml.specs.Action.{Text}
@@ -19,10 +19,10 @@ loop-key-init c = begun Finds _ _ _ (ap (λ es. table_findings c.args.is_dev c.a
 pub loop-key-preserved : goal.loop-key-preserved
 loop-key-preserved c = rw c.saturating_sub-rest.ensures (finding_more
     (ap (λ es. table_findings c.args.is_dev c.loop-key.left (told es)) (rest_more deref_pair _ _ _
-        (c.in-Some.key, c.in-Some.dependency) c.in-Some.is c.next.ensures.steps))
+    (c.in-Some.key, c.in-Some.dependency) c.in-Some.is c.next.ensures.steps))
     (subst (λ xs. Finds xs c.loop-key.found.items c.add_entry.new.found.items)
     (ap (λ (k : Text). entry_findings c.args.is_dev (c.loop-key.left == 0) k (dependency_meaning
-        c.in-Some.dependency.now)) c.as_str.ensures.value)
+    c.in-Some.dependency.now)) c.as_str.ensures.value)
     c.in_ok-add_entry.ensures) c.loop-key.invariant)
 
 pub returns : goal.returns

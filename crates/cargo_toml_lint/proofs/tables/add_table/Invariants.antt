@@ -9,6 +9,6 @@ use Rattle.cargo_toml_lint.proofs.tables.add_table.Given as goal
 abbrev pub invariant-loop-key : goal.invariant-loop-key
 invariant-loop-key l = Adding Finds
     (table_findings l.is_dev l.left (map (λ e. (string_bytes e.0, dependency_meaning e.1))
-        l.key-iterator))
+    l.key-iterator))
     (table_findings l.is_dev l.limit (map_meaning dependency_meaning l.table))
     l.initial.found.items l.found.items

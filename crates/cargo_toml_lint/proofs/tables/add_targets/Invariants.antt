@@ -10,4 +10,4 @@ abbrev pub invariant-loop-target : goal.invariant-loop-target
 invariant-loop-target l = Adding Finds
     (flat_map (λ t. target_findings l.limit (target_meaning t)) l.target-iterator)
     (flat_map (λ t. target_findings l.limit (target_meaning t)) (values l.targets))
-        l.initial.found.items l.found.items
+    l.initial.found.items l.found.items

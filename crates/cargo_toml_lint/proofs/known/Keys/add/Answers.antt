@@ -15,7 +15,7 @@ returns-then-is_marked c =
       marked = λ k. put_if (set_has old.marked k) _ (bytes_eq k key) c.args.is_marked
           c.if-is_marked.true (put k)
           ∙ ap (λ b. set_has old.marked k || b) (sym (or-false (bytes_eq k key &&
-              c.args.is_marked)));
+          c.args.is_marked)));
     }) c.add_text-then-is_marked.ensures
 
 pub returns-else-is_marked : goal.returns-else-is_marked
@@ -28,5 +28,5 @@ returns-else-is_marked c =
       marked = λ k. put_none (set_has old.marked k) (bytes_eq k key) c.args.is_marked
           c.if-is_marked.false
           ∙ ap (λ b. set_has old.marked k || b) (sym (or-false (bytes_eq k key &&
-              c.args.is_marked)));
+          c.args.is_marked)));
     }

@@ -21,12 +21,12 @@ loop-text-preserved c =
       | then-acts+in_ok-add w ↦ rw w.self-is (adding_more more
           (subst (λ ks. AddsKeys ks c.loop-text.self w.add.new.self)
           (sym (acting text action is acted_in c.acts.result c.acts.ensures w.if-acts.true))
-              w.in_ok-add.ensures)
+          w.in_ok-add.ensures)
           c.loop-text.invariant)
       | else-acts w ↦ rw w.self-is (adding_more more
           (subst (λ ks. AddsKeys ks c.loop-text.self c.loop-text.self)
           (sym (naming text action is acted_in c.acts.result c.acts.ensures w.if-acts.false))
-              (keys_none c.loop-text.self))
+          (keys_none c.loop-text.self))
           c.loop-text.invariant)
     ]
 

@@ -1,4 +1,4 @@
-use Rattle.std.proofs.Common.{◌∷◌, [], Bool, Global, List, String, map, string_bytes, ap, ap₂, subst, ◌∙◌}
+use Rattle.std.proofs.Common.{◌∷◌, [], Bool, Global, List, String, map, string_bytes, ap, ap₂, subst}
 use Rattle.std.proofs.lemmas.Map.Iter.{rest_all, rest_more}
 use Rattle.std.specs.Map.Iter.{deref_pair}
 use Rattle.cargo_toml.specs.Action.{Text}
@@ -19,10 +19,10 @@ loop-key-init c = begun AddsKeys _ _ c.args.self.now (ap keys
 pub loop-key-preserved : goal.loop-key-preserved
 loop-key-preserved c = adding_more
     (ap keys (rest_more deref_pair _ _ _ (c.in-Some.key, c.in-Some.dependency) c.in-Some.is
-        c.next.ensures.steps))
+    c.next.ensures.steps))
     (subst (λ ks. AddsKeys ks c.loop-key.self c.add.new.self)
     (ap₂ (λ (k : Text) (m : Bool). (k, m) ∷ []) c.as_str.ensures.value c.optional.ensures)
-        c.in_ok-add.ensures) c.loop-key.invariant
+    c.in_ok-add.ensures) c.loop-key.invariant
 
 pub returns : goal.returns
 returns c = adding_done (ap keys (rest_all deref_pair _ _ _ c.in-None.is c.next.ensures.steps))

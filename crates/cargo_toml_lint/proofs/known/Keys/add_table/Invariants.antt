@@ -1,5 +1,5 @@
 use Rattle.std.proofs.Common.{map, string_bytes}
-use Rattle.cargo_toml.specs.Dependencies.{dependency_meaning, is_optional}
+use Rattle.cargo_toml.specs.Dependencies.{dependency_meaning}
 use Rattle.cargo_toml.specs.Reads.{map_meaning}
 use Rattle.cargo_toml_lint.specs.Known.{keys_in}
 use Rattle.cargo_toml_lint.specs.Names.{AddsKeys}

@@ -1,4 +1,4 @@
-use Rattle.std.proofs.Common.{List, string_bytes, subst, ap, ◌∙◌}
+use Rattle.std.proofs.Common.{string_bytes, subst, ap, ◌∙◌}
 use Rattle.std.proofs.lemmas.Map.Iter.{rest_all, rest_more}
 use Rattle.std.specs.List.{flat_map}
 use Rattle.std.specs.Map.Iter.{deref}
@@ -17,7 +17,7 @@ loop-target-init c = begun AddsKeys _ _ c.args.self.now (ap (flat_map (λ (t : T
 pub loop-target-preserved : goal.loop-target-preserved
 loop-target-preserved c = adding_more
     (ap (flat_map (λ (t : Target). target_keys (target_meaning t))) (rest_more deref _ _ _
-        c.in-Some.target c.in-Some.is c.next.ensures.steps))
+    c.in-Some.target c.in-Some.is c.next.ensures.steps))
     c.in_ok-add_target.ensures c.loop-target.invariant
 
 pub returns : goal.returns
@@ -25,4 +25,4 @@ returns c =
     subst (λ ks. AddsKeys ks c.args.self.now c.loop-target.self)
     (flat_values target_keys string_bytes target_meaning c.args.targets.now.entries)
     (adding_done (ap (flat_map (λ (t : Target). target_keys (target_meaning t))) (rest_all deref _ _
-        _ c.in-None.is c.next.ensures.steps)) c.loop-target.invariant)
+    _ c.in-None.is c.next.ensures.steps)) c.loop-target.invariant)

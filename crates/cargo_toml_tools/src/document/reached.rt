@@ -5,9 +5,10 @@ ghost use Rattle.cargo_toml.specs.Graph.{Table};
 ghost use Rattle.cargo_toml.specs.Views.{action_at};
 ghost use Rattle.cargo_toml_lint.specs.Linked.{AreFound, AreLinks};
 ghost use Rattle.cargo_toml_tools.specs.Documented.{ActIn, IsReachedFrom, is_beside};
+ghost use Rattle.cargo_toml_tools.specs.Documented.{is_told_beside};
 
 use super::listing::{FeatureMap, is_private};
-use cargo_toml::features::DepAction;
+use cargo_toml::features::{DepAction, Feature};
 use cargo_toml_lint::Links;
 use cargo_toml_resolve::joining::add_actions;
 use std::alloc::{AllocError, Global};
@@ -43,14 +44,21 @@ pub(crate) fn reach<'m, S: BuildHasher>(
     })
 }
 
-/// Whether this is another feature, and not a private one.
+/// Whether there is a feature of this name that is told of beside the other.
 fn is_beside<S: BuildHasher>(features: &FeatureMap<'_, S>, name: &str, other: &str) -> bool
     ensures { result ≡ is_beside features.now name.now other.now }
 {
     match features.get(other) {
-        Some(feature) => feature.key != name && !is_private(feature),
+        Some(feature) => is_told_beside(feature, name),
         None => false,
     }
+}
+
+/// Whether this is another feature, and not a private one.
+fn is_told_beside(feature: &Feature<'_>, name: &str) -> bool
+    ensures { result ≡ is_told_beside name.now feature.now }
+{
+    feature.key != name && !is_private(feature)
 }
 
 /// What the features of these names do to dependencies.

@@ -1,5 +1,5 @@
 //! What is documented of features.
-ghost use Rattle.std.specs.Prelude.{◌≡◌, true, IfErr, IfOk, OnOk};
+ghost use Rattle.std.specs.Prelude.{◌≡◌, true, IfErr, IfOk, List, OnOk};
 ghost use Rattle.cargo_toml.specs.Limits.{MAX_ITEMS};
 ghost use Rattle.cargo_toml.specs.Manifests.{held};
 ghost use Rattle.cargo_toml.specs.Parsed.{IsParsed};
@@ -7,6 +7,7 @@ ghost use Rattle.cargo_toml.specs.Reached.{IsKeyed};
 ghost use Rattle.cargo_toml.specs.Views.{answer_of};
 ghost use Rattle.cargo_toml_tools.specs.DocumentedFiles.{AreRowsIn, IsDocumented};
 ghost use Rattle.cargo_toml_tools.specs.FromFiles.{IsOfInput, IsUnreadable};
+ghost use Rattle.cargo_toml_tools.specs.declared.document.listing.Row.{Row};
 
 use super::reading::manifest_in;
 use crate::document::{TakesRows, graph, rows};
@@ -55,7 +56,7 @@ fn hand_on<R: RandomSource + AllocGlobal, T: TakesRows>(
     manifest: &Manifest<Value>,
     taker: &mut T,
 ) -> Result<(), Error>
-    ensures documented { OnOk result ((rows) × AreRowsIn manifest.now rows
+    ensures documented { OnOk result ((rows : List Row) × AreRowsIn manifest.now rows
         × T.took taker.old rows taker.new) }
     ensures refused { IfErr result IsOfInput }
 {

@@ -25,9 +25,9 @@ loop-text-preserved-then-contains c =
     let t = string_bytes c.text-item.result in
     repeats_seen (contains_text c.loop-text.seen) t (map string_bytes (drop c.loop-text.text-index c.args.texts.now)) rest _ _ _
     (left_next string_bytes c.args.texts.now c.loop-text.text-index c.text-item.result c.loop-text-test.true c.text-item.is)
-    (sym (c.contains.ensures ∙ ap (contains_text c.loop-text.seen) c.as_str.ensures.value) ∙ c.if-contains.true)
+    (sym (c.contains.ensures ∙ ap (contains_text c.loop-text.seen) c.as_str-text.ensures.value) ∙ c.if-contains.true)
     (pushed string_bytes _ c.loop-text.all.items _ c.in_ok-push.ensures.items
-    ∙ ap (λ s. map string_bytes c.loop-text.all.items ++ s ∷ []) (c.in_ok-from_str.ensures.ok ∙ c.as_str.ensures.value)) c.loop-text.invariant
+    ∙ ap (λ s. map string_bytes c.loop-text.all.items ++ s ∷ []) (c.in_ok-from_str.ensures.ok ∙ c.as_str-text.ensures.value)) c.loop-text.invariant
 
 pub loop-text-preserved : goal.loop-text-preserved
 loop-text-preserved c =
@@ -38,10 +38,10 @@ loop-text-preserved c =
     (repeats_same (contains_text c.insert.new.self) (λ s. contains_text c.loop-text.seen s || bytes_eq t s)
     (λ s. btree_set_updates_text key c.loop-text.seen c.insert.new.self true c.in_ok-insert.ensures.updates s
     ∙ cond_or (bytes_eq key s) (contains_text c.loop-text.seen s)
-    ∙ ap (λ k. contains_text c.loop-text.seen s || bytes_eq k s) (c.in_ok-from_str-2.ensures.ok ∙ c.as_str.ensures.value)) rest)
+    ∙ ap (λ k. contains_text c.loop-text.seen s || bytes_eq k s) (c.in_ok-from_str-2.ensures.ok ∙ c.as_str-text.ensures.value)) rest)
     ∙ repeats_new (contains_text c.loop-text.seen) t (map string_bytes (drop c.loop-text.text-index c.args.texts.now)) rest _ _
     (left_next string_bytes c.args.texts.now c.loop-text.text-index c.text-item.result c.loop-text-test.true c.text-item.is)
-    (sym (c.contains.ensures ∙ ap (contains_text c.loop-text.seen) c.as_str.ensures.value) ∙ c.if-contains.false) c.loop-text.invariant
+    (sym (c.contains.ensures ∙ ap (contains_text c.loop-text.seen) c.as_str-text.ensures.value) ∙ c.if-contains.false) c.loop-text.invariant
 
 pub returns : goal.returns
 returns c =

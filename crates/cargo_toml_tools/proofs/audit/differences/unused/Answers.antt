@@ -14,9 +14,9 @@ loop-key-preserved c =
     kept_on (λ (e : Text × DependencyMeaning). not (inh e.0)) (λ (e : Text × DependencyMeaning). e.0) _
     (entry_of (c.in-Some.key.now, c.in-Some._entry.now)) _ _ _ _
     (ap (map entry_of) (rest_more deref_pair _ _ _ (c.in-Some.key, c.in-Some._entry) c.in-Some.is c.next.ensures.steps))
-    (ap not (sym (c.contains.ensures ∙ ap inh c.as_str.ensures.value) ∙ c.if-contains.false))
+    (ap not (sym (c.contains.ensures ∙ ap inh c.as_str-key.ensures.value) ∙ c.if-contains.false))
     (pushed string_bytes _ c.loop-key.all.items _ c.in_ok-push.ensures.items
-    ∙ ap (λ s. map string_bytes c.loop-key.all.items ++ s ∷ []) (c.in_ok-from_str.ensures.ok ∙ c.as_str.ensures.value)) c.loop-key.invariant
+    ∙ ap (λ s. map string_bytes c.loop-key.all.items ++ s ∷ []) (c.in_ok-from_str.ensures.ok ∙ c.as_str-key.ensures.value)) c.loop-key.invariant
 
 pub loop-key-preserved-then-contains : goal.loop-key-preserved-then-contains
 loop-key-preserved-then-contains c =
@@ -24,7 +24,7 @@ loop-key-preserved-then-contains c =
     kept_past (λ (e : Text × DependencyMeaning). not (inh e.0)) (λ (e : Text × DependencyMeaning). e.0) _
     (entry_of (c.in-Some.key.now, c.in-Some._entry.now)) _ _ _
     (ap (map entry_of) (rest_more deref_pair _ _ _ (c.in-Some.key, c.in-Some._entry) c.in-Some.is c.next.ensures.steps))
-    (ap not (sym (c.contains.ensures ∙ ap inh c.as_str.ensures.value) ∙ c.if-contains.true)) c.loop-key.invariant
+    (ap not (sym (c.contains.ensures ∙ ap inh c.as_str-key.ensures.value) ∙ c.if-contains.true)) c.loop-key.invariant
 
 pub returns : goal.returns
 returns c =

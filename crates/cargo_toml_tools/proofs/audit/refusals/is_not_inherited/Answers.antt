@@ -29,7 +29,7 @@ loop-target-preserved g c =
     (flat_map (λ (t : Text × TargetMeaning). target_by_kind t.1) (map target_of c.next.new.self)) _ _
     (ap (flat_map (λ (t : Text × TargetMeaning). target_by_kind t.1))
     (ap (map target_of) (rest_more deref_pair _ _ _ (c.in-Some.field-0-0, c.in-Some.target) c.in-Some.is c.next.ensures.steps)))
-    c.loop-target.invariant (sym c.any_table-2.ensures ∙ c.if-any_table-2.false)
+    c.loop-target.invariant (sym c.any_table-in-loop-target.ensures ∙ c.if-any_table-2.false)
 
 pub returns-then-any_table-2 : goal.returns-then-any_table-2
 returns-then-any_table-2 g c =
@@ -38,7 +38,7 @@ returns-then-any_table-2 g c =
     (flat_map (λ (t : Text × TargetMeaning). target_by_kind t.1) (map target_of c.next.new.self)) _ _
     (ap (flat_map (λ (t : Text × TargetMeaning). target_by_kind t.1))
     (ap (map target_of) (rest_more deref_pair _ _ _ (c.in-Some.field-0-0, c.in-Some.target) c.in-Some.is c.next.ensures.steps)))
-    c.loop-target.invariant (sym c.any_table-2.ensures ∙ c.if-any_table-2.true)
+    c.loop-target.invariant (sym c.any_table-in-loop-target.ensures ∙ c.if-any_table-2.true)
     ∙ any_past (λ (t : Kind × Entries). list_any (λ e. is_false e.1) t.1)
     (with_kinds (entries_meaning m.dependencies) (entries_meaning m.dev_dependencies) (entries_meaning m.build_dependencies))
     (flat_map (λ (t : Text × TargetMeaning). target_by_kind t.1) (map_meaning target_meaning m.target)) _ _ refl refl

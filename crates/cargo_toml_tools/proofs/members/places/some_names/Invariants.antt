@@ -7,5 +7,5 @@ use Rattle.cargo_toml_tools.proofs.members.places.some_names.Given as goal
 
 abbrev pub invariant-loop-name : goal.invariant-loop-name
 invariant-loop-name l =
-    map (λ t. t.now) l.names.items ++ filter (λ name. not (is_nothing name)) (map (λ (t : Bor Text). t.now) (drop l.name-index l.all.items))
+    map (λ t. t.now) l.names.items ++ filter (λ name. not (is_nothing name)) (map (λ (t : Bor Text). t.now) (drop l.name-index l.name-items))
     ≡ filter (λ name. not (is_nothing name)) (pieces l.path)

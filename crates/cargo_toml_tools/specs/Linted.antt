@@ -10,9 +10,10 @@ use Rattle.cargo_toml_lint.specs.declared.finding.Finding.{Finding}
 use Rattle.cargo_toml_lint.specs.declared.finding.Level.{Level}
 use Rattle.cargo_toml_lint.specs.declared.finding.Level.TheVariants.{Error, Hint, Warning}
 
--- the findings are those of this manifest: each where its code holds of its feature, and no others
+-- the findings are those of this manifest: each where its code holds of its feature and its text,
+-- and no others
 abbrev pub AreFindingsOf : {M : Type 0} → ManifestMeaning M → List Finding → Type 0
-AreFindingsOf m xs = (c : Code) (f : Text) → IsFound xs c f ↔ HoldsOf MAX_ITEMS m c f
+AreFindingsOf m xs = (c : Code) (f t : Text) → IsFound xs c f t ↔ HoldsOf MAX_ITEMS m c f t
 
 -- all but hints
 abbrev pub weighs : Level → Bool

@@ -21,7 +21,7 @@ pub trait TakesFindings {
 
 /// Findings as lines, and whether one is an error or a warning.
 ///
-/// A line is `LEVEL | CODE | FEATURE | words`, and begins with the name of the file where one is
+/// A line is `LEVEL | CODE | FEATURE | TEXT | words`, and begins with the name of the file where one is
 /// given.
 #[derive(Drop)]
 pub struct Lines<'a> {
@@ -88,6 +88,8 @@ fn push_finding(
     text.push_str(finding.code.name())?;
     text.push_str(" | ")?;
     push_escaped(text, finding.feature, Format::Line)?;
+    text.push_str(" | ")?;
+    push_escaped(text, finding.text, Format::Line)?;
     text.push_str(" | ")?;
     text.push_str(finding.code.words())?;
     text.push_str("\n")

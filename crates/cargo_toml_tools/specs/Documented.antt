@@ -2,7 +2,6 @@
 use Rattle.std.specs.Prelude.{◌≡◌, ◌↔◌, ◌&&◌, ◌||◌, Bool, false, IfSome, IsTrue, List, Some}
 use Rattle.std.specs.Prelude.{bytes_eq, codes, is_some, map, nat_eq, not}
 use Rattle.std.specs.Borrow.{Bor}
-use Rattle.std.specs.BTreeSet.{BTreeSet}
 use Rattle.std.specs.HashMap.{HashMap}
 use Rattle.std.specs.List.{AllByRecursion, starts_with}
 use Rattle.std.specs.Map.{lookup}
@@ -37,11 +36,9 @@ pub record AreTexts (P : Text → Type 0) (texts : List Text) : Type 0 where
   pub exact : (x : Text) → Among texts x ↔ P x
   pub in_order : Ascend texts
 
--- some feature of these names acts so on the dependency k
-abbrev pub ActIn : {S : Type 0} → HashMap (Bor Text) Feature S → BTreeSet (Bor Text) → Text
-    → Action → Type 0
-ActIn m names k a =
-    (g : Text) × IsTrue (set_has names g) × ((table_in m).action g k ≡ Some a)
+-- the feature x is told of beside that of this name
+abbrev pub is_beside : {S : Type 0} → HashMap (Bor Text) Feature S → Text → Text → Bool
+is_beside m name x = option_map_or (is_told_beside name) (value_at m x) false
 
 -- by a table of what features turn on, and the features as they are resolved
 module _ {S : Type 0} (t : Table) (m : HashMap (Bor Text) Feature S) where
@@ -53,13 +50,9 @@ module _ {S : Type 0} (t : Table) (m : HashMap (Bor Text) Feature S) where
   abbrev pub Acts : Text → Text → Action → Type 0
   Acts f k a = (g : Text) × IsOn f g × ((table_in m).action g k ≡ Some a)
 
-  -- x is told of beside f
-  abbrev pub is_beside : Text → Text → Bool
-  is_beside f x = option_map_or (is_told_beside f) (value_at m x) false
-
   -- what is reached from f: the others, and what all of them do to each dependency, joined
   pub record IsReachedFrom (f : Text) (r : Reached) : Type 0 where
-    pub features : (x : Text) → IsTrue (set_has r.features x) ↔ (IsOn f x × IsTrue (is_beside f x))
+    pub features : (x : Text) → IsTrue (set_has r.features x) ↔ (IsOn f x × IsTrue (is_beside m f x))
     pub actions : (k : Text) → IsJoin (Acts f k) (action_at r.actions k)
 
   -- the row tells of the feature v

@@ -1,11 +1,11 @@
 //! What a feature turns on, by any number of steps.
-ghost use Rattle.std.specs.Prelude.{◌≡◌, IfOk};
-ghost use Rattle.cargo_toml.specs.Action.{IsJoin, Text};
+ghost use Rattle.std.specs.Prelude.{◌≡◌, ◌&&◌, ◌||◌, IfOk, OnOk, bytes_eq};
+ghost use Rattle.cargo_toml.specs.Action.{Text};
 ghost use Rattle.cargo_toml.specs.Graph.{Table};
-ghost use Rattle.cargo_toml.specs.Views.{action_at};
+ghost use Rattle.cargo_toml.specs.Reached.{IsKeyed};
+ghost use Rattle.cargo_toml.specs.Views.{set_has};
 ghost use Rattle.cargo_toml_lint.specs.Linked.{AreFound, AreLinks};
-ghost use Rattle.cargo_toml_tools.specs.Documented.{ActIn, IsReachedFrom, is_beside};
-ghost use Rattle.cargo_toml_tools.specs.Documented.{is_told_beside};
+ghost use Rattle.cargo_toml_tools.specs.Documented.{IsReachedFrom, is_told_beside};
 
 use super::listing::{FeatureMap, is_private};
 use cargo_toml::features::{DepAction, Feature};
@@ -32,49 +32,35 @@ pub(crate) fn reach<'m, S: BuildHasher>(
     name: &str,
 ) -> Result<Reached<'m>, AllocError>
     requires { AreFound links.now }
-    ensures { IfOk result (λ r. (t : Table) → AreLinks t links.now
+    ensures { IfOk result (λ r. IsKeyed features.now → (t : Table) → AreLinks t links.now
         → IsReachedFrom t features.now name.now r) }
 {
-    let mut others = links.turned_on(alloc, name)?;
-    let actions = actions_of(alloc, features, &others)?;
-    others.retain(|other| is_beside(features, name, *other));
+    let mut others = BTreeSet::new(alloc);
+    let mut actions = BTreeMap::new(alloc);
+    let names = links.turned_on(alloc, name)?;
+    for other in &names {
+        if let Some(feature) = features.get(*other) {
+            add_other(&mut others, feature, name)?;
+            add_actions(alloc, &mut actions, &feature.enables_deps)?;
+        }
+    }
     Ok(Reached {
         features: others,
         actions,
     })
 }
 
-/// Whether there is a feature of this name that is told of beside the other.
-fn is_beside<S: BuildHasher>(features: &FeatureMap<'_, S>, name: &str, other: &str) -> bool
-    ensures { result ≡ is_beside features.now name.now other.now }
+/// Adds a feature that is another, unless it is private.
+fn add_other<'m>(
+    others: &mut BTreeSet<&'m str>,
+    feature: &Feature<'m>,
+    name: &str,
+) -> Result<(), AllocError>
+    ensures { OnOk result ((x : Text) → set_has others.new x ≡ (set_has others.old x
+        || (bytes_eq x feature.now.key.now && is_told_beside name.now feature.now))) }
 {
-    match features.get(other) {
-        Some(feature) => is_told_beside(feature, name),
-        None => false,
+    if feature.key != name && !is_private(feature) {
+        others.insert(feature.key)?;
     }
-}
-
-/// Whether this is another feature, and not a private one.
-fn is_told_beside(feature: &Feature<'_>, name: &str) -> bool
-    ensures { result ≡ is_told_beside name.now feature.now }
-{
-    feature.key != name && !is_private(feature)
-}
-
-/// What the features of these names do to dependencies.
-fn actions_of<'m, S: BuildHasher>(
-    alloc: Global,
-    features: &FeatureMap<'m, S>,
-    names: &BTreeSet<&'m str>,
-) -> Result<BTreeMap<&'m str, DepAction<'m>>, AllocError>
-    ensures { IfOk result (λ actions. (k : Text)
-        → IsJoin (ActIn features.now names.now k) (action_at actions k)) }
-{
-    let mut actions = BTreeMap::new(alloc);
-    for name in names {
-        if let Some(feature) = features.get(*name) {
-            add_actions(alloc, &mut actions, &feature.enables_deps)?;
-        }
-    }
-    Ok(actions)
+    Ok(())
 }

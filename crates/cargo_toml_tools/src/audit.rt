@@ -148,7 +148,8 @@ impl Code {
             Code::NotInherited => "a dependency has `workspace = false`",
             Code::OptionalShared => "a dependency of the workspace can't be optional",
             Code::OtherWorkspace => "its `package.workspace` leads to another workspace",
-            Code::Outside => "it lies outside the workspace's folder, and doesn't name the workspace",
+            Code::Outside =>
+                "it lies outside the workspace's folder, and doesn't name the workspace",
             Code::SameName => "two members have this name",
             Code::TwoWorkspaces => "it has `package.workspace` and `[workspace]`",
             Code::Unlisted => "it lies in the workspace, and is no member",

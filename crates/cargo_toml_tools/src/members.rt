@@ -10,15 +10,14 @@ mod patterns;
 mod places;
 mod walk;
 
-pub use places::{Limits, excludes, lies_in, manifest_path, place_of, seen_from};
-pub use walk::{Answer, Look, There, look_at};
-
 use patterns::{is_deep, tokens_of};
 use places::pieces;
+pub use places::{Limits, excludes, lies_in, manifest_path, place_of, seen_from};
 use std::alloc::{AllocError, Global};
 use std::collections::BTreeSet;
 use std::rt::Files;
 use walk::places_of;
+pub use walk::{Answer, Look, There, look_at};
 
 /// The places that the entries of a list in `root` lead to, one entry after the other. One that
 /// Cargo can't read leads nowhere.

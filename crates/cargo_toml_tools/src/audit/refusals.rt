@@ -47,7 +47,11 @@ pub fn refusal_codes<M>(
     let named = names_workspace(&written.package);
     let elsewhere = leads_elsewhere(alloc, standing, &written.package)?;
     push_if(&mut codes, standing.has_errors, Code::Features)?;
-    push_if(&mut codes, has_lints_left(written, standing.lacks_lints), Code::NoLints)?;
+    push_if(
+        &mut codes,
+        has_lints_left(written, standing.lacks_lints),
+        Code::NoLints,
+    )?;
     push_if(&mut codes, is_not_inherited(written), Code::NotInherited)?;
     push_if(&mut codes, elsewhere && !has_own, Code::OtherWorkspace)?;
     push_if(&mut codes, !standing.is_own && !named, Code::Outside)?;

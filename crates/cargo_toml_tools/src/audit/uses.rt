@@ -141,11 +141,7 @@ fn in_order(alloc: Global, uses: &BTreeSet<Use>) -> Result<Vec<Lent<'_>>, AllocE
 }
 
 /// Adds a crate where it is asked for by several requirements, by all that asks for it.
-fn add_crate(
-    root: &str,
-    uses: &[Lent<'_>],
-    findings: &mut Vec<Finding>,
-) -> Result<(), AllocError>
+fn add_crate(root: &str, uses: &[Lent<'_>], findings: &mut Vec<Finding>) -> Result<(), AllocError>
     ensures { OnOk result (Finds (several_of (map (λ u. asking_of u.0.now) uses.now))
         findings.old findings.new) }
 {
@@ -192,11 +188,7 @@ fn several_words(alloc: Global, root: &str, uses: &[Lent<'_>]) -> Result<String,
 }
 
 /// Writes a requirement, and the folders of what asks by it.
-fn push_requirement(
-    words: &mut String,
-    root: &str,
-    uses: &[Lent<'_>],
-) -> Result<(), AllocError> {
+fn push_requirement(words: &mut String, root: &str, uses: &[Lent<'_>]) -> Result<(), AllocError> {
     let alloc = *words.allocator();
     let Some((first, others)) = uses.split_first() else {
         return Ok(());

@@ -2,8 +2,10 @@
 
 use super::reading::manifest_in;
 use crate::audit::{Audit, Code, Standing, has_no_target, json, lines, refusal_codes};
-use crate::members::{Limits, Look, There, excludes, included, lies_in, listed, look_at};
-use crate::members::{manifest_path, place_of, repeats, unseen, wrong_entries};
+use crate::members::{
+    Limits, Look, There, excludes, included, lies_in, listed, look_at, manifest_path, place_of,
+    repeats, unseen, wrong_entries,
+};
 use crate::tables::Tables;
 use cargo_toml::{Dependency, DepsSet, Error, Manifest, Workspace};
 use cargo_toml_held::HeldManifest;
@@ -369,7 +371,11 @@ fn add_member<R: Files + RandomSource + AllocGlobal>(
 fn has_errors<R: RandomSource + AllocGlobal>(rt: &R, manifest: &Manifest) -> Result<bool, Error> {
     let state = RandomState::new(rt)?;
     let findings = lint(rt.alloc(), state, manifest)?;
-    Ok(findings.iter().any(|found| found.code.level() == Level::Error))
+    Ok(
+        findings
+            .iter()
+            .any(|found| found.code.level() == Level::Error),
+    )
 }
 
 /// The places of what a manifest depends on by paths. A path of the workspace's dependencies is

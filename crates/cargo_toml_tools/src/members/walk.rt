@@ -270,7 +270,10 @@ fn ended<R: Files + AllocGlobal>(
         (λ paths. Tells (λ d. led d step.is_deep (map string_bytes step.paths.items) [])
         looks.old.items looks.new.items (map string_bytes paths.items)) }
 {
-    let Step { paths, is_deep: is_behind } = step;
+    let Step {
+        paths,
+        is_deep: is_behind,
+    } = step;
     if !is_behind {
         return Ok(paths);
     }
@@ -410,11 +413,7 @@ fn add_matched<R: Files + AllocGlobal>(
 }
 
 /// The names, with `.` and `..` where these are wanted.
-fn with_dots(
-    alloc: Global,
-    names: Vec<String>,
-    wants_dots: bool,
-) -> Result<Vec<String>, AllocError>
+fn with_dots(alloc: Global, names: Vec<String>, wants_dots: bool) -> Result<Vec<String>, AllocError>
     ensures { IfOk result (λ all. map string_bytes all.items
         ≡ map string_bytes names.items ++ dots_if wants_dots) }
 {

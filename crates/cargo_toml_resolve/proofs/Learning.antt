@@ -27,6 +27,7 @@ use Rattle.cargo_toml_features.proofs.TextKeys.{none_in}
 use Rattle.cargo_toml_resolve.specs.Enabling.{AreSameButEnablers, GainEnabler, IsSameButEnablers, Leader, LeaderBelow, LeadsTo, LearnBy, LearnEach, Learns}
 use Rattle.cargo_toml_resolve.specs.KeptFeatures.{IsNamedAlike, own_bins}
 use Rattle.cargo_toml_resolve.specs.KeptByName.{AreKept}
+use Rattle.cargo_toml_resolve.specs.Numbering.{Gains}
 use Rattle.cargo_toml_resolve.specs.TakingOver.{ChangesIn}
 use Rattle.cargo_toml_resolve.specs.Texts.{texts_now}
 use Rattle.cargo_toml_resolve.proofs.AlikePlaces.{does_itself, each_itself, then_does, then_each, there_too}
@@ -156,17 +157,12 @@ HaveLearnt n old new = LearnBy (LeaderBelow old n) old new
 pub none_learnt : (vs : List Feature) → HaveLearnt 0 vs vs
 none_learnt vs = record { same = same_features vs; learn = nobody_learns (LeaderBelow vs 0) vs (no_leader vs) }
 
--- as many keys as features
-pub as_many : (keys : List (Bor Text)) (vs : List Feature) → texts_now keys ≡ names_of vs → length keys ≡ length vs
-as_many keys vs are = sym (length-map keys (λ (t : Bor Text). t.now)) ∙ ap length are ∙ length-map vs (λ (v : Feature). v.key.now)
-
 -- then the next, of which the row tells where it leads
-pub next_learnt : (n : ℕ) (keys : List (Bor Text)) (vs ws us : List Feature) (row : List ℕ) (u : Feature) → n < length vs → texts_now keys ≡ names_of vs → slice_get ws n ≡ Some u
-    → ((x : ℕ) → Among row x ↔ (Among [] x ⊎ ((x < length keys) × (x ≢ n) × LeadsTo u (nth_text (texts_now keys) x))))
-    → HaveLearnt n vs ws → GainEnabler (Among row) (nth_text (texts_now keys) n) ws us → HaveLearnt (n + 1) vs us
-next_learnt n keys vs ws us row u lt are there rows h more = record {
+pub next_learnt : (n : ℕ) (vs ws us : List Feature) (row : List ℕ) (u : Feature) → n < length vs → slice_get ws n ≡ Some u → Gains (length vs) n (λ x. LeadsTo u (nth_text (names_of vs) x)) [] row
+    → HaveLearnt n vs ws → GainEnabler (Among row) (nth_text (names_of vs) n) ws us → HaveLearnt (n + 1) vs us
+next_learnt n vs ws us row u lt there rows h more = record {
   same = then_same vs ws us h.same more.same;
-  learn = then_learn (LeaderBelow vs n) (λ y e. (e ≡ nth_text (texts_now keys) n) × Among row y) (LeaderBelow vs (n + 1)) vs ws us h.same.len both h.learn more.learn;
+  learn = then_learn (LeaderBelow vs n) (λ y e. (e ≡ nth_text (names_of vs) n) × Among row y) (LeaderBelow vs (n + 1)) vs ws us h.same.len both h.learn more.learn;
 }
   where
     first : (v : Feature) × (slice_get vs n ≡ Some v)
@@ -181,25 +177,15 @@ next_learnt n keys vs ws us row u lt are there rows h more = record {
       λ l. elim l [ inl i ↦ inl (subst (λ s. IsTrue (set_has s x)) (sym same.does.names) i) | inr p ↦ inr (subst (λ m. IsPlain (action_at m x)) (sym same.does.actions) p) ],
     )
 
-    long : length keys ≡ length vs
-    long = as_many keys vs are
-
-    key : (y : ℕ) → nth_text (names_of vs) y ≡ nth_text (texts_now keys) y
-    key y = ap (λ ks. nth_text ks y) (sym are)
-
-    both : (y : ℕ) (e : Text) → y < length vs → LeaderBelow vs (n + 1) y e ↔ (LeaderBelow vs n y e ⊎ ((e ≡ nth_text (texts_now keys) n) × Among row y))
+    both : (y : ℕ) (e : Text) → y < length vs → LeaderBelow vs (n + 1) y e ↔ (LeaderBelow vs n y e ⊎ ((e ≡ nth_text (names_of vs) n) × Among row y))
     both y e below = (
       λ l. elim (cases_eq l.0 n) [
         | inl is ↦
             let s = subst (λ j. Leader vs j y e) is l.2 in
             let w : first.0 ≡ s.2.0 = same_Some first.0 s.2.0 (sym first.1 ∙ s.2.1) in
             inr (
-              sym s.1 ∙ key n,
-              (rows y).1 (inr (
-                subst (λ m. y < m) (sym long) below,
-                s.0,
-                (led (nth_text (texts_now keys) y)).1 (subst (LeadsTo first.0) (key y) (subst (λ x. LeadsTo x (nth_text (names_of vs) y)) (sym w) s.2.2)),
-              )),
+              sym s.1,
+              (rows y).1 (inr (below, s.0, (led (nth_text (names_of vs) y)).1 (subst (λ x. LeadsTo x (nth_text (names_of vs) y)) (sym w) s.2.2))),
             )
         | inr ne ↦ inl (l.0, (let less = l.1 in omega (arith, less, ne)), l.2)
       ],
@@ -207,22 +193,10 @@ next_learnt n keys vs ws us row u lt are there rows h more = record {
         | inl l ↦ (l.0, (let less = l.1 in omega (arith, less)), l.2)
         | inr r ↦ elim ((rows y).0 r.1) [
           | inl none ↦ absurd none
-          | inr t ↦ (n, omega arith, (t.1, key n ∙ sym r.0, (first.0, first.1, subst (LeadsTo first.0) (sym (key y)) ((led (nth_text (texts_now keys) y)).0 t.2))))
+          | inr t ↦ (n, omega arith, (t.1, sym r.0, (first.0, first.1, (led (nth_text (names_of vs) y)).0 t.2)))
         ]
       ],
     )
-
--- the same by what a loop reads
-pub one_more_learnt : (n : ℕ) (keys : List (Bor Text)) (vs ws us : List Feature) (cleared row given : List ℕ) (u : Feature) (source : Text) → n < length keys → texts_now keys ≡ names_of vs
-    → cleared ≡ [] → given ≡ row → u ≡ get_or ws n u → nth_text (texts_now keys) n ≡ source
-    → ((x : ℕ) → Among row x ↔ (Among cleared x ⊎ ((x < length keys) × (x ≢ n) × LeadsTo u (nth_text (texts_now keys) x))))
-    → HaveLearnt n vs ws → GainEnabler (Among given) source ws us → HaveLearnt (n + 1) vs us
-one_more_learnt n keys vs ws us cleared row given u source lt are clear gave read key rows h more =
-    let long : length keys ≡ length vs = as_many keys vs are in
-    let inside : n < length vs = subst (λ m. n < m) long lt in
-    next_learnt n keys vs ws us row u inside are (slice_get_read ws (length ws) n u refl (subst (λ m. n < m) (sym h.same.len) inside) read)
-    (subst (λ ys. (x : ℕ) → Among row x ↔ (Among ys x ⊎ ((x < length keys) × (x ≢ n) × LeadsTo u (nth_text (texts_now keys) x)))) clear rows) h
-    (subst (λ e. GainEnabler (Among row) e ws us) (sym key) (subst (λ xs. GainEnabler (Among xs) source ws us) gave more))
 
 -- under a name stands a feature in one list where one of the same place stands in the other
 abbrev Alike : List Feature → List Feature → Option Feature → Option Feature → Type 0

@@ -117,27 +117,6 @@ module _ (keys : List (Bor Text)) (own : ℕ) where
       elim [ inl i ↦ i | inr t ↦ absurd (none (subst (Among (texts_now keys)) t.2 (among_at (texts_now keys) x [] (let long = length-map keys (λ (t : Bor Text). t.now) in let lt = t.0 in omega (arith, long, lt))))) ],
     )
 
-  -- one more name
-  pub name_gained : (ks : List (Bor (Bor Text))) (k : Bor (Bor Text)) (old row new : List ℕ) → Gains (length keys) own (λ x. Among (seen ks) (nth_text (texts_now keys) x)) old row
-      → Gains (length keys) own (λ x. nth_text (texts_now keys) x ≡ k.now.now) row new → Gains (length keys) own (λ x. Among (seen (ks ++ k ∷ [])) (nth_text (texts_now keys) x)) old new
-  name_gained ks k old row new so_far more x = (
-    λ i. elim ((more x).0 i) [
-      | inl j ↦ elim ((so_far x).0 j) [ inl o ↦ inl o | inr t ↦ inr (t.0, t.1, (seen_push ks k _).1 (inl t.2)) ]
-      | inr t ↦ inr (t.0, t.1, (seen_push ks k _).1 (inr t.2))
-    ],
-    λ w. (more x).1 (elim w [
-      | inl o ↦ inl ((so_far x).1 (inl o))
-      | inr t ↦ elim ((seen_push ks k _).0 t.2) [ inl s ↦ inl ((so_far x).1 (inr (t.0, t.1, s))) | inr is ↦ inr (t.0, t.1, is) ]
-    ]),
-  )
-
-  pub names_gained : (s : BTreeSet (Bor Text)) (ks : List (Bor (Bor Text))) (old row : List ℕ) → map (λ k. k.now) ks ≡ s.keys → Gains (length keys) own (λ x. Among (seen ks) (nth_text (texts_now keys) x)) old row
-      → Gains (length keys) own (λ x. IsTrue (set_has s (nth_text (texts_now keys) x))) old row
-  names_gained s ks old row all h x = (
-    λ i. elim ((h x).0 i) [ inl o ↦ inl o | inr t ↦ inr (t.0, t.1, (all_seen s ks all _).0 t.2) ],
-    elim [ inl o ↦ (h x).1 (inl o) | inr t ↦ (h x).1 (inr (t.0, t.1, (all_seen s ks all _).1 t.2)) ],
-  )
-
   -- the keys of actions that a loop has met
   abbrev pub acted : List (Bor (Bor Text) × Bor DepAction) → List Text
   acted es = map (λ e. e.0.now.now) es

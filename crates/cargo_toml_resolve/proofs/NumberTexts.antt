@@ -154,3 +154,23 @@ module _ (vs : List Feature) (texts : List Text) (h : AreTextsOf vs texts) where
   -- a feature's number is its place
   pub key_text : (i : ℕ) → i < length vs → nth_text texts i ≡ nth_text (names_of vs) i
   key_text i lt = sym (get_or-take (length vs) texts i [] lt) ∙ ap (λ ks. nth_text ks i) h.keys
+
+  -- with more texts after them
+  pub texts_still : (new : List Text) → Extends (length vs) texts new → AreTextsOf vs new
+  texts_still new more = record {
+    keys = front_still (length vs) texts new more keys_fit ∙ h.keys;
+    apart = λ j le lt. elim (cases_lt j (length texts)) [
+      | inl early ↦ subst (λ k. ¬ Among (names_of vs) k) (sym (nth_still (length vs) texts new more j early)) (h.apart j le early)
+      | inr late ↦ subst (λ ks. ¬ Among ks (nth_text new j)) h.keys (more.apart j late lt)
+    ];
+  }
+
+-- the names alone
+pub texts_first : (vs : List Feature) (texts : List Text) → texts ≡ names_of vs → AreTextsOf vs texts
+texts_first vs texts are =
+    let long = length-map vs (λ (v : Feature). v.key.now) in
+    let whole = ap length are in
+    record {
+      keys = take_all (length vs) texts (omega (arith, long, whole)) ∙ are;
+      apart = λ j le lt. absurd (omega (arith, long, whole, le, lt));
+    }

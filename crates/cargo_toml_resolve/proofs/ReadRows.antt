@@ -15,7 +15,7 @@ use Rattle.cargo_toml_resolve.specs.Numbering.{AreRead, AreTextsOf, Extends, Gai
 use Rattle.cargo_toml_resolve.specs.Numbers.{IsWanted, Leads, row_items}
 use Rattle.cargo_toml_resolve.proofs.Filling.{IsFilled, none_filled, one_more_filled}
 use Rattle.cargo_toml_resolve.proofs.NumberRows.{gained_alike, target_is}
-use Rattle.cargo_toml_resolve.proofs.NumberTexts.{extends_none, front_still, key_text, keys_fit, longer, names_alike, names_still, nth_still}
+use Rattle.cargo_toml_resolve.proofs.NumberTexts.{extends_none, key_text, keys_fit, longer, names_alike, names_still, texts_first, texts_still}
 
 -- where the features lead
 abbrev pub Targets : List Feature → ℕ → ℕ → Type 0
@@ -45,13 +45,8 @@ row_old rows row i lt = get_or_append_left rows (row ∷ []) [] i lt
 
 pub no_rows : (vs : List Feature) (flags : List Bool) (texts : List Text) (edges names : List (List ℕ)) → texts ≡ names_of vs → edges ≡ [] → names ≡ [] → RowsSoFar vs flags 0 texts edges names
 no_rows vs flags texts edges names are none none' =
-    let long = length-map vs (λ (v : Feature). v.key.now) in
-    let whole = ap length are in
     record {
-      texts_of = record {
-        keys = take_all (length vs) texts (omega (arith, long, whole)) ∙ are;
-        apart = λ j le lt. absurd (omega (arith, long, whole, le, lt));
-      };
+      texts_of = texts_first vs texts are;
       edges_are = none_filled (Targets vs) edges none;
       names_len = ap length none';
       names_are = λ i lt. absurd (omega (arith, lt));
@@ -70,13 +65,7 @@ module _ (vs : List Feature) (flags : List Bool) (n : ℕ) (texts : List Text) (
       → HasNames (length vs) new (λ k. IsTrue (set_has v.enables_features k)) named → (IsWanted flags true n ⊎ ((x : ℕ) × Among row x × IsWanted flags true x) → IsTrue is_asked)
       → RowsSoFar vs flags (n + 1) new (edges ++ row ∷ []) (names ++ (if is_asked then named else []) ∷ [])
   one_more_read new row named is_asked more gains has asked = record {
-    texts_of = record {
-      keys = front_still (length vs) texts new more fits ∙ h.texts_of.keys;
-      apart = λ j le lt. elim (cases_lt j (length texts)) [
-        | inl early ↦ subst (λ k. ¬ Among (names_of vs) k) (sym (nth_still (length vs) texts new more j early)) (h.texts_of.apart j le early)
-        | inr late ↦ subst (λ ks. ¬ Among ks (nth_text new j)) h.texts_of.keys (more.apart j late lt)
-      ];
-    };
+    texts_of = texts_still vs texts h.texts_of new more;
     edges_are = one_more_filled (Targets vs) n edges row h.edges_are (target_is vs (names_of vs) n v row there
         (gained_alike (length vs) (length vs) n (λ x. LeadsTo v (nth_text texts x)) (λ x. LeadsTo v (nth_text (names_of vs) x)) [] row refl
         (λ x lt. subst (λ k. LeadsTo v (nth_text texts x) ↔ LeadsTo v k) (key_text vs texts h.texts_of x lt) (λ l. l, λ l. l)) gains));

@@ -1,69 +1,16 @@
 //! Where no feature is removed: each learns which others enable it.
-ghost use Rattle.std.specs.Prelude.{◌≡◌, ◌↔◌, ◌<◌, ℕ, IsTrue, OnOk, length};
-ghost use Rattle.cargo_toml_graph.specs.Action.{Text};
+ghost use Rattle.std.specs.Prelude.{◌≡◌, ◌<◌, ℕ, OnOk, length};
 ghost use Rattle.cargo_toml_graph.specs.Graph.{IsUnremoved, Table};
 ghost use Rattle.cargo_toml_graph.specs.Reach.{Among};
-ghost use Rattle.cargo_toml_graph.specs.Ascending.{Ascend};
 ghost use Rattle.cargo_toml_features.specs.InOrder.{AreInOrder, AreTable, HaveNoEnablers};
-ghost use Rattle.cargo_toml_features.specs.InOrder.{names_of, resolution_among};
-ghost use Rattle.cargo_toml_features.specs.Views.{set_has};
-ghost use Rattle.cargo_toml_features.specs.Places.{nth_text};
-ghost use Rattle.cargo_toml_resolve.specs.Enabling.{AreSameButEnablers, GainEnabler, LeaderBelow};
-ghost use Rattle.cargo_toml_resolve.specs.Enabling.{LeadsTo, LearnBy};
-ghost use Rattle.cargo_toml_resolve.specs.Numbering.{Gains};
-ghost use Rattle.cargo_toml_resolve.specs.Texts.{texts_now};
+ghost use Rattle.cargo_toml_features.specs.InOrder.{resolution_among};
+ghost use Rattle.cargo_toml_resolve.specs.Enabling.{AreSameButEnablers, GainEnabler};
 
-use crate::numbering::{Cursor, keys_of, leads_nowhere, push_actions, push_target};
+use crate::numbering::{Look, keys_of, leads_nowhere};
 use cargo_toml_features::action::add_text;
 use cargo_toml_features::features::Feature;
 use cargo_toml_features::node::Node;
 use std::alloc::{AllocError, Global};
-use std::collections::BTreeSet;
-
-// The features of these names, other than the one in place `own`.
-fn push_names(
-    row: &mut Vec<Node>,
-    named: &BTreeSet<&str>,
-    keys: &[&str],
-    own: Node,
-    cursor: &mut Cursor,
-) -> Result<(), AllocError>
-    requires { Ascend (texts_now keys.now) }
-    ensures { OnOk result (Gains (length keys.now) own
-        (λ x. IsTrue (set_has named.now (nth_text (texts_now keys.now) x)))
-        row.old.items row.new.items) }
-{
-    if named.is_empty() {
-        return Ok(());
-    }
-    for name in named.iter() {
-        push_target(row, *name, keys, own, cursor)?;
-    }
-    Ok(())
-}
-
-// The features that the one in place `own` enables: those that it names, and those that it acts on
-// plainly. In long lists most features lead nowhere: for them no function is called.
-#[inline(always)]
-fn push_targets(
-    row: &mut Vec<Node>,
-    feature: &Feature<'_>,
-    keys: &[&str],
-    own: Node,
-    cursor: &mut Cursor,
-) -> Result<(), AllocError>
-    requires { Ascend (texts_now keys.now) }
-    ensures { OnOk result (Gains (length keys.now) own
-        (λ x. LeadsTo feature.now (nth_text (texts_now keys.now) x))
-        row.old.items row.new.items) }
-{
-    if leads_nowhere(feature) {
-        return Ok(());
-    }
-    push_names(row, &feature.enables_features, keys, own, cursor)?;
-    push_actions(row, &feature.enables_deps, keys, own)?;
-    Ok(())
-}
 
 // The source is put among what enables the feature in this place.
 fn enable_at<'m>(
@@ -96,27 +43,6 @@ pub(crate) fn enable_along<'m>(
     Ok(())
 }
 
-// Each feature learns which others lead to it.
-fn learn_leaders<'m>(
-    alloc: Global,
-    features: &mut Vec<Feature<'m>>,
-    keys: &[&'m str],
-) -> Result<(), AllocError>
-    requires in_order { Ascend (texts_now keys.now) }
-    requires keys { texts_now keys.now ≡ names_of features.old.items }
-    ensures { OnOk result (LearnBy (LeaderBelow features.old.items (length features.old.items))
-        features.old.items features.new.items) }
-{
-    let mut row = Vec::new(alloc);
-    let mut cursor = Cursor::new();
-    for own in 0..keys.len() {
-        row.clear();
-        push_targets(&mut row, &features[own], keys, Node::at(own), &mut cursor)?;
-        enable_along(features, row.as_slice(), keys[own])?;
-    }
-    Ok(())
-}
-
 /// Each feature learns which others enable it: those that name it, and those that act plainly on
 /// the dependency of its name.
 ///
@@ -129,7 +55,16 @@ pub fn set_enablers<'m>(alloc: Global, features: &mut Vec<Feature<'m>>) -> Resul
     ensures unremoved { OnOk result ((t : Table) → AreTable t features.old.items →
         IsUnremoved t (resolution_among features.new.items)) }
 {
-    let keys = keys_of(alloc, features.as_slice())?;
-    learn_leaders(alloc, features, keys.as_slice())?;
+    let count = features.len();
+    let mut texts = keys_of(alloc, features.as_slice())?;
+    let mut look = Look::new(alloc);
+    for own in 0..count {
+        let feature = &features[own];
+        // In long lists most features lead nowhere: for them no function is called.
+        if !leads_nowhere(feature) {
+            look.read(feature, Node::at(own), &mut texts, count)?;
+            enable_along(features, look.edges.as_slice(), texts[own])?;
+        }
+    }
     Ok(())
 }

@@ -42,13 +42,13 @@ pub(crate) fn keys_of<'m>(
 /// Where the next key is looked for first: behind the last one that was found, since names come in
 /// the order of keys.
 #[derive(Drop)]
-pub(crate) struct Cursor {
+struct Cursor {
     near: usize,
 }
 
 impl Cursor {
-    /// Before the first key.
-    pub(crate) fn new() -> Cursor {
+    // Before the first key.
+    fn new() -> Cursor {
         Cursor { near: 0 }
     }
 
@@ -132,8 +132,8 @@ fn push_keys(row: &mut Vec<Node>, nodes: &[Node], count: usize, own: Node) -> Re
     Ok(())
 }
 
-/// The key of this name, if there is one other than the one in place `own`, is put at the end.
-pub(crate) fn push_target(
+// The key of this name, if there is one other than the one in place `own`, is put at the end.
+fn push_target(
     row: &mut Vec<Node>,
     name: &str,
     keys: &[&str],
@@ -159,9 +159,9 @@ fn is_plain(action: &DepAction<'_>) -> bool
     !action.is_conditional && !action.is_dep_only
 }
 
-/// Those that the actions enable, other than the one in place `own`. An implied feature acts on the
-/// dependency of its own name, so the first is looked for there.
-pub(crate) fn push_actions(
+// Those that the actions enable, other than the one in place `own`. An implied feature acts on the
+// dependency of its own name, so the first is looked for there.
+fn push_actions(
     row: &mut Vec<Node>,
     actions: &BTreeMap<&str, DepAction<'_>>,
     keys: &[&str],
@@ -196,17 +196,28 @@ pub(crate) fn leads_nowhere(feature: &Feature<'_>) -> bool
     feature.enables_deps.is_empty()
 }
 
-/// What is used again for each feature.
+/// What one feature leads to and names, in lists that are used again for the next.
 #[derive(Drop)]
-struct Look {
-    edges: Vec<Node>,
+pub(crate) struct Look {
+    /// Where its edges lead.
+    pub edges: Vec<Node>,
     names: Vec<Node>,
     cursor: Cursor,
 }
 
 impl Look {
-    // Reads the feature in place `own`: each of its names is looked for once.
-    fn read<'m>(
+    /// Of no feature.
+    pub(crate) fn new(alloc: Global) -> Look {
+        Look {
+            edges: Vec::new(alloc),
+            names: Vec::new(alloc),
+            cursor: Cursor::new(),
+        }
+    }
+
+    /// Reads the feature in place `own`: each of its names is looked for once. A name that is no key
+    /// is a new text at the end. It fails only where memory runs out.
+    pub(crate) fn read<'m>(
         &mut self,
         feature: &Feature<'m>,
         own: Node,
@@ -309,11 +320,7 @@ fn read_all<'m>(
     let edges = Rows::with_capacity(alloc, count)?;
     let names = Rows::with_capacity(alloc, count)?;
     let mut rows = FeatureRows { edges, names };
-    let mut look = Look {
-        edges: Vec::new(alloc),
-        names: Vec::new(alloc),
-        cursor: Cursor::new(),
-    };
+    let mut look = Look::new(alloc);
     for own in 0..count {
         let feature = &features[own];
         // In long lists most features lead nowhere: for them no function is called.

@@ -7,6 +7,3 @@ pub returns-in_err-text-clause-refused : goal.returns-in_err-text-clause-refused
 returns-in_err-text-clause-refused g c =
     let p = err_from_is_err_and c.from_residual.result c.from_residual.ensures.1 in
     rw p.1 (elim (from_input _ p.0 p.2) [ inl memory ↦ inl memory | inr input ↦ inr (inl input) ])
-
-pub returns-in-Err-clause-refused : goal.returns-in-Err-clause-refused
-returns-in-Err-clause-refused g c = inr (inr (c.as_str.result.now, (c.as_str.utf8, inl c.in-Err.ensures)))

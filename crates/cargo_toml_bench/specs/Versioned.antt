@@ -6,6 +6,7 @@ use Rattle.toml.specs.Parse.{parse_document}
 use Rattle.cargo_toml.specs.Asked.{ManifestMeets}
 use Rattle.cargo_toml.specs.Inheritable.TheVariants.{Set}
 use Rattle.cargo_toml.specs.Manifests.{ManifestMeaning, is_zero, manifest_reads}
+use Rattle.cargo_toml.specs.Packages.{PackageMeaning}
 use Rattle.cargo_toml.specs.Reread.{reread, says_true}
 use Rattle.cargo_toml.specs.Texts.{any_tree, document_reads}
 use Rattle.cargo_toml.specs.Versions.{Parts}
@@ -15,8 +16,8 @@ use Rattle.cargo_toml_bench.specs.Printing.{Spells}
 
 -- a manifest with this version of its package, if it has one
 abbrev pub with_version : {M : Type 0} → Parts → ManifestMeaning M → ManifestMeaning M
-with_version v m = record m {
-  «package» = option_map (λ p. record p { version = Set v }) m.«package»;
+with_version {M = M} v m = record m {
+  «package» = option_map (λ (p : PackageMeaning M). record p { version = Set v }) m.«package»;
 }
 
 -- the text is printed of a tree of the manifest; where that nests no deeper than `toml` reads, the
@@ -28,11 +29,11 @@ pub record IsPrinted (m : ManifestMeaning Data) (text : List ℕ) : Type 0 where
       → document_reads (manifest_reads any_tree) (parse_document text) ≡ Some (reread m)
 
 -- the text is printed of the manifest that the bytes spell, with this version of its package
-pub record IsVersioned (bytes version text : List ℕ) : Type 0 where
+pub record IsVersioned (bytes said text : List ℕ) : Type 0 where
   pub manifest : ManifestMeaning Data
   pub spelled : Spells bytes manifest
   pub parts : Parts
-  pub version : version_parts version ≡ Ok parts
+  pub version : version_parts said ≡ Ok parts
   pub printed : IsPrinted (with_version parts manifest) text
   -- all else is the same, unless a dependency says `workspace = false`, or the version is 0.0.0
   pub same : ManifestMeets says_true manifest → is_zero (Set parts) ≡ false

@@ -3,13 +3,15 @@ ghost use Rattle.std.specs.Prelude.{◌≡◌, IfOk, Ok, option_map, string_byte
 ghost use Rattle.semver.specs.Identifiers.{parts_of};
 ghost use Rattle.semver.specs.Parse.{version_parts};
 ghost use Rattle.toml.specs.View.{view};
+ghost use Rattle.toml.specs.declared.value.Value.{Value};
 ghost use Rattle.cargo_toml.specs.Inheritable.TheVariants.{Set};
 ghost use Rattle.cargo_toml.specs.Manifests.{manifest_meaning};
+ghost use Rattle.cargo_toml.specs.Package.{Package};
 ghost use Rattle.cargo_toml.specs.Reread.{IsTold};
 ghost use Rattle.cargo_toml_bench.specs.Versioned.{IsPrinted, IsVersioned};
 
 use crate::report::print::read;
-use cargo_toml::{Error, Manifest, SemVer, ToValue, Value};
+use cargo_toml::{Error, Inheritable, Manifest, SemVer, ToValue, Value};
 use cargo_toml_write::laws::{read_dependencies_are_told, read_manifests_are_told};
 use cargo_toml_write::write::package::value_metadata;
 use std::alloc::Global;
@@ -43,11 +45,12 @@ fn read_version(alloc: Global, text: &str) -> Result<SemVer, Error>
 // Puts the version into the package, if there is one.
 fn set_version(manifest: &mut Manifest, version: SemVer)
     ensures { manifest.new ≡ record manifest.old {
-      «package» = option_map (λ p. record p { version = Set version }) manifest.old.«package»;
+      «package» = option_map (λ (p : Package Value). record p { version = Set version })
+          manifest.old.«package»;
     } }
 {
     if let Some(package) = &mut manifest.package {
-        package.version.set(version);
+        package.version = Inheritable::Set(version);
     }
 }
 

@@ -8,7 +8,6 @@
 mod acted;
 mod acting;
 mod imply;
-pub mod key;
 mod names;
 mod ordered;
 pub mod places;

@@ -8,8 +8,8 @@ ghost use Rattle.cargo_toml_graph.specs.Ascending.{Ascend};
 ghost use Rattle.cargo_toml_full.specs.Slots.{HaveSameNames, held_in, names_in};
 ghost use Rattle.cargo_toml_features.specs.Places.{nth_text};
 
-use crate::key::Key;
 use crate::slots::Slots;
+use cargo_toml_features::node::Node;
 use cargo_toml_features::texts::{is_same, place_of};
 use std::alloc::{AllocError, Global};
 
@@ -65,17 +65,17 @@ impl<'n, V: Drop> Slots<'n, V> {
     }
 
     /// The key of a name, if it is there. It is looked for as by [`place_near`].
-    pub fn key_near(&self, name: &str, near: usize) -> Option<Key>
+    pub fn key_near(&self, name: &str, near: usize) -> Option<Node>
         ensures found { IfSome result (λ k. (k < length self.now.names.items)
             × (nth_text (names_in self.now) k ≡ name.now)) }
         ensures missing { result ≡ None → ¬ Among (names_in self.now) name.now }
     {
         let place = place_near(self.names.as_slice(), name, near)?;
-        Some(Key::at(place))
+        Some(Node::at(place))
     }
 
     /// Puts a value under a key.
-    pub fn put(&mut self, key: Key, value: V)
+    pub fn put(&mut self, key: Node, value: V)
         requires key { key < length self.old.names.items }
         ensures same_names { HaveSameNames self.old self.new }
         ensures held { (f : Text) → held_in self.new f

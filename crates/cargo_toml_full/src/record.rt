@@ -14,13 +14,13 @@ ghost use Rattle.cargo_toml_full.specs.Slots.{HaveSameNames, names_in};
 ghost use Rattle.cargo_toml_features.specs.Views.{entry_of, recorded_in, target_in};
 ghost use Rattle.cargo_toml_features.specs.Places.{nth_text};
 
-use crate::key::Key;
 use crate::names::ascending;
 use crate::ordered::is_there;
 use crate::places::empty_slots;
 use crate::read::Mentions;
 use crate::slots::Slots;
 use cargo_toml_features::features::{FeatureDependency, ParseDependency, TargetKey};
+use cargo_toml_features::node::Node;
 use std::alloc::{AllocError, Global};
 use std::collections::BTreeMap;
 
@@ -106,7 +106,7 @@ fn counting_entries<'m: 'd, 'd>(
 fn record_at<'m: 'd, 'd>(
     alloc: Global,
     dependencies: &mut Slots<'d, FeatureDependency<'d>>,
-    key: Key,
+    key: Node,
     entry: &ParseDependency<'m, 'd>,
 ) -> Result<(), AllocError>
     requires key { key < length dependencies.old.names.items }

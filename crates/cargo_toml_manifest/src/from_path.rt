@@ -110,7 +110,8 @@ impl Manifest {
         alloc: Global,
         path: &'a str,
     ) -> Result<Manifest, Error>
-        ensures given { IfOk result (IsReadAndCompleted (manifest_meaning view) (manifest_reads any_tree)) }
+        ensures given { IfOk result
+            (IsReadAndCompleted (manifest_meaning view) (manifest_reads any_tree)) }
         ensures named { OnOk result (IsSome (path_parent path.now)) }
         ensures needs { IfOk result (λ new. needs (held new) ≡ false) }
         ensures filled { IfOk result (λ new. IfSome new.package IsFilled) }

@@ -13,9 +13,9 @@ use crate::tables::{parents_of, pass_on, table_of};
 use cargo_toml_features::node::Node;
 use std::alloc::{AllocError, Global};
 
-/// Whether the rows have many nodes: whether a table of bits over `count` nodes takes no more memory
-/// than they do, so that it is worth its cost. Rows of a few nodes are walked faster. It decides
-/// speed and memory alone, so no clause says when it is true.
+/// Whether the rows have many nodes: whether a table of bits over `count` nodes takes no more
+/// memory than they do, so that it is worth its cost. Rows of a few nodes are walked faster. It
+/// decides speed and memory alone, so no clause says when it is true.
 pub fn is_dense(rows: &Rows, count: usize) -> bool {
     let least = (count / 64).max(16);
     rows.total() >= rows.len().saturating_mul(least)

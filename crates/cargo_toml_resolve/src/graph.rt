@@ -10,7 +10,8 @@ use crate::rows::Rows;
 /// Features as a graph of nodes.
 ///
 /// A node is the place of a text. The features come first, in the byte order of their names, and
-/// are the vertices; what they name beside them comes after, once for each mention, and has no edges.
+/// are the vertices. What they name beside them comes after, once for each mention, and has no
+/// edges.
 #[derive(Debug, Drop)]
 pub struct Graph<'m> {
     /// The texts of the nodes.

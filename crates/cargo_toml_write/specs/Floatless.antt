@@ -17,7 +17,8 @@ use Rattle.cargo_toml_settings.specs.declared.profile_settings.StripSetting.TheV
 use Rattle.cargo_toml_settings.specs.Settings.{flag, path, everywhere, among}
 use Rattle.cargo_toml_tables.specs.Lints.{LintMeaning}
 use Rattle.cargo_toml_write.specs.Requirements.{requirement_text}
-use Rattle.cargo_toml_write.specs.Ways.{exactly, entry_rows, free_way, requirement_way, list_way, map_way, AreItems}
+use Rattle.cargo_toml_write.specs.Ways.{exactly, entry_rows, free_way, requirement_way}
+use Rattle.cargo_toml_write.specs.Ways.{list_way, map_way, AreItems}
 use Rattle.cargo_toml_write.specs.Ways.{inheritable_way, text_way, texts_way}
 use Rattle.cargo_toml_write.specs.WrittenDependencies.{inherited_rows, detail_rows, dependency_way}
 use Rattle.cargo_toml_write.specs.WrittenDependencies.{detail_way}

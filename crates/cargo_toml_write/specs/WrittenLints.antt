@@ -8,7 +8,8 @@ use Rattle.cargo_toml_parts.specs.declared.error.Error.{Error}
 use Rattle.cargo_toml_parts.specs.Reads.{is_among}
 use Rattle.cargo_toml_tables.specs.Lints.{LintMeaning, lint_keys}
 use Rattle.cargo_toml_write.specs.Ways.{Ascend, entry_rows, free_way, is_nil, map_way, small_way}
-use Rattle.cargo_toml_write.specs.Writes.{Way, Row, never_left_out, required_row, table_way, telling}
+use Rattle.cargo_toml_write.specs.Writes.{Way, Row, never_left_out, required_row, table_way}
+use Rattle.cargo_toml_write.specs.Writes.{telling}
 use Rattle.cargo_toml_write.specs.WrittenSettings.{level_way}
 
 -- the level says all of the lint

@@ -13,7 +13,8 @@ ghost use Rattle.cargo_toml_write.specs.NoFloats.{PackageHoldsNoFloat};
 ghost use Rattle.cargo_toml_write.specs.Ways.{free_way};
 ghost use Rattle.cargo_toml_write.specs.WrittenPackages.{package_rows};
 ghost use Rattle.cargo_toml_write.specs.WrittenPackages.{package_way, VersionAgain, MetadataAgain};
-ghost use Rattle.cargo_toml_write.specs.WrittenPackages.{template_rows, template_way, TemplateAgain};
+ghost use Rattle.cargo_toml_write.specs.WrittenPackages.{TemplateAgain, template_rows};
+ghost use Rattle.cargo_toml_write.specs.WrittenPackages.{template_way};
 ghost use Rattle.cargo_toml_write.specs.WrittenPackages.{AreReadAgain};
 ghost use Rattle.cargo_toml_write.specs.Writes.{IsWriting, IsReadAgain, HasTree};
 

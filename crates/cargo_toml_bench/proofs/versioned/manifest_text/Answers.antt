@@ -1,0 +1,23 @@
+use Rattle.std.proofs.Common.{◌≡◌, ◌∙◌, Some, ap, subst}
+use Rattle.toml.specs.Data.{Data, table}
+use Rattle.toml.specs.View.{view, table_view}
+use Rattle.toml.proofs.Views.{view-Table}
+use Rattle.cargo_toml.specs.Floats.{without_floats}
+use Rattle.cargo_toml.specs.Manifests.{manifest_meaning, manifest_reads}
+use Rattle.cargo_toml.specs.Reread.{reread}
+use Rattle.cargo_toml.specs.Texts.{any_tree, document_reads}
+use Rattle.cargo_toml.specs.Ways.{free_way}
+use Rattle.cargo_toml.specs.WrittenManifests.{manifest_way}
+use Rattle.cargo_toml_bench.proofs.versioned.manifest_text.Goals as goal
+
+pub returns-in-Ok : goal.returns-in-Ok
+returns-in-Ok c =
+    let m = manifest_meaning view c.args.manifest.now in
+    let seen : view c.in_ok-table.field-0 ≡ table (table_view c.in-Table.table) = ap view c.in-Table.is ∙ view-Table c.in-Table.table in
+    record {
+      tree = table_view c.in-Table.table;
+      written = subst (λ (d : Data). (manifest_way free_way).trees m d) seen c.in_ok-table.ensures.written;
+      again = λ shallow.
+          ap (document_reads (manifest_reads any_tree)) (c.in-Ok.ensures.reads_back shallow)
+          ∙ subst (λ (d : Data). without_floats (manifest_reads any_tree) d ≡ Some (reread m)) seen (c.in_ok-table.ensures.read_again c.requires c.value_metadata.ensures.any);
+    }

@@ -2,9 +2,6 @@ pub mod Gathering
 pub mod Entries
 pub mod Unreferenced
 pub mod Enabling
-pub mod MemberFeatures
-mod Rewriting
-mod FloatFaults
 pub mod ToldAt
 pub mod RootTold
 pub mod Texts

@@ -1,8 +1,8 @@
-use Rattle.std.proofs.Common.{false, true, IfOk, subst}
+use Rattle.std.proofs.Common.{false}
 use Rattle.std.proofs.lemmas.Result.{IfOk-weaker}
 use Rattle.cargo_toml.specs.Limits.{MAX_ITEMS}
 use Rattle.cargo_toml.specs.Manifests.{manifest_meaning}
-use Rattle.cargo_toml.specs.Parsed.{IsHiding, IsParsed}
+use Rattle.cargo_toml.specs.Parsed.{IsParsed}
 use Rattle.cargo_toml.specs.Views.{answer_of}
 use Rattle.cargo_toml_bench.proofs.AtLimit.{parsed_at}
 use Rattle.cargo_toml_bench.proofs.Filters.{keeps_none}
@@ -16,9 +16,3 @@ returns-clause-resolved g c =
     IfOk-weaker c.parse.result _ (λ a. IsParsed MAX_ITEMS m (λ _. false) (answer_of a))
     (λ a by. parsed_at m (λ _. false) (answer_of a) made.limit (by.told (λ _. false) tells))
     c.parse.ensures.resolved
-
-pub returns-clause-hiding : goal.returns-clause-hiding
-returns-clause-hiding g c =
-    let m = manifest_meaning (λ m. m) c.args.manifest.now in
-    subst (λ n. IfOk c.parse.result (λ a. IsHiding (IsParsed n m (λ _. true)) (answer_of a)))
-    c.new-resolver.ensures.limit c.parse.ensures.hiding

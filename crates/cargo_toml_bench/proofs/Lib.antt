@@ -9,11 +9,9 @@ mod Filters
 mod SameAnswers
 mod Sorted
 mod AtLimit
-mod UserFacing
 mod Put
 mod AllNames
 mod FeatureNames
-mod Outcomes
 mod LeftMember
 mod Turns
 mod Taken

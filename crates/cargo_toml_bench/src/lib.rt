@@ -5,7 +5,6 @@
 #![tactic(auto)]
 
 pub mod bodies;
-pub mod documented;
 pub mod in_memory;
 pub mod members;
 pub mod pairs;

@@ -2,7 +2,6 @@
 ghost use Rattle.std.specs.Prelude.{◌≡◌, ◌⊎◌, IfErr, IfOk, OnOk, option_map};
 ghost use Rattle.cargo_toml.specs.Choosing.{handed_of, roots_of};
 ghost use Rattle.cargo_toml.specs.Completed.{IsCompleted};
-ghost use Rattle.cargo_toml.specs.Completing.{Meets, complete};
 ghost use Rattle.cargo_toml.specs.Error.{Memory};
 ghost use Rattle.cargo_toml.specs.Manifests.{held};
 ghost use Rattle.cargo_toml.specs.Refusing.{IsRefusedBy, MayLose};
@@ -27,9 +26,6 @@ pub fn count_features<Fs: AbstractFilesystem + Drop>(
         (IsCompleted member.old (option_map handed_of workspace.entry)
         (roots_of Fs.Roots.ARE_FOUND (Fs.root_for files)) (Fs.may_find files) (Fs.names_at files)
         member.new) }
-    ensures outcome { Meets (λ _. held member.new)
-        (complete (held member.old) (option_map handed_of workspace.entry)
-        (roots_of Fs.Roots.ARE_FOUND (Fs.root_for files)) (Fs.names_at files)) result }
     ensures left { IfErr result (λ e. (member.new ≡ member.old)
         ⊎ ((e ≡ Memory) × IsCompleted member.old (option_map handed_of workspace.entry)
         (roots_of Fs.Roots.ARE_FOUND (Fs.root_for files)) (Fs.may_find files) (Fs.names_at files)

@@ -1,10 +1,10 @@
-use Rattle.std.proofs.Common.{false, Some, Ok, ap, ◌∙◌}
+use Rattle.std.proofs.Common.{false, Some, ap, ◌∙◌}
 use Rattle.cargo_toml.specs.Limits.{MAX_ITEMS}
 use Rattle.cargo_toml.specs.Manifests.{held}
 use Rattle.cargo_toml.specs.Parsed.{IsParsed}
 use Rattle.cargo_toml.specs.Views.{answer_of}
 use Rattle.cargo_toml_bench.proofs.FeatureNames.{counted}
-use Rattle.cargo_toml_bench.proofs.LeftMember.{parsed_of_left, outcome_of_fault, outcome_of_left}
+use Rattle.cargo_toml_bench.proofs.LeftMember.{parsed_of_left}
 use Rattle.cargo_toml_bench.proofs.members.count_features.Goals as goal
 
 pub returns-in-Some-Ok-clause-counted : goal.returns-in-Some-Ok-clause-counted
@@ -21,20 +21,3 @@ returns-in-Some-Ok-clause-counted g c =
     into.ensures.answered into.ensures.resolved in
     counted (held member) resolved.features parsed.kept.resolved c.len.result c.len.ensures.len
     c.len.ensures.unique
-
-pub returns-in-Some-Ok-clause-outcome : goal.returns-in-Some-Ok-clause-outcome
-returns-in-Some-Ok-clause-outcome g c =
-    let into = c.complete_and_parse_into in
-    outcome_of_left c.args.member.now into.follows.lender-at-none _ _
-    c.new-resolver.result.should_keep_hidden_feature c.new-resolver.result.max_items into.result into.new.slot
-    c.in-Some-Ok.resolved (Ok c.len.result) into.follows.holds-at-none
-    (c.in-Some-Ok.is ∙ ap Some c.in-Some-Ok.field-0-is) into.ensures.answered
-    into.ensures.resolved tt
-
-pub returns-in-Some-Err-clause-outcome : goal.returns-in-Some-Err-clause-outcome
-returns-in-Some-Err-clause-outcome g c =
-    let into = c.complete_and_parse_into in
-    outcome_of_fault c.args.member.now into.follows.lender-at-none _ _
-    c.new-resolver.result.should_keep_hidden_feature c.new-resolver.result.max_items _ into.result into.new.slot
-    c.in-Some-Err.fault (c.in-Some-Err.is ∙ ap Some c.in-Some-Err.field-0-is)
-    into.ensures.resolved

@@ -1,4 +1,5 @@
 pub mod Collected
+pub mod CompletedTold
 pub mod Entries
 pub mod FloatlessAgain
 pub mod FreeTrees

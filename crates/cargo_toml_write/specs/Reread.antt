@@ -92,5 +92,5 @@ pub record SharedIsTold (w : Shared) : Type 0 where
 
 -- so is the workspace that a manifest inherits from
 abbrev pub ChoiceIsTold : Choice → Type 0
-ChoiceIsTold (choice.from w path) = IfSome w SharedIsTold
+ChoiceIsTold (choice.from handed) = IfSome handed (λ h. IfSome h.0 SharedIsTold)
 ChoiceIsTold other = Unit {0}

@@ -9,8 +9,8 @@ use std::fs;
 use std::hash::{BuildHasherDefault, FoldHasher};
 use std::rt::Files;
 
-/// A line `LEVEL | CODE | FEATURE | TEXT | words` for each finding of the manifest in a file, at a limit
-/// of items where one is handed in.
+/// A line `LEVEL | CODE | FEATURE | TEXT | words` for each finding of the manifest in a file, at a
+/// limit of items where one is handed in.
 pub fn lines<R: Files + AllocGlobal>(
     rt: &R,
     file: &str,

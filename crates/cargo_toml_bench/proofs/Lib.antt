@@ -3,9 +3,7 @@ pub mod Entries
 pub mod Unreferenced
 pub mod Enabling
 pub mod MemberFeatures
-mod Rewriting
 mod WithVersion
-mod FloatFaults
 pub mod ToldAt
 pub mod RootTold
 pub mod Texts

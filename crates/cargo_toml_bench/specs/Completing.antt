@@ -39,18 +39,3 @@ module _ (bytes path : List ℕ) (old : Manifest Value) (roots : RootsTold) (fou
       ⊎ ((workspace : Manifest Value) × (SpellsManifest bytes workspace
       × (Meets held (complete (held old) (handed_at workspace path) roots told) (Err e)
       × IsRefusedBy (held old) (handed_at workspace path) roots found lost names e)))
-
-module _ (member bytes path : List ℕ) (roots : RootsTold) (found : MayFind) where
-  -- so completed is the member that the first bytes spell
-  pub record IsReadFrom (told : List ℕ → Told) (new : Manifest Value) : Type 0 where
-    pub old : Manifest Value
-    pub spelled : SpellsManifest member old
-    pub completed : IsCompletedFrom bytes path old roots found told new
-
-  -- why there is none: those bytes are no manifest, or the one that they spell isn't completed
-  abbrev pub IsUnreadFrom : (List ℕ → Told) → (Option (List ℕ) → Fault → Type 0)
-      → (List ℕ → Fault → Type 0) → Error → Type 0
-  IsUnreadFrom told lost names e =
-      RefusesBytes member e
-      ⊎ ((old : Manifest Value) × (SpellsManifest member old
-      × IsRefusedFrom bytes path old roots found told lost names e))

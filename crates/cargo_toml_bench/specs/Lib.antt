@@ -2,12 +2,10 @@
 pub mod Reports
 pub mod Printing
 pub mod Documented
-pub mod Filtered
 pub mod Alike
 pub mod Enabled
 pub mod Members
 pub mod Completing
-pub mod Rewriting
 pub mod Versioned
 pub mod InMemory
 -- the code's own steps, in contracts of inner functions and of `plain` alone: no caller's promise

@@ -1,5 +1,4 @@
-//! A manifest's features, with none removed, with one hidden name kept, and both with none
-//! and with all removed.
+//! A manifest's features, with none removed, with one hidden name kept, and with all removed.
 ghost use Rattle.std.specs.Prelude.{◌≡◌, Bool, Some, false, true, bytes_eq, codes, IfErr, IfOk};
 ghost use Rattle.cargo_toml.specs.Action.{Text};
 ghost use Rattle.cargo_toml.specs.Error.{Memory};
@@ -9,7 +8,6 @@ ghost use Rattle.cargo_toml.specs.Manifests.{held};
 ghost use Rattle.cargo_toml.specs.Parsed.{IsHiding, IsParsed};
 ghost use Rattle.cargo_toml.specs.Reached.{IsKeyed};
 ghost use Rattle.cargo_toml.specs.Views.{answer_of};
-ghost use Rattle.cargo_toml_bench.specs.Filtered.{HidesAlone};
 
 use cargo_toml::features::{Features, Resolver};
 use cargo_toml::{Error, Manifest};
@@ -88,27 +86,4 @@ pub(crate) fn resolve_shown<'m, M>(
 {
     let resolver = Resolver::new();
     resolver.parse(alloc, manifest)
-}
-
-/// Resolves the features of a manifest twice: first with none removed, then without the hidden
-/// ones.
-///
-/// Each is the answer to the manifest. Between features of the second, what enables what
-/// transitively is the same in both, and none of them enables less by the second. The one refusal
-/// is [`Error::Memory`].
-pub fn resolve_both<'m, M>(
-    alloc: Global,
-    manifest: &'m Manifest<M>,
-) -> Result<(Answer<'m>, Answer<'m>), Error>
-    ensures whole { IfOk result (λ p.
-        IsParsed MAX_ITEMS (held manifest.now) (λ _. true) (answer_of p.0)) }
-    ensures shown { IfOk result (λ p.
-        IsParsed MAX_ITEMS (held manifest.now) (λ _. false) (answer_of p.1)) }
-    ensures hiding { IfOk result
-        (λ p. HidesAlone (answer_of p.0).resolution (answer_of p.1).resolution) }
-    ensures refused { IfErr result (λ e. e ≡ Memory) }
-{
-    let whole = resolve_whole(alloc, manifest)?;
-    let shown = resolve_shown(alloc, manifest)?;
-    Ok((whole, shown))
 }

@@ -5,23 +5,18 @@ pub mod audience;
 pub mod custom;
 pub mod dependencies;
 pub mod limited;
-pub mod targets;
 
 ghost use Rattle.std.specs.Prelude.{◌≡◌, IfErr, IfOk};
-ghost use Rattle.semver.specs.Identifiers.{parts_of};
 ghost use Rattle.toml.specs.View.{view};
-ghost use Rattle.cargo_toml.specs.Inherits.{inheritable_map};
 ghost use Rattle.cargo_toml.specs.Manifests.{held};
-ghost use Rattle.cargo_toml.specs.Packages.{held_package, package_reads};
 ghost use Rattle.cargo_toml.specs.WrittenManifests.{manifest_way};
-ghost use Rattle.cargo_toml.specs.WrittenPackages.{package_way, VersionAgain};
-ghost use Rattle.cargo_toml.specs.Writes.{IsReadAgain, IsWriting};
+ghost use Rattle.cargo_toml.specs.Writes.{IsWriting};
 ghost use Rattle.cargo_toml_caller.specs.Audiences.{IsAudienceOf, Refuses, audience_way};
-ghost use Rattle.cargo_toml_caller.specs.Audiences.{IsRewrittenOwn, audience_reads, audience_in};
+ghost use Rattle.cargo_toml_caller.specs.Audiences.{IsRewrittenOwn, audience_in};
 ghost use Rattle.cargo_toml_caller.specs.Audiences.{RefusesRewriting};
 
 pub use audience::Audience;
-use cargo_toml::{Error, Manifest, Package, ToValue, Value};
+use cargo_toml::{Error, Manifest, ToValue, Value};
 use std::alloc::Global;
 
 /// Who may rely on the package of the manifest that the bytes spell; `None` where there is no
@@ -62,15 +57,4 @@ pub fn rewrite(alloc: Global, bytes: &[u8]) -> Result<Value, Error>
 {
     let manifest: Manifest<Audience> = Manifest::from_slice_with_metadata(alloc, bytes)?;
     write_manifest(alloc, &manifest)
-}
-
-/// A tree of the package, from which it is read again, its metadata too.
-pub fn write_package(alloc: Global, package: &Package<Audience>) -> Result<Value, Error>
-    ensures written { IsWriting (package_way audience_way)
-        (held_package «package».now) result }
-    ensures read_again { VersionAgain (inheritable_map parts_of «package».now.version)
-        → IsReadAgain (package_reads audience_reads)
-        (held_package «package».now) result }
-{
-    package.to_value(alloc)
 }

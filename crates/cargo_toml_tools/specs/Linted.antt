@@ -13,9 +13,10 @@ weighs Error = true
 weighs Hint = false
 weighs Warning = true
 
--- what some error or some warning says holds of a feature
+-- what some error or some warning says holds of a feature and a text
 pub record IsAmiss {M : Type 0} (m : ManifestMeaning M) : Type 0 where
   pub code : Code
   pub feature : Text
+  pub text : Text
   pub weighed : IsTrue (weighs (code_level code))
-  pub holds : HoldsOf 2048 m code feature
+  pub holds : HoldsOf 2048 m code feature text

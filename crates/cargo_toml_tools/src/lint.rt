@@ -3,6 +3,7 @@ ghost use Rattle.std.specs.Prelude.{◌≡◌, ◌↔◌, IfErr, IfOk, IsTrue};
 ghost use Rattle.std.specs.List.{list_any};
 ghost use Rattle.cargo_toml.specs.Error.{Memory};
 ghost use Rattle.cargo_toml.specs.Manifests.{held};
+ghost use Rattle.cargo_toml_lint.specs.Findings.{code_level};
 ghost use Rattle.cargo_toml_tools.specs.Linted.{IsAmiss, weighs};
 
 use crate::escape::{Format, push_escaped};
@@ -13,8 +14,8 @@ use std::hash::BuildHasher;
 
 /// The findings of a manifest as lines, and whether one is an error or a warning.
 ///
-/// A line is `LEVEL | CODE | FEATURE | words`. They stand in byte order of level, code and feature,
-/// and each begins with the name of the file where one is given.
+/// A line is `LEVEL | CODE | FEATURE | TEXT | words`. They stand in byte order of level, code,
+/// feature and text, and each begins with the name of the file where one is given.
 pub fn lint_lines<M, S: BuildHasher + Clone + Drop>(
     alloc: Global,
     state: S,
@@ -33,9 +34,9 @@ pub fn lint_lines<M, S: BuildHasher + Clone + Drop>(
 
 /// Whether one of the findings is an error or a warning.
 fn is_amiss(findings: &[Finding<'_>]) -> bool
-    ensures { result ≡ list_any (λ x. weighs x.level) findings.now }
+    ensures { result ≡ list_any (λ x. weighs (code_level x.code)) findings.now }
 {
-    findings.iter().any(|finding| weighs(finding.level))
+    findings.iter().any(|finding| weighs(finding.code.level()))
 }
 
 fn weighs(level: Level) -> bool
@@ -68,12 +69,14 @@ fn push_finding(
         push_escaped(text, file, Format::Line)?;
         text.push_str(": ")?;
     }
-    text.push_str(finding.level.name())?;
+    text.push_str(finding.code.level().name())?;
     text.push_str(" | ")?;
     text.push_str(finding.code.name())?;
     text.push_str(" | ")?;
     push_escaped(text, finding.feature, Format::Line)?;
     text.push_str(" | ")?;
-    text.push_str(finding.words)?;
+    push_escaped(text, finding.text, Format::Line)?;
+    text.push_str(" | ")?;
+    text.push_str(finding.code.words())?;
     text.push_str("\n")
 }

@@ -3,7 +3,7 @@
 pub use Rattle.cargo_toml_resolver.specs.Filtered
 pub use Rattle.cargo_toml_resolver.specs.Parsed
 pub use Rattle.cargo_toml_resolver.specs.Lent
-pub use Rattle.cargo_toml_paths.specs.Paths
+pub use Rattle.cargo_toml_parts.specs.Paths
 pub use Rattle.cargo_toml_parts.specs.Answers
 pub use Rattle.cargo_toml_parts.specs.Faults
 pub use Rattle.cargo_toml_parts.specs.FaultValues
@@ -14,12 +14,12 @@ pub use Rattle.cargo_toml_parts.specs.Inherits
 pub use Rattle.cargo_toml_parts.specs.Lending
 pub use Rattle.cargo_toml_parts.specs.Numbers
 pub use Rattle.cargo_toml_parts.specs.OwnWords
-pub use Rattle.cargo_toml_settings.specs.ProfileSettings
+pub use Rattle.cargo_toml_tables.specs.ProfileSettings
 pub use Rattle.cargo_toml_parts.specs.Readings
 pub use Rattle.cargo_toml_parts.specs.Reads
-pub use Rattle.cargo_toml_settings.specs.SettingAnswers
-pub use Rattle.cargo_toml_settings.specs.Settings
-pub use Rattle.cargo_toml_settings.specs.SettingsLaws
+pub use Rattle.cargo_toml_tables.specs.SettingAnswers
+pub use Rattle.cargo_toml_tables.specs.Settings
+pub use Rattle.cargo_toml_tables.specs.SettingsLaws
 pub use Rattle.cargo_toml_parts.specs.Versions
 pub use Rattle.cargo_toml_parts.specs.Wrapping
 pub use Rattle.cargo_toml_tables.specs.Badges
@@ -60,8 +60,8 @@ pub use Rattle.cargo_toml_discovery.specs.Names
 pub use Rattle.cargo_toml_discovery.specs.Seen
 pub use Rattle.cargo_toml_discovery.specs.Sorting
 pub use Rattle.cargo_toml_discovery.specs.Told as ToldFolders
-pub use Rattle.cargo_toml_workspace.specs.Sharing
-pub use Rattle.cargo_toml_workspace.specs.Workspaces
+pub use Rattle.cargo_toml_package.specs.Sharing
+pub use Rattle.cargo_toml_package.specs.Workspaces
 pub use Rattle.cargo_toml_write.specs.Asked
 pub use Rattle.cargo_toml_write.specs.NoFloats
 pub use Rattle.cargo_toml_write.specs.Requirements
@@ -114,7 +114,7 @@ pub use Rattle.cargo_toml_parts.specs.declared.inheritable.Inheritable
 pub use Rattle.cargo_toml_dependencies.specs.declared.dependency.Dependency
 pub use Rattle.cargo_toml_package.specs.declared.package.Package
 pub use Rattle.cargo_toml_manifest.specs.declared.manifest.Manifest
-pub use Rattle.cargo_toml_workspace.specs.declared.workspace.Workspace
+pub use Rattle.cargo_toml_package.specs.declared.workspace.Workspace
 pub use Rattle.cargo_toml_features.specs.declared.features.Feature
 pub use Rattle.cargo_toml_features.specs.declared.features.Kind
 -- the number of items that count

@@ -15,7 +15,7 @@ pub use cargo_toml_manifest::{
 };
 pub use cargo_toml_package::{Package, PackageTemplate};
 pub use cargo_toml_parts::{Error, FromValue, Inheritable, ParseFault, SemVer, Value, VersionReq};
-pub use cargo_toml_settings::{
+pub use cargo_toml_tables::{
     DebugSetting, Edition, LtoSetting, OptionalFile, Publish, Resolver, StripSetting,
 };
 pub use cargo_toml_tables::{

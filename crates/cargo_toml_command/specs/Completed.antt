@@ -8,8 +8,8 @@ use Rattle.cargo_toml_package.specs.Packages.{PackageMeaning}
 use Rattle.cargo_toml_parts.specs.declared.inheritable.Inheritable.{Inheritable}
 use Rattle.cargo_toml_parts.specs.declared.inheritable.Inheritable.TheVariants.{Set, Inherited}
 use Rattle.cargo_toml_print.specs.Lines.{between_commas}
-use Rattle.cargo_toml_settings.specs.SettingAnswers.{shown}
-use Rattle.cargo_toml_settings.specs.Settings.{File}
+use Rattle.cargo_toml_tables.specs.SettingAnswers.{shown}
+use Rattle.cargo_toml_tables.specs.Settings.{File}
 use Rattle.cargo_toml_tables.specs.Products.{ProductMeaning}
 
 -- what follows in a line, or "-" where it isn't known

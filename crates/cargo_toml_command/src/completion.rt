@@ -12,15 +12,14 @@ ghost use Rattle.cargo_toml_package.specs.Packages.{held_package};
 ghost use Rattle.cargo_toml_parts.specs.Inherits.{inheritable_map};
 ghost use Rattle.cargo_toml_print.specs.Lines.{between_commas};
 ghost use Rattle.cargo_toml_print.specs.Printing.{IsOfOutput};
-ghost use Rattle.cargo_toml_settings.specs.SettingAnswers.{shown};
-ghost use Rattle.cargo_toml_settings.specs.Settings.{file_meaning};
+ghost use Rattle.cargo_toml_tables.specs.SettingAnswers.{shown};
+ghost use Rattle.cargo_toml_tables.specs.Settings.{file_meaning};
 ghost use Rattle.cargo_toml_tables.specs.Products.{product_meaning};
 
 use cargo_toml_manifest::Manifest;
 use cargo_toml_package::Package;
 use cargo_toml_parts::{Error, Inheritable};
-use cargo_toml_settings::OptionalFile;
-use cargo_toml_tables::Product;
+use cargo_toml_tables::{OptionalFile, Product};
 use std::alloc::{AllocError, Global};
 use std::io::Write;
 

@@ -4,8 +4,8 @@ use Rattle.std.proofs.Math.Bool.{or_assoc}
 use Rattle.std.proofs.lemmas.Bool.{or_left, or_right}
 use Rattle.std.specs.List.{list_any, cons_option}
 use Rattle.std.specs.Str.{bytes_eq}
-use Rattle.cargo_toml_settings.specs.Settings.{File, flag, path}
-use Rattle.cargo_toml_settings.specs.declared.settings.Edition.{Edition}
+use Rattle.cargo_toml_tables.specs.Settings.{File, flag, path}
+use Rattle.cargo_toml_tables.specs.declared.settings.Edition.{Edition}
 use Rattle.cargo_toml_tables.specs.Products.{ProductMeaning}
 use Rattle.cargo_toml_discovery.proofs.Ranks.{products_rank}
 use Rattle.cargo_toml_discovery.proofs.Stable.{one_sort, sorted-sorted_by, filter-sorted_by}

@@ -8,7 +8,7 @@ use Rattle.std.specs.Ordering.{nat_cmp, is_lt}
 use Rattle.std.specs.declared.cmp.Ordering.{Ordering}
 use Rattle.std.specs.declared.cmp.Ordering.TheVariants.{Less, Equal, Greater}
 use Rattle.std.specs.Cmp.Lexicographic.{slice_cmp, nat_list_cmp_total}
-use Rattle.cargo_toml_settings.specs.declared.settings.Edition.{Edition}
+use Rattle.cargo_toml_tables.specs.declared.settings.Edition.{Edition}
 use Rattle.cargo_toml_discovery.specs.Found.{Offered, product_for, product_among, last_waiting, last_product, has_offer}
 use Rattle.cargo_toml_discovery.specs.Names.{Name}
 use Rattle.cargo_toml_discovery.specs.Walk.{walk, with_extra, without}

@@ -2,7 +2,7 @@ use Rattle.std.proofs.Common.{◌≡◌, Bool, true, false, cond, List, [], ◌�
 use Rattle.std.specs.Option.{option_map, option_copied}
 use Rattle.std.specs.Str.{bytes_eq}
 use denote.Ref.{Bor}
-use Rattle.cargo_toml_settings.specs.declared.settings.Edition.{Edition}
+use Rattle.cargo_toml_tables.specs.declared.settings.Edition.{Edition}
 use Rattle.cargo_toml_tables.specs.declared.product.Product as code_product
 use Rattle.cargo_toml_discovery.specs.Found.{Offered, product_for}
 use Rattle.cargo_toml_discovery.specs.Names.{Name}

@@ -9,7 +9,7 @@ use Rattle.std.specs.List.Sorted.{IsStrictlySortedBy}
 use Rattle.std.specs.Ordering.{nat_cmp}
 use Rattle.std.specs.Str.{bytes_eq}
 use denote.Ref.{Bor}
-use Rattle.cargo_toml_settings.specs.declared.settings.Edition.{Edition}
+use Rattle.cargo_toml_tables.specs.declared.settings.Edition.{Edition}
 use Rattle.cargo_toml_tables.specs.Products.{ProductMeaning, product_meaning}
 use Rattle.cargo_toml_tables.specs.declared.product.Product.{Product}
 use Rattle.cargo_toml_discovery.specs.declared.found.Offer as code_offer

@@ -10,15 +10,14 @@ ghost use Rattle.cargo_toml_discovery.specs.Discovering.{product_lent, readme_in
 ghost use Rattle.cargo_toml_discovery.specs.Found.{Offered};
 ghost use Rattle.cargo_toml_discovery.specs.Names.{has_text};
 ghost use Rattle.cargo_toml_discovery.specs.Walk.{IsOffer};
-ghost use Rattle.cargo_toml_settings.specs.Settings.{file_meaning};
+ghost use Rattle.cargo_toml_tables.specs.Settings.{file_meaning};
 ghost use Rattle.cargo_toml_tables.specs.Products.{product_meaning};
 
 use crate::found::{Offer, StatedList, found};
 use crate::listings::{Listings, Wanted};
 use crate::names::underscored;
 use crate::products::{copied, copies, is_path_of, plain, sort_products};
-use cargo_toml_settings::{Edition, OptionalFile};
-use cargo_toml_tables::Product;
+use cargo_toml_tables::{Edition, OptionalFile, Product};
 use std::alloc::{AllocError, Global};
 
 /// What a manifest states of its package and of its products.

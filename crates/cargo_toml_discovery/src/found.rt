@@ -17,8 +17,7 @@ ghost use Rattle.cargo_toml_tables.specs.Products.{ProductMeaning, product_meani
 use crate::listings::Entry;
 use crate::names::{in_folder, is_source, stem};
 use crate::products::{copied, plain, sort_products};
-use cargo_toml_settings::Edition;
-use cargo_toml_tables::Product;
+use cargo_toml_tables::{Edition, Product};
 use std::alloc::{AllocError, Global};
 use std::collections::{BTreeMap, BTreeSet};
 

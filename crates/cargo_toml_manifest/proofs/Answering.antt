@@ -20,7 +20,7 @@ use Rattle.cargo_toml_manifest.specs.Manifests.{ManifestMeaning, manifest_meanin
 use Rattle.cargo_toml_manifest.specs.Refusing.{IsRefusedAt, IsRefusedBy}
 use Rattle.cargo_toml_manifest.specs.Told.{AnswersRoot, ToldRoot, no_root, open_root, root}
 use Rattle.cargo_toml_manifest.specs.declared.finding.Completion.{Completion}
-use Rattle.cargo_toml_workspace.specs.declared.inheriting.NewParts.{NewParts}
+use Rattle.cargo_toml_package.specs.declared.sharing.NewParts.{NewParts}
 use Rattle.cargo_toml_manifest.proofs.Causes.{caused, chosen_so, told_listing, told_parts}
 use Rattle.cargo_toml_manifest.proofs.Meeting.{Found, as_told, chosen, found_answer, found_at, found_choice, given_as_told, hint_alone, met_found, own_by_root, refused_found, refused_parts, root_found, root_refused}
 use Rattle.cargo_toml_manifest.proofs.Rooted.{memory_wrapped}

@@ -9,7 +9,7 @@ use Rattle.toml.specs.View.{view}
 use Rattle.cargo_toml_parts.specs.declared.error.Error.{Error, Memory, Io}
 use Rattle.cargo_toml_parts.specs.FaultValues.{Fault, fault_of, io}
 use Rattle.cargo_toml_parts.specs.Wrapping.{wrap}
-use Rattle.cargo_toml_workspace.specs.Sharing.{shared_of}
+use Rattle.cargo_toml_package.specs.Sharing.{shared_of}
 use Rattle.cargo_toml_manifest.specs.Choosing.{Choice, Handed, MayFind, RootsTold, choice, from, hint_of}
 use Rattle.cargo_toml_manifest.specs.Inheriting.{needs}
 use Rattle.cargo_toml_manifest.specs.Manifests.{ManifestMeaning, manifest_meaning}

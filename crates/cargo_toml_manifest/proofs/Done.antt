@@ -8,7 +8,7 @@ use Rattle.cargo_toml_parts.specs.FaultValues.{Fault}
 use Rattle.cargo_toml_parts.specs.InheritableValues.{is_set}
 use Rattle.cargo_toml_parts.specs.declared.inheritable.Inheritable.{Inheritable}
 use Rattle.cargo_toml_parts.specs.declared.inheritable.Inheritable.TheVariants.{Set, Inherited}
-use Rattle.cargo_toml_paths.specs.Paths.{workspace_folder}
+use Rattle.cargo_toml_parts.specs.Paths.{workspace_folder}
 use Rattle.cargo_toml_discovery.specs.Names.{Name}
 use Rattle.cargo_toml_discovery.specs.Seen.{Seen, seen, faulty, unclear}
 use Rattle.cargo_toml_discovery.specs.Told.{Told}
@@ -22,7 +22,7 @@ use Rattle.cargo_toml_manifest.proofs.FoundAgain.{needs_found}
 use Rattle.cargo_toml_manifest.specs.Choosing.{Handed, RootsTold, from, hint_of, own_choice}
 use Rattle.cargo_toml_manifest.specs.Completing.{complete, complete_by, gives, seen_at, then_found}
 use Rattle.cargo_toml_manifest.specs.Finding.{found_around}
-use Rattle.cargo_toml_workspace.specs.Sharing.{LintsByTool, Shared, inherited_lints, shared}
+use Rattle.cargo_toml_package.specs.Sharing.{LintsByTool, Shared, inherited_lints, shared}
 use Rattle.cargo_toml_manifest.specs.Inheriting.{inherited_if_there, inherited_from, inherited_manifest, needs, own_tables}
 use Rattle.cargo_toml_manifest.specs.Manifests.{ManifestMeaning}
 use Rattle.cargo_toml_manifest.specs.Told.{ToldRoot, root, no_root, open_root}

@@ -17,7 +17,7 @@ use Rattle.cargo_toml_package.specs.declared.inheriting.NewFields.{NewFields}
 use Rattle.cargo_toml_manifest.specs.Finding.{found_around, found_for, stated_by, wanted_by, with_discovered, with_found, with_found_for}
 use Rattle.cargo_toml_manifest.specs.Installing.{installed, installed_if_there, taken}
 use Rattle.cargo_toml_manifest.specs.Manifests.{ManifestMeaning}
-use Rattle.cargo_toml_workspace.specs.declared.inheriting.NewParts.{NewParts}
+use Rattle.cargo_toml_package.specs.declared.sharing.NewParts.{NewParts}
 use Rattle.cargo_toml_manifest.proofs.StatedBy.{taken_keeps}
 
 -- what was found, and a refusal, by what is seen around the package

@@ -6,7 +6,7 @@ use Rattle.cargo_toml_dependencies.specs.Inheriting.{Entries, inherited_entries,
 use Rattle.cargo_toml_dependencies.specs.Targets.{TargetMeaning}
 use Rattle.cargo_toml_package.specs.Packages.{PackageMeaning}
 use Rattle.cargo_toml_package.specs.Templates.{TemplateMeaning}
-use Rattle.cargo_toml_workspace.specs.Sharing.{LintsByTool, inherited_lints}
+use Rattle.cargo_toml_package.specs.Sharing.{LintsByTool, inherited_lints}
 use Rattle.cargo_toml_manifest.specs.Inheriting.{inherited_from, inherited_if_there, own_tables}
 use Rattle.cargo_toml_manifest.specs.Manifests.{ManifestMeaning}
 use Rattle.cargo_toml_manifest.proofs.Steps.{Refuses, later, stops, then}

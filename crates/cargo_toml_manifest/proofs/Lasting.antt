@@ -6,7 +6,7 @@ use Rattle.std.proofs.lemmas.Bool.{or_parts}
 use Rattle.cargo_toml_parts.specs.InheritableValues.{is_set}
 use Rattle.cargo_toml_parts.specs.declared.inheritable.Inheritable.{Inheritable}
 use Rattle.cargo_toml_parts.specs.declared.inheritable.Inheritable.TheVariants.{Set, Inherited}
-use Rattle.cargo_toml_paths.specs.Paths.{workspace_folder}
+use Rattle.cargo_toml_parts.specs.Paths.{workspace_folder}
 use Rattle.cargo_toml_dependencies.proofs.Lasting.{target-kept, targets-kept}
 use Rattle.cargo_toml_dependencies.specs.Inheriting.{inherited_target, inherited_targets}
 use Rattle.cargo_toml_discovery.specs.Names.{Name}
@@ -22,7 +22,7 @@ use Rattle.cargo_toml_manifest.proofs.Steps.{then}
 use Rattle.cargo_toml_manifest.specs.Choosing.{Handed, RootsTold, from, hint_of, own_choice}
 use Rattle.cargo_toml_manifest.specs.Completing.{IsLasting, complete, complete_by, gives, seen_at, then_found}
 use Rattle.cargo_toml_manifest.specs.Finding.{found_around}
-use Rattle.cargo_toml_workspace.specs.Sharing.{LintsByTool, Shared, inherited_lints, shared}
+use Rattle.cargo_toml_package.specs.Sharing.{LintsByTool, Shared, inherited_lints, shared}
 use Rattle.cargo_toml_manifest.specs.Inheriting.{inherited_if_there, inherited_manifest, needs, own_tables}
 use Rattle.cargo_toml_manifest.specs.Manifests.{ManifestMeaning}
 use Rattle.cargo_toml_manifest.specs.Told.{ToldRoot}

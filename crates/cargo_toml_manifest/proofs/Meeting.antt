@@ -13,7 +13,7 @@ use Rattle.cargo_toml_discovery.specs.Names.{Name}
 use Rattle.cargo_toml_discovery.specs.Seen.{IsOneOf, Seen, Tells, seen, faulty, unclear}
 use Rattle.cargo_toml_discovery.specs.Told.{Told}
 use Rattle.cargo_toml_discovery.proofs.Extends.{tell-at}
-use Rattle.cargo_toml_workspace.specs.Sharing.{shared_of, Shared, shared}
+use Rattle.cargo_toml_package.specs.Sharing.{shared_of, Shared, shared}
 use Rattle.cargo_toml_manifest.specs.Choosing.{AnswersHint, Choice, Handed, MayFind, RootsTold, choice, from, hint_of, own_choice, told_choice}
 use Rattle.cargo_toml_manifest.specs.Completed.{IsCompleted}
 use Rattle.cargo_toml_manifest.specs.Completing.{GivenBy, Meets, Outcome, complete_by, gives, no_workspace, refuses, seen_at, then_found, untold}
@@ -22,10 +22,10 @@ use Rattle.cargo_toml_manifest.specs.Inheriting.{needs}
 use Rattle.cargo_toml_manifest.specs.Installing.{installed, with_completion}
 use Rattle.cargo_toml_manifest.specs.Manifests.{ManifestMeaning, held, manifest_meaning}
 use Rattle.cargo_toml_manifest.specs.Told.{ToldRoot, root, no_root, open_root, AnswersRoot}
-use Rattle.cargo_toml_workspace.specs.Workspaces.{WorkspaceMeaning, workspace_meaning}
+use Rattle.cargo_toml_package.specs.Workspaces.{WorkspaceMeaning, workspace_meaning}
 use Rattle.cargo_toml_manifest.specs.declared.finding.Completion.{Completion}
 use Rattle.cargo_toml_manifest.specs.declared.manifest.Manifest.{Manifest}
-use Rattle.cargo_toml_workspace.specs.declared.workspace.Workspace.{Workspace}
+use Rattle.cargo_toml_package.specs.declared.workspace.Workspace.{Workspace}
 use Rattle.cargo_toml_manifest.proofs.Rooted.{memory_wrapped}
 
 -- `Memory` meets each

@@ -2,8 +2,8 @@
 use Rattle.std.proofs.Common.{◌≡◌, ◌∙◌, sym, refl, false, Option, Some, None}
 use Rattle.std.specs.Prelude.{unwrap_or}
 use Rattle.cargo_toml_parts.specs.InheritableValues.{value_of}
-use Rattle.cargo_toml_settings.specs.Settings.{flag}
-use Rattle.cargo_toml_settings.specs.declared.settings.Edition.TheVariants.{E2015}
+use Rattle.cargo_toml_tables.specs.Settings.{flag}
+use Rattle.cargo_toml_tables.specs.declared.settings.Edition.TheVariants.{E2015}
 use Rattle.cargo_toml_discovery.specs.Discovering.{StatedMeaning}
 use Rattle.cargo_toml_package.specs.Packages.{PackageMeaning}
 use Rattle.cargo_toml_package.specs.declared.inheriting.NewFields.{NewFields}

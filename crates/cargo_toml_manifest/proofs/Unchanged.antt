@@ -7,7 +7,7 @@ use Rattle.cargo_toml_dependencies.specs.Targets.{TargetMeaning}
 use Rattle.cargo_toml_package.specs.Packages.{PackageMeaning}
 use Rattle.cargo_toml_manifest.specs.Installing.{installed, installed_if_there}
 use Rattle.cargo_toml_manifest.specs.Manifests.{ManifestMeaning}
-use Rattle.cargo_toml_workspace.specs.declared.inheriting.NewParts.{NewParts}
+use Rattle.cargo_toml_package.specs.declared.sharing.NewParts.{NewParts}
 
 replaced-none : (es : Entries) → replaced es [] ≡ es
 replaced-none [] = refl

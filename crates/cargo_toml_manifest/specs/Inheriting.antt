@@ -11,7 +11,7 @@ use Rattle.cargo_toml_dependencies.specs.Targets.{TargetMeaning}
 use Rattle.cargo_toml_package.specs.Inheriting.{inherited_package, any_field_left}
 use Rattle.cargo_toml_package.specs.Packages.{PackageMeaning}
 use Rattle.cargo_toml_package.specs.Templates.{TemplateMeaning}
-use Rattle.cargo_toml_workspace.specs.Sharing.{LintsByTool, Shared, inherited_lints}
+use Rattle.cargo_toml_package.specs.Sharing.{LintsByTool, Shared, inherited_lints}
 use Rattle.cargo_toml_manifest.specs.Manifests.{ManifestMeaning}
 
 -- the package, where there is one

@@ -10,7 +10,7 @@ use Rattle.cargo_toml_manifest.specs.Finding.{with_found}
 use Rattle.cargo_toml_manifest.specs.Inheriting.{own_tables}
 use Rattle.cargo_toml_manifest.specs.Manifests.{ManifestMeaning}
 use Rattle.cargo_toml_manifest.specs.declared.finding.Completion.{Completion}
-use Rattle.cargo_toml_workspace.specs.declared.inheriting.NewParts.{NewParts}
+use Rattle.cargo_toml_package.specs.declared.sharing.NewParts.{NewParts}
 
 abbrev pub installed_if_there : {M : Type 0} → Option (PackageMeaning M) → Option NewFields
     → Option (PackageMeaning M)

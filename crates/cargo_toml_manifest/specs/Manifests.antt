@@ -17,15 +17,15 @@ use Rattle.cargo_toml_tables.specs.Profiles.{ProfilesMeaning, profiles_meaning}
 use Rattle.cargo_toml_tables.specs.Profiles.{profiles_of, ProfilesFaults}
 use Rattle.cargo_toml_parts.specs.Reads.{◌>>=◌, array_of, map_of, map_meaning, optional_at}
 use Rattle.cargo_toml_parts.specs.Reads.{given_at, map_at, FaultAt, TableRefuses, WrongShape}
-use Rattle.cargo_toml_settings.specs.Settings.{Registries, everywhere, among}
+use Rattle.cargo_toml_tables.specs.Settings.{Registries, everywhere, among}
 use Rattle.cargo_toml_dependencies.specs.Targets.{TargetMeaning, target_meaning, target_of}
 use Rattle.cargo_toml_parts.specs.Versions.{Parts}
 use Rattle.cargo_toml_manifest.specs.declared.manifest.Manifest.{Manifest}
 use Rattle.cargo_toml_parts.specs.Keys.{inherited_at}
 use Rattle.cargo_toml_package.specs.Packages.{PackageMeaning, package_meaning}
 use Rattle.cargo_toml_package.specs.Packages.{package_reads, PackageRefuses}
-use Rattle.cargo_toml_workspace.specs.Workspaces.{Refusal, WorkspaceMeaning, workspace_meaning}
-use Rattle.cargo_toml_workspace.specs.Workspaces.{workspace_reads, WorkspaceRefuses}
+use Rattle.cargo_toml_package.specs.Workspaces.{Refusal, WorkspaceMeaning, workspace_meaning}
+use Rattle.cargo_toml_package.specs.Workspaces.{workspace_reads, WorkspaceRefuses}
 
 -- what a manifest holds, whose metadata are M
 pub record ManifestMeaning (M : Type 0) : Type 0 where

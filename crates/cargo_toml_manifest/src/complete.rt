@@ -2,7 +2,7 @@
 ghost use Rattle.std.specs.Prelude.{◌≡◌, IfErr, OnErr, OnOk, Option, Some, option_map};
 ghost use Rattle.std.specs.Option.{option_copied};
 ghost use Rattle.cargo_toml_parts.specs.Answers.{Gives};
-ghost use Rattle.cargo_toml_workspace.specs.Sharing.{shared_of};
+ghost use Rattle.cargo_toml_package.specs.Sharing.{shared_of};
 ghost use Rattle.cargo_toml_manifest.specs.Answering.{IsAnsweredAt, IsAnsweredBy};
 ghost use Rattle.cargo_toml_manifest.specs.Choosing.{Handed, from, handed_of, hint_of, roots_of};
 ghost use Rattle.cargo_toml_manifest.specs.Completed.{IsCompleted};
@@ -16,8 +16,8 @@ use crate::finding::{Completion, find, put_found};
 use crate::inheriting::{install_parts, new_parts};
 use crate::manifest::Manifest;
 use cargo_toml_parts::Error;
-use cargo_toml_paths::workspace_folder;
-use cargo_toml_workspace::inheriting::{NewParts, no_parts};
+use cargo_toml_parts::paths::workspace_folder;
+use cargo_toml_package::sharing::{NewParts, no_parts};
 use std::alloc::Global;
 
 // What a manifest takes from the workspace of a root at this path.

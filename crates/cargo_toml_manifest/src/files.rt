@@ -9,7 +9,7 @@ use crate::lookup::{root_above, root_by_hint};
 use crate::manifest::Manifest;
 use cargo_toml_discovery::disk::{names_in, or_here};
 use cargo_toml_parts::Error;
-use cargo_toml_paths::join;
+use cargo_toml_parts::paths::join;
 use std::alloc::Global;
 use std::collections::HashSet;
 use std::fs;

@@ -20,7 +20,7 @@ ghost use Rattle.cargo_toml_manifest.specs.Texts.{AnyRefuses, any_tree};
 use crate::files::Filesystem;
 use crate::manifest::Manifest;
 use cargo_toml_parts::{Error, FromValue};
-use cargo_toml_paths::parent;
+use cargo_toml_parts::paths::parent;
 use std::alloc::Global;
 use std::fs;
 use std::rt::Files;

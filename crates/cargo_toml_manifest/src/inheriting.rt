@@ -10,7 +10,7 @@ ghost use Rattle.cargo_toml_dependencies.specs.Replacing.{replaced_target};
 ghost use Rattle.cargo_toml_package.specs.Packages.{held_package};
 ghost use Rattle.cargo_toml_package.specs.Templates.{template_meaning};
 ghost use Rattle.cargo_toml_tables.specs.Lints.{lint_meaning};
-ghost use Rattle.cargo_toml_workspace.specs.Sharing.{shared_of};
+ghost use Rattle.cargo_toml_package.specs.Sharing.{shared_of};
 ghost use Rattle.cargo_toml_manifest.specs.Inheriting.{inherited_if_there, inherited_from};
 ghost use Rattle.cargo_toml_manifest.specs.Inheriting.{inherited_manifest, own_tables};
 ghost use Rattle.cargo_toml_manifest.specs.Installing.{installed, installed_if_there};
@@ -22,11 +22,10 @@ use cargo_toml_dependencies::inheriting::{
     NewTarget, replace, replace_targets, replacements, target_replacements,
 };
 use cargo_toml_package::inheriting::{NewFields, install, new_fields};
-use cargo_toml_package::{Package, PackageTemplate};
+use cargo_toml_package::{Package, PackageTemplate, Workspace};
 use cargo_toml_parts::Error;
 use cargo_toml_tables::LintGroups;
-use cargo_toml_workspace::Workspace;
-use cargo_toml_workspace::inheriting::{NewParts, new_lints, put_lints};
+use cargo_toml_package::sharing::{NewParts, new_lints, put_lints};
 use std::alloc::Global;
 
 // What the inherited dependencies of the manifest's own tables become.

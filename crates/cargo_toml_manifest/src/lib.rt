@@ -12,6 +12,6 @@ pub mod lookup;
 pub mod manifest;
 
 pub use afs::{AbstractFilesystem, NoRoot, OwnRoot, ParsedRoot, Roots};
-pub use cargo_toml_workspace::Workspace;
+pub use cargo_toml_package::Workspace;
 pub use files::Filesystem;
 pub use manifest::Manifest;

@@ -7,7 +7,7 @@ ghost use Rattle.cargo_toml_manifest.specs.RealFiles.{IsNoWorkspace, IsRootFault
 use crate::afs::{boxed, wrapped};
 use crate::manifest::Manifest;
 use cargo_toml_parts::Error;
-use cargo_toml_paths::{ancestors, join, parent};
+use cargo_toml_parts::paths::{ancestors, join, parent};
 use std::alloc::Global;
 use std::rt::Files;
 use std::{fs, io};

@@ -20,7 +20,7 @@ use crate::package::Package;
 use crate::template::PackageTemplate;
 use cargo_toml_parts::read::Read;
 use cargo_toml_parts::{Error, Inheritable};
-use cargo_toml_settings::{Edition, OptionalFile, Publish};
+use cargo_toml_tables::{Edition, OptionalFile, Publish};
 use filling::Filling;
 use semver::Version;
 use std::alloc::{AllocError, Global};

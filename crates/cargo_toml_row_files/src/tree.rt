@@ -1,6 +1,6 @@
 //! A tree of real files that is made for a row.
 use cargo_toml_parts::Error;
-use cargo_toml_paths::parent;
+use cargo_toml_parts::paths::parent;
 use std::fs::Permissions;
 use std::io::Write;
 use std::os::unix::fs::{PermissionsExt, symlink};

@@ -1,7 +1,7 @@
 //! Paths: what two join to, the last name, the folder above and all folders above, and the
 //! folder of a workspace.
 use cargo_toml::{Error, Value};
-use cargo_toml_paths::{ancestors, join, last_name, parent, workspace_folder};
+use cargo_toml_parts::paths::{ancestors, join, last_name, parent, workspace_folder};
 use std::alloc::Global;
 use std::fmt::Debug;
 

@@ -7,7 +7,7 @@ use Rattle.toml.specs.Data.{Data}
 use Rattle.cargo_toml_dependencies.specs.Dependencies.{DetailMeaning, DependencyMeaning}
 use Rattle.cargo_toml_dependencies.specs.Dependencies as kind
 use Rattle.cargo_toml_manifest.specs.Manifests.{ManifestMeaning}
-use Rattle.cargo_toml_workspace.specs.Workspaces.{WorkspaceMeaning}
+use Rattle.cargo_toml_package.specs.Workspaces.{WorkspaceMeaning}
 use Rattle.cargo_toml_package.specs.Packages.{PackageMeaning}
 use Rattle.cargo_toml_parts.specs.declared.error.Error.{Error}
 use Rattle.cargo_toml_tables.specs.Lints.{LintMeaning}

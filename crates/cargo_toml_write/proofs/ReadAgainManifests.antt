@@ -14,10 +14,10 @@ use Rattle.cargo_toml_parts.proofs.Steps.{then}
 use Rattle.cargo_toml_parts.specs.declared.inheritable.Inheritable.TheVariants.{Set}
 use Rattle.cargo_toml_parts.specs.Inherits.{inheritable_of}
 use Rattle.cargo_toml_parts.specs.Reads.{array_of, list_of, map_at, map_of, optional_of}
-use Rattle.cargo_toml_settings.specs.Settings.{resolver_reads}
+use Rattle.cargo_toml_tables.specs.Settings.{resolver_reads}
 use Rattle.cargo_toml_tables.specs.Lints.{lint_of}
-use Rattle.cargo_toml_workspace.specs.declared.workspace.Workspace.{Workspace}
-use Rattle.cargo_toml_workspace.specs.Workspaces.{WorkspaceMeaning, workspace_meaning, workspace_of, workspace_reads}
+use Rattle.cargo_toml_package.specs.declared.workspace.Workspace.{Workspace}
+use Rattle.cargo_toml_package.specs.Workspaces.{WorkspaceMeaning, workspace_meaning, workspace_of, workspace_reads}
 use Rattle.cargo_toml_write.specs.Asked.{EachValue, TargetMeets, WorkspaceMeets}
 use Rattle.cargo_toml_write.specs.Reread.{IsTold, each_value, reread, reread_dependency, reread_target, reread_workspace, told}
 use Rattle.cargo_toml_write.specs.Ways.{inheritable_way, is_nil, list_way, map_way, texts_way}

@@ -5,14 +5,14 @@ use Rattle.toml.specs.Data.{Data, Members, no_members, get_member, as_str, as_ta
 use Rattle.cargo_toml_package.specs.declared.package.Package.{Package}
 use Rattle.cargo_toml_package.specs.Templates.{TemplateMeaning, template_of, template_reads}
 use Rattle.cargo_toml_package.specs.Packages.{PackageMeaning, package_meaning, package_of_table, package_reads}
-use Rattle.cargo_toml_settings.specs.Settings.{edition_reads, resolver_reads}
+use Rattle.cargo_toml_tables.specs.Settings.{edition_reads, resolver_reads}
 use Rattle.cargo_toml_parts.proofs.Steps.{then}
 use Rattle.cargo_toml_parts.specs.declared.inheritable.Inheritable.{Inheritable}
 use Rattle.cargo_toml_parts.specs.declared.inheritable.Inheritable.TheVariants.{Set}
-use Rattle.cargo_toml_settings.specs.declared.settings.Edition.TheVariants.{E2015}
+use Rattle.cargo_toml_tables.specs.declared.settings.Edition.TheVariants.{E2015}
 use Rattle.cargo_toml_parts.specs.Inherits.{inheritable_map, inheritable_of}
 use Rattle.cargo_toml_parts.specs.Reads.{optional_of, given_of, list_of}
-use Rattle.cargo_toml_settings.specs.Settings.{File, flag, file_of, Registries, everywhere, publish_of}
+use Rattle.cargo_toml_tables.specs.Settings.{File, flag, file_of, Registries, everywhere, publish_of}
 use Rattle.cargo_toml_parts.specs.Versions.{version_of}
 use Rattle.cargo_toml_write.specs.Ways.{text_way, texts_way, version_way, inheritable_way, is_nil}
 use Rattle.cargo_toml_write.specs.WrittenPackages.{package_way, package_rows, IsVersionAgain, VersionAgain, MetadataAgain, TemplateAgain, template_way, template_rows}

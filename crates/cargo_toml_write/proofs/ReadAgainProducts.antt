@@ -3,7 +3,7 @@ use Rattle.std.proofs.Common.{◌≡◌, refl, ℕ, List, [], codes, Bool, true,
 use Rattle.toml.specs.Data.{Data, as_bool, as_str, as_table, Members, no_members, get_member}
 use Rattle.cargo_toml_parts.proofs.Steps.{then}
 use Rattle.cargo_toml_parts.specs.Reads.{given_of, list_of}
-use Rattle.cargo_toml_settings.specs.Settings.{edition_of}
+use Rattle.cargo_toml_tables.specs.Settings.{edition_of}
 use Rattle.cargo_toml_tables.specs.Products.{ProductMeaning, either_flag, product_of}
 use Rattle.cargo_toml_write.specs.Ways.{text_way, texts_way}
 use Rattle.cargo_toml_write.specs.WrittenProducts.{product_way, product_rows}

@@ -2,18 +2,18 @@
 use Rattle.std.proofs.Common.{◌≡◌, ◌∙◌, refl, ap, ℕ, ℤ, true, option_map, option_and_then}
 use Rattle.toml.specs.Data.{as_str}
 use Rattle.cargo_toml_parts.specs.Numbers.{i8_of, u16_of}
-use Rattle.cargo_toml_settings.specs.declared.profile_settings.DebugSetting.{DebugSetting}
-use Rattle.cargo_toml_settings.specs.declared.profile_settings.DebugSetting.TheVariants as debug
-use Rattle.cargo_toml_settings.specs.declared.profile_settings.LtoSetting.{LtoSetting}
-use Rattle.cargo_toml_settings.specs.declared.profile_settings.LtoSetting.TheVariants as lto
-use Rattle.cargo_toml_settings.specs.declared.profile_settings.StripSetting.{StripSetting}
-use Rattle.cargo_toml_settings.specs.declared.profile_settings.StripSetting.TheVariants as strip
-use Rattle.cargo_toml_settings.specs.ProfileSettings.{debug_of, strip_of, lto_of}
-use Rattle.cargo_toml_settings.specs.declared.settings.Edition.{Edition}
-use Rattle.cargo_toml_settings.specs.declared.settings.Edition.TheVariants.{E2015, E2018, E2021, E2024}
-use Rattle.cargo_toml_settings.specs.declared.settings.Resolver.{Resolver}
-use Rattle.cargo_toml_settings.specs.declared.settings.Resolver.TheVariants.{V1, V2, V3}
-use Rattle.cargo_toml_settings.specs.Settings.{edition_of, resolver_of, File, flag, path, file_of, Registries, everywhere, among, publish_of}
+use Rattle.cargo_toml_tables.specs.declared.profile_settings.DebugSetting.{DebugSetting}
+use Rattle.cargo_toml_tables.specs.declared.profile_settings.DebugSetting.TheVariants as debug
+use Rattle.cargo_toml_tables.specs.declared.profile_settings.LtoSetting.{LtoSetting}
+use Rattle.cargo_toml_tables.specs.declared.profile_settings.LtoSetting.TheVariants as lto
+use Rattle.cargo_toml_tables.specs.declared.profile_settings.StripSetting.{StripSetting}
+use Rattle.cargo_toml_tables.specs.declared.profile_settings.StripSetting.TheVariants as strip
+use Rattle.cargo_toml_tables.specs.ProfileSettings.{debug_of, strip_of, lto_of}
+use Rattle.cargo_toml_tables.specs.declared.settings.Edition.{Edition}
+use Rattle.cargo_toml_tables.specs.declared.settings.Edition.TheVariants.{E2015, E2018, E2021, E2024}
+use Rattle.cargo_toml_tables.specs.declared.settings.Resolver.{Resolver}
+use Rattle.cargo_toml_tables.specs.declared.settings.Resolver.TheVariants.{V1, V2, V3}
+use Rattle.cargo_toml_tables.specs.Settings.{edition_of, resolver_of, File, flag, path, file_of, Registries, everywhere, among, publish_of}
 use Rattle.cargo_toml_write.specs.Ways.{number_way, small_way}
 use Rattle.cargo_toml_write.specs.WrittenSettings.{edition_way, resolver_way, file_way, is_usual, publish_way, is_unrestricted, debug_way, strip_way, lto_way}
 use Rattle.cargo_toml_write.proofs.ReadAgain.{ReadsAs, texts_again}

@@ -11,7 +11,7 @@ use Rattle.cargo_toml_parts.proofs.Steps.{then}
 use Rattle.cargo_toml_parts.specs.declared.error.Error.{Error}
 use Rattle.cargo_toml_parts.specs.Numbers.{i8_of, u16_of}
 use Rattle.cargo_toml_parts.specs.Reads.{is_among, map_of, others_read}
-use Rattle.cargo_toml_settings.specs.ProfileSettings.{debug_of, strip_of, lto_of}
+use Rattle.cargo_toml_tables.specs.ProfileSettings.{debug_of, strip_of, lto_of}
 use Rattle.cargo_toml_tables.specs.declared.lint.LintLevel.{LintLevel}
 use Rattle.cargo_toml_tables.specs.declared.lint.LintLevel.TheVariants.{Allow, Warn, ForceWarn, Deny, Forbid}
 use Rattle.cargo_toml_tables.specs.Lints.{LintMeaning, lint_keys, level_of, level_alone, table_lint, lint_of}

@@ -14,7 +14,7 @@ use Rattle.cargo_toml_parts.specs.Inherits.{inheritable_of}
 use Rattle.cargo_toml_parts.specs.Keys.{inherited_at}
 use Rattle.cargo_toml_parts.specs.Reads.{array_of, map_of, optional_at, optional_of, given_at, given_of, map_at}
 use Rattle.cargo_toml_tables.specs.Lints.{LintMeaning, lint_of}
-use Rattle.cargo_toml_workspace.specs.Workspaces.{WorkspaceMeaning, workspace_of, workspace_reads}
+use Rattle.cargo_toml_package.specs.Workspaces.{WorkspaceMeaning, workspace_of, workspace_reads}
 use Rattle.cargo_toml_write.specs.Asked.{Asked, EachValue, IfSet, ManifestMeets, TargetMeets, WorkspaceMeets}
 use Rattle.cargo_toml_write.proofs.Gives.{Gives, gives_none, gives_some, bind, skip, Reads, MembersFloatless, optional_reads, given_reads, no_entries, table_reads, map_reads, map_at_reads, inheritable_reads}
 

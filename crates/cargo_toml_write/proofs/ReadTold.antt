@@ -22,7 +22,7 @@ use Rattle.cargo_toml_parts.specs.Inherits.{inheritable_of}
 use Rattle.cargo_toml_parts.specs.Keys.{inherited_at}
 use Rattle.cargo_toml_parts.specs.Reads.{flag_at, given_of, is_among, list_at, map_at, map_of, optional_at, optional_of, others_read, required_at, required_of}
 use Rattle.cargo_toml_parts.specs.Versions.{Parts, requirement_of, version_of}
-use Rattle.cargo_toml_settings.specs.Settings.{everywhere}
+use Rattle.cargo_toml_tables.specs.Settings.{everywhere}
 use Rattle.cargo_toml_tables.specs.Lints.{LintMeaning, level_alone, level_of, lint_keys, lint_of, table_lint}
 use Rattle.cargo_toml_tables.specs.Profiles.{ProfileMeaning, ProfilesMeaning, profile_keys, profile_of, profile_reads, profiles_of}
 use Rattle.cargo_toml_write.specs.Asked.{EachValue}

@@ -8,8 +8,8 @@ use Rattle.cargo_toml_dependencies.specs.Targets.{TargetMeaning}
 use Rattle.cargo_toml_manifest.specs.Manifests.{ManifestMeaning, by_zero_rule, is_zero, zero_rule_applies}
 use Rattle.cargo_toml_package.specs.Packages.{PackageMeaning}
 use Rattle.cargo_toml_parts.specs.declared.inheritable.Inheritable.TheVariants.{Set}
-use Rattle.cargo_toml_settings.specs.Settings.{everywhere}
-use Rattle.cargo_toml_workspace.specs.Workspaces.{WorkspaceMeaning}
+use Rattle.cargo_toml_tables.specs.Settings.{everywhere}
+use Rattle.cargo_toml_package.specs.Workspaces.{WorkspaceMeaning}
 use Rattle.cargo_toml_write.specs.Asked.{Asked, EachValue, ManifestMeets, TargetMeets, WorkspaceMeets}
 use Rattle.cargo_toml_write.specs.Reread.{SaysTrue, each_value, reread, reread_dependency, reread_target, reread_workspace, says_true}
 use Rattle.cargo_toml_write.proofs.Gives.{anything}

@@ -2,7 +2,7 @@
 use Rattle.std.proofs.Common.{ℕ, List, Option, Some, None}
 use Rattle.cargo_toml_dependencies.specs.Details.{Detail}
 use Rattle.cargo_toml_parts.specs.declared.error.Error.{Error}
-use Rattle.cargo_toml_settings.specs.Settings.{Registries, everywhere, among}
+use Rattle.cargo_toml_tables.specs.Settings.{Registries, everywhere, among}
 use Rattle.cargo_toml_write.specs.Ways.{text_way, version_way, texts_way, inheritable_way, list_way}
 use Rattle.cargo_toml_write.specs.WrittenBadges.{badge_rows, badge_way, maintenance_rows, maintenance_way, badges_rows, badges_way}
 use Rattle.cargo_toml_write.specs.WrittenDependencies.{inherited_rows, inherited_way}

@@ -10,7 +10,7 @@ use Rattle.cargo_toml_parts.specs.declared.inheritable.Inheritable.{Inheritable}
 use Rattle.cargo_toml_parts.specs.declared.inheritable.Inheritable.TheVariants.{Set, Inherited}
 use Rattle.cargo_toml_tables.specs.Lints.{LintMeaning}
 use Rattle.cargo_toml_tables.specs.Profiles.{ProfilesMeaning}
-use Rattle.cargo_toml_workspace.specs.Workspaces.{WorkspaceMeaning}
+use Rattle.cargo_toml_package.specs.Workspaces.{WorkspaceMeaning}
 
 -- each value of a map, and a value that a workspace may give
 abbrev pub EachValue : {X : Type 0} → (X → Type 0) → List (List ℕ × X) → Type 0

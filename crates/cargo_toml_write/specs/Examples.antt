@@ -4,7 +4,7 @@ use Rattle.toml.specs.Data.{Data, string, boolean, array, table}
 use Rattle.toml.specs.Data.{no_items, item, Members, no_members, member}
 use Rattle.cargo_toml_dependencies.specs.Dependencies.{DetailMeaning, DependencyMeaning, detailed}
 use Rattle.cargo_toml_dependencies.specs.Dependencies.{no_detail}
-use Rattle.cargo_toml_settings.specs.declared.settings.Edition.TheVariants.{E2021}
+use Rattle.cargo_toml_tables.specs.declared.settings.Edition.TheVariants.{E2021}
 use Rattle.cargo_toml_tables.specs.Products.{ProductMeaning, no_product}
 
 -- an optional dependency of a path, with one feature

@@ -11,10 +11,10 @@ use Rattle.cargo_toml_dependencies.specs.Dependencies as kind
 use Rattle.cargo_toml_dependencies.specs.Details.{Detail}
 use Rattle.cargo_toml_parts.specs.declared.inheritable.Inheritable.TheVariants.{Set, Inherited}
 use Rattle.cargo_toml_parts.specs.Floats.{has_no_float, items_have_no_float, members_have_no_float}
-use Rattle.cargo_toml_settings.specs.declared.profile_settings.DebugSetting.TheVariants as debug
-use Rattle.cargo_toml_settings.specs.declared.profile_settings.LtoSetting.TheVariants as lto
-use Rattle.cargo_toml_settings.specs.declared.profile_settings.StripSetting.TheVariants as strip
-use Rattle.cargo_toml_settings.specs.Settings.{flag, path, everywhere, among}
+use Rattle.cargo_toml_tables.specs.declared.profile_settings.DebugSetting.TheVariants as debug
+use Rattle.cargo_toml_tables.specs.declared.profile_settings.LtoSetting.TheVariants as lto
+use Rattle.cargo_toml_tables.specs.declared.profile_settings.StripSetting.TheVariants as strip
+use Rattle.cargo_toml_tables.specs.Settings.{flag, path, everywhere, among}
 use Rattle.cargo_toml_tables.specs.Lints.{LintMeaning}
 use Rattle.cargo_toml_write.specs.Requirements.{requirement_text}
 use Rattle.cargo_toml_write.specs.Ways.{exactly, entry_rows, free_way, requirement_way}

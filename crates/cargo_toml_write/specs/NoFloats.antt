@@ -6,7 +6,7 @@ use Rattle.cargo_toml_dependencies.specs.Dependencies.{DetailMeaning, Dependency
 use Rattle.cargo_toml_dependencies.specs.Dependencies as kind
 use Rattle.cargo_toml_dependencies.specs.Targets.{TargetMeaning}
 use Rattle.cargo_toml_manifest.specs.Manifests.{ManifestMeaning}
-use Rattle.cargo_toml_workspace.specs.Workspaces.{WorkspaceMeaning}
+use Rattle.cargo_toml_package.specs.Workspaces.{WorkspaceMeaning}
 use Rattle.cargo_toml_package.specs.Packages.{PackageMeaning}
 use Rattle.cargo_toml_parts.specs.Floats.{has_no_float}
 use Rattle.cargo_toml_tables.specs.Lints.{LintMeaning}

@@ -7,8 +7,8 @@ use Rattle.cargo_toml_dependencies.specs.Targets.{TargetMeaning}
 use Rattle.cargo_toml_manifest.specs.Choosing.{Choice}
 use Rattle.cargo_toml_manifest.specs.Choosing as choice
 use Rattle.cargo_toml_manifest.specs.Manifests.{ManifestMeaning, by_zero_rule}
-use Rattle.cargo_toml_workspace.specs.Sharing.{Shared}
-use Rattle.cargo_toml_workspace.specs.Workspaces.{WorkspaceMeaning}
+use Rattle.cargo_toml_package.specs.Sharing.{Shared}
+use Rattle.cargo_toml_package.specs.Workspaces.{WorkspaceMeaning}
 use Rattle.cargo_toml_write.specs.Asked.{Asked, EachValue, ManifestMeets}
 use Rattle.cargo_toml_write.specs.WrittenDependencies.{DependencyAgain}
 use Rattle.cargo_toml_write.specs.WrittenFeatures.{AreTold}

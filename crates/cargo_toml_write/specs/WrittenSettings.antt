@@ -2,16 +2,16 @@
 use Rattle.std.specs.Prelude.{◌≡◌, List, ℕ, codes, pos, Bool, true, false}
 use Rattle.toml.specs.Data.{Data, string, integer, boolean}
 use Rattle.cargo_toml_parts.specs.declared.error.Error.{Error}
-use Rattle.cargo_toml_settings.specs.declared.profile_settings.DebugSetting.{DebugSetting}
-use Rattle.cargo_toml_settings.specs.declared.profile_settings.DebugSetting.TheVariants as debug
-use Rattle.cargo_toml_settings.specs.declared.profile_settings.LtoSetting.{LtoSetting}
-use Rattle.cargo_toml_settings.specs.declared.profile_settings.LtoSetting.TheVariants as lto
-use Rattle.cargo_toml_settings.specs.declared.profile_settings.StripSetting.{StripSetting}
-use Rattle.cargo_toml_settings.specs.declared.profile_settings.StripSetting.TheVariants as strip
-use Rattle.cargo_toml_settings.specs.declared.settings.Edition.{Edition}
-use Rattle.cargo_toml_settings.specs.declared.settings.Resolver.{Resolver}
-use Rattle.cargo_toml_settings.specs.Settings.{edition_text, resolver_text, File, flag}
-use Rattle.cargo_toml_settings.specs.Settings.{path, Registries, everywhere, among}
+use Rattle.cargo_toml_tables.specs.declared.profile_settings.DebugSetting.{DebugSetting}
+use Rattle.cargo_toml_tables.specs.declared.profile_settings.DebugSetting.TheVariants as debug
+use Rattle.cargo_toml_tables.specs.declared.profile_settings.LtoSetting.{LtoSetting}
+use Rattle.cargo_toml_tables.specs.declared.profile_settings.LtoSetting.TheVariants as lto
+use Rattle.cargo_toml_tables.specs.declared.profile_settings.StripSetting.{StripSetting}
+use Rattle.cargo_toml_tables.specs.declared.profile_settings.StripSetting.TheVariants as strip
+use Rattle.cargo_toml_tables.specs.declared.settings.Edition.{Edition}
+use Rattle.cargo_toml_tables.specs.declared.settings.Resolver.{Resolver}
+use Rattle.cargo_toml_tables.specs.Settings.{edition_text, resolver_text, File, flag}
+use Rattle.cargo_toml_tables.specs.Settings.{path, Registries, everywhere, among}
 use Rattle.cargo_toml_tables.specs.declared.badge.MaintenanceStatus.{MaintenanceStatus}
 use Rattle.cargo_toml_tables.specs.declared.badge.MaintenanceStatus.TheVariants as status
 use Rattle.cargo_toml_tables.specs.declared.lint.LintLevel.{LintLevel}

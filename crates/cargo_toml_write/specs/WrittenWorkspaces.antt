@@ -1,6 +1,6 @@
 -- How workspaces are written.
 use Rattle.std.specs.Prelude.{List, [], ◌∷◌, codes}
-use Rattle.cargo_toml_workspace.specs.Workspaces.{WorkspaceMeaning}
+use Rattle.cargo_toml_package.specs.Workspaces.{WorkspaceMeaning}
 use Rattle.cargo_toml_write.specs.Ways.{texts_way}
 use Rattle.cargo_toml_write.specs.WrittenDependencies.{dependencies_way}
 use Rattle.cargo_toml_write.specs.WrittenLints.{lint_groups_way}

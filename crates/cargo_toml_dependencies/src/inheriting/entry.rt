@@ -14,7 +14,7 @@ ghost use Rattle.cargo_toml_dependencies.specs.Inheriting.{short_detail, with_en
 use crate::dependency::{Dependency, DependencyDetail, InheritedDependencyDetail};
 use cargo_toml_parts::duplicate::Duplicate;
 use cargo_toml_parts::error::Error;
-use cargo_toml_paths::join;
+use cargo_toml_parts::paths::join;
 use semver::VersionReq;
 use std::alloc::{AllocError, Global};
 

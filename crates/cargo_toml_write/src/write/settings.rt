@@ -1,16 +1,16 @@
 //! Writers of the enums and settings that stand for one value.
 ghost use Rattle.std.specs.Prelude.{◌≡◌, IfErr};
 ghost use Rattle.cargo_toml_parts.specs.declared.error.Error.{Error};
-ghost use Rattle.cargo_toml_settings.specs.declared.profile_settings.DebugSetting.{DebugSetting};
-ghost use Rattle.cargo_toml_settings.specs.declared.profile_settings.LtoSetting.{LtoSetting};
-ghost use Rattle.cargo_toml_settings.specs.declared.profile_settings.StripSetting.{StripSetting};
-ghost use Rattle.cargo_toml_settings.specs.declared.settings.Edition.{Edition};
-ghost use Rattle.cargo_toml_settings.specs.declared.settings.Resolver.{Resolver};
-ghost use Rattle.cargo_toml_settings.specs.ProfileSettings.{debug_of, strip_of, lto_of};
-ghost use Rattle.cargo_toml_settings.specs.Settings.{File, Registries, edition_reads, edition_text};
-ghost use Rattle.cargo_toml_settings.specs.Settings.{resolver_reads, resolver_text, file_of};
-ghost use Rattle.cargo_toml_settings.specs.Settings.{file_meaning};
-ghost use Rattle.cargo_toml_settings.specs.Settings.{publish_of, publish_meaning};
+ghost use Rattle.cargo_toml_tables.specs.declared.profile_settings.DebugSetting.{DebugSetting};
+ghost use Rattle.cargo_toml_tables.specs.declared.profile_settings.LtoSetting.{LtoSetting};
+ghost use Rattle.cargo_toml_tables.specs.declared.profile_settings.StripSetting.{StripSetting};
+ghost use Rattle.cargo_toml_tables.specs.declared.settings.Edition.{Edition};
+ghost use Rattle.cargo_toml_tables.specs.declared.settings.Resolver.{Resolver};
+ghost use Rattle.cargo_toml_tables.specs.ProfileSettings.{debug_of, strip_of, lto_of};
+ghost use Rattle.cargo_toml_tables.specs.Settings.{File, Registries, edition_reads, edition_text};
+ghost use Rattle.cargo_toml_tables.specs.Settings.{resolver_reads, resolver_text, file_of};
+ghost use Rattle.cargo_toml_tables.specs.Settings.{file_meaning};
+ghost use Rattle.cargo_toml_tables.specs.Settings.{publish_of, publish_meaning};
 ghost use Rattle.cargo_toml_tables.specs.declared.badge.MaintenanceStatus.{MaintenanceStatus};
 ghost use Rattle.cargo_toml_tables.specs.declared.lint.LintLevel.{LintLevel};
 ghost use Rattle.cargo_toml_tables.specs.Badges.{status_of};
@@ -26,10 +26,7 @@ ghost use Rattle.cargo_toml_write.specs.WrittenSettings.{level_text, status_text
 
 use crate::write::{LeftOut, ToValue};
 use cargo_toml_parts::Error;
-use cargo_toml_settings::{
-    DebugSetting, Edition, LtoSetting, OptionalFile, Publish, Resolver, StripSetting,
-};
-use cargo_toml_tables::{LintLevel, MaintenanceStatus};
+use cargo_toml_tables::{DebugSetting, Edition, LintLevel, LtoSetting, MaintenanceStatus, OptionalFile, Publish, Resolver, StripSetting};
 use std::alloc::Global;
 use toml::Value;
 

@@ -1,8 +1,8 @@
 //! The writer of workspaces.
 ghost use Rattle.std.specs.Prelude.{◌≡◌, IfErr, Option};
 ghost use Rattle.toml.specs.Data.{Data};
-ghost use Rattle.cargo_toml_workspace.specs.Workspaces.{WorkspaceMeaning, workspace_meaning};
-ghost use Rattle.cargo_toml_workspace.specs.Workspaces.{workspace_reads};
+ghost use Rattle.cargo_toml_package.specs.Workspaces.{WorkspaceMeaning, workspace_meaning};
+ghost use Rattle.cargo_toml_package.specs.Workspaces.{workspace_reads};
 ghost use Rattle.cargo_toml_parts.specs.declared.error.Error.{Error};
 ghost use Rattle.cargo_toml_write.specs.Floatless.{table_floatless};
 ghost use Rattle.cargo_toml_write.specs.Asked.{WorkspaceMeets};
@@ -15,7 +15,7 @@ ghost use Rattle.cargo_toml_write.specs.Writes.{HasTree, IsReadAgain, IsWriting}
 use crate::write::ToValue;
 use crate::write::writing::Writing;
 use cargo_toml_parts::Error;
-use cargo_toml_workspace::Workspace;
+use cargo_toml_package::Workspace;
 use std::alloc::Global;
 use toml::Value;
 

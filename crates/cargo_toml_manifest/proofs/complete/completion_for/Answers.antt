@@ -1,6 +1,6 @@
 use Rattle.std.proofs.Common.{[], Result, Ok, Some, None, ap, refl, sym, ◌∙◌}
 use Rattle.cargo_toml_parts.specs.FaultValues.{Fault}
-use Rattle.cargo_toml_workspace.specs.Sharing.{shared_of}
+use Rattle.cargo_toml_package.specs.Sharing.{shared_of}
 use Rattle.cargo_toml_manifest.specs.Choosing.{handed_of}
 use Rattle.cargo_toml_manifest.specs.Inheriting.{needs}
 use Rattle.cargo_toml_manifest.specs.Manifests.{ManifestMeaning, held}

@@ -1,4 +1,4 @@
-use Rattle.cargo_toml_settings.specs.Settings.{among, publish_of}
+use Rattle.cargo_toml_tables.specs.Settings.{among, publish_of}
 use Rattle.cargo_toml_write.specs.Ways.{texts_way}
 use Rattle.cargo_toml_write.proofs.FloatlessAgain.{reads_again}
 use Rattle.cargo_toml_write.proofs.Trees.{texts_total, total_alone}

@@ -1,4 +1,4 @@
-use Rattle.cargo_toml_workspace.specs.Workspaces.{workspace_meaning, workspace_reads}
+use Rattle.cargo_toml_package.specs.Workspaces.{workspace_meaning, workspace_reads}
 use Rattle.cargo_toml_write.specs.WrittenWorkspaces.{workspace_rows, workspace_way}
 use Rattle.cargo_toml_write.specs.Writes.{IsWriting}
 use Rattle.cargo_toml_write.specs.Reread.{reread_workspace}

@@ -4,15 +4,15 @@ use Rattle.std.specs.Prelude.{Some, None, option_and_then, option_map, string_by
 use Rattle.std.specs.Str.{bytes_eq}
 use Rattle.toml.specs.Data.{Data, string, boolean, array, as_str}
 use Rattle.cargo_toml_parts.specs.declared.error.Error.{Error}
-use Rattle.cargo_toml_settings.specs.declared.settings.Edition.{Edition}
-use Rattle.cargo_toml_settings.specs.declared.settings.Edition.TheVariants.{E2015, E2018, E2021}
-use Rattle.cargo_toml_settings.specs.declared.settings.Edition.TheVariants.{E2024}
-use Rattle.cargo_toml_settings.specs.declared.settings.Resolver.{Resolver}
-use Rattle.cargo_toml_settings.specs.declared.settings.Resolver.TheVariants.{V1, V2, V3}
-use Rattle.cargo_toml_settings.specs.declared.settings.OptionalFile.{OptionalFile}
-use Rattle.cargo_toml_settings.specs.declared.settings.OptionalFile.TheVariants as file
-use Rattle.cargo_toml_settings.specs.declared.settings.Publish.{Publish}
-use Rattle.cargo_toml_settings.specs.declared.settings.Publish.TheVariants as whether
+use Rattle.cargo_toml_tables.specs.declared.settings.Edition.{Edition}
+use Rattle.cargo_toml_tables.specs.declared.settings.Edition.TheVariants.{E2015, E2018, E2021}
+use Rattle.cargo_toml_tables.specs.declared.settings.Edition.TheVariants.{E2024}
+use Rattle.cargo_toml_tables.specs.declared.settings.Resolver.{Resolver}
+use Rattle.cargo_toml_tables.specs.declared.settings.Resolver.TheVariants.{V1, V2, V3}
+use Rattle.cargo_toml_tables.specs.declared.settings.OptionalFile.{OptionalFile}
+use Rattle.cargo_toml_tables.specs.declared.settings.OptionalFile.TheVariants as file
+use Rattle.cargo_toml_tables.specs.declared.settings.Publish.{Publish}
+use Rattle.cargo_toml_tables.specs.declared.settings.Publish.TheVariants as whether
 use Rattle.cargo_toml_parts.specs.Faults.{IsShape, wrong_shape}
 use Rattle.cargo_toml_parts.specs.Reads.{items_reads, ItemsRefuse, Fails, WrongShape}
 

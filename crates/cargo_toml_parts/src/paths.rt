@@ -4,13 +4,11 @@
 //! The pieces of a path are what stands between its slashes, except empty ones and `.`; only a `.`
 //! at the front of a relative path counts. Nothing is looked up in a file system, and nothing is
 //! resolved: `..` is a piece like any other.
-#![tactic(auto)]
-
 ghost use Rattle.std.specs.Prelude.{◌≡◌, IfOk, string_bytes, Some};
 ghost use Rattle.std.specs.Option.{option_copied};
 ghost use Rattle.std.specs.Path.{path_join, path_parent, path_file_name};
 ghost use Rattle.std.specs.Path.Iter.{ancestors_next};
-ghost use Rattle.cargo_toml_paths.specs.Paths.{workspace_folder};
+ghost use Rattle.cargo_toml_parts.specs.Paths.{workspace_folder};
 
 use std::alloc::{AllocError, Global};
 use std::path::{Ancestors, Path};

@@ -1,10 +1,10 @@
 // Laws of the settings' comparisons, defaults and numbers, each as the contract of a function.
 ghost use Rattle.std.specs.Prelude.{◌≡◌};
-ghost use Rattle.cargo_toml_settings.specs.declared.settings.Edition.TheVariants.{E2015};
-ghost use Rattle.cargo_toml_settings.specs.declared.settings.Resolver.TheVariants.{V1};
-ghost use Rattle.cargo_toml_settings.specs.SettingsLaws.{ComparesBy, HasDefault};
-ghost use Rattle.cargo_toml_settings.specs.SettingsLaws.{edition_number, resolver_number};
-ghost use Rattle.cargo_toml_settings.specs.SettingsLaws.{debug_worth, strip_place, lto_place};
+ghost use Rattle.cargo_toml_tables.specs.declared.settings.Edition.TheVariants.{E2015};
+ghost use Rattle.cargo_toml_tables.specs.declared.settings.Resolver.TheVariants.{V1};
+ghost use Rattle.cargo_toml_tables.specs.SettingsLaws.{ComparesBy, HasDefault};
+ghost use Rattle.cargo_toml_tables.specs.SettingsLaws.{edition_number, resolver_number};
+ghost use Rattle.cargo_toml_tables.specs.SettingsLaws.{debug_worth, strip_place, lto_place};
 
 use crate::profile_settings::{DebugSetting, LtoSetting, StripSetting};
 use crate::settings::{Edition, Resolver};

@@ -1,9 +1,9 @@
 -- What is asked of editions, resolvers, optional files and where to publish.
 use Rattle.std.specs.Prelude.{ℕ, List, [], ◌∷◌, codes, Bool, true, false, Option, Some, None}
-use Rattle.cargo_toml_settings.specs.declared.settings.Edition.{Edition}
-use Rattle.cargo_toml_settings.specs.declared.settings.Edition.TheVariants.{E2015, E2018, E2021}
-use Rattle.cargo_toml_settings.specs.declared.settings.Edition.TheVariants.{E2024}
-use Rattle.cargo_toml_settings.specs.Settings.{File, flag, path, Registries, everywhere, among}
+use Rattle.cargo_toml_tables.specs.declared.settings.Edition.{Edition}
+use Rattle.cargo_toml_tables.specs.declared.settings.Edition.TheVariants.{E2015, E2018, E2021}
+use Rattle.cargo_toml_tables.specs.declared.settings.Edition.TheVariants.{E2024}
+use Rattle.cargo_toml_tables.specs.Settings.{File, flag, path, Registries, everywhere, among}
 
 -- x, where 1.x is the first version of Rust with the edition; 1 for 2015, which 1.0 has too
 abbrev pub first_minor_of : Edition → ℕ

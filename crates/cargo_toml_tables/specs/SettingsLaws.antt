@@ -2,17 +2,17 @@
 use Rattle.std.specs.Prelude.{◌≡◌, ◌↔◌, ℕ, Bool, IsTrue}
 use Rattle.std.specs.declared.cmp.Ordering.{Ordering}
 use Rattle.std.specs.Ordering.{nat_cmp}
-use Rattle.cargo_toml_settings.specs.declared.settings.Edition.{Edition}
-use Rattle.cargo_toml_settings.specs.declared.settings.Edition.TheVariants.{E2015, E2018, E2021}
-use Rattle.cargo_toml_settings.specs.declared.settings.Edition.TheVariants.{E2024}
-use Rattle.cargo_toml_settings.specs.declared.settings.Resolver.{Resolver}
-use Rattle.cargo_toml_settings.specs.declared.settings.Resolver.TheVariants.{V1, V2, V3}
-use Rattle.cargo_toml_settings.specs.declared.profile_settings.DebugSetting.{DebugSetting}
-use Rattle.cargo_toml_settings.specs.declared.profile_settings.DebugSetting.TheVariants as debug
-use Rattle.cargo_toml_settings.specs.declared.profile_settings.StripSetting.{StripSetting}
-use Rattle.cargo_toml_settings.specs.declared.profile_settings.StripSetting.TheVariants as strip
-use Rattle.cargo_toml_settings.specs.declared.profile_settings.LtoSetting.{LtoSetting}
-use Rattle.cargo_toml_settings.specs.declared.profile_settings.LtoSetting.TheVariants as lto
+use Rattle.cargo_toml_tables.specs.declared.settings.Edition.{Edition}
+use Rattle.cargo_toml_tables.specs.declared.settings.Edition.TheVariants.{E2015, E2018, E2021}
+use Rattle.cargo_toml_tables.specs.declared.settings.Edition.TheVariants.{E2024}
+use Rattle.cargo_toml_tables.specs.declared.settings.Resolver.{Resolver}
+use Rattle.cargo_toml_tables.specs.declared.settings.Resolver.TheVariants.{V1, V2, V3}
+use Rattle.cargo_toml_tables.specs.declared.profile_settings.DebugSetting.{DebugSetting}
+use Rattle.cargo_toml_tables.specs.declared.profile_settings.DebugSetting.TheVariants as debug
+use Rattle.cargo_toml_tables.specs.declared.profile_settings.StripSetting.{StripSetting}
+use Rattle.cargo_toml_tables.specs.declared.profile_settings.StripSetting.TheVariants as strip
+use Rattle.cargo_toml_tables.specs.declared.profile_settings.LtoSetting.{LtoSetting}
+use Rattle.cargo_toml_tables.specs.declared.profile_settings.LtoSetting.TheVariants as lto
 
 -- what each is worth
 abbrev pub edition_number : Edition → ℕ

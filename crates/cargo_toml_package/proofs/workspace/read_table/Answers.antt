@@ -4,8 +4,8 @@ use Rattle.cargo_toml_parts.specs.Reads.{WrongShape}
 use Rattle.cargo_toml_parts.proofs.Chain.{ends, plain}
 use Rattle.cargo_toml_parts.proofs.Places.{begins, held_in, means_none, takes, takes_last, takes_optional}
 use Rattle.cargo_toml_parts.proofs.Shapes.{itself, list_shape, map_shape}
-use Rattle.cargo_toml_workspace.specs.Workspaces.{workspace_of, WorkspaceFaults}
-use Rattle.cargo_toml_workspace.proofs.workspace.read_table.Goals as goal
+use Rattle.cargo_toml_package.specs.Workspaces.{workspace_of, WorkspaceFaults}
+use Rattle.cargo_toml_package.proofs.workspace.read_table.Goals as goal
 
 pub returns : goal.returns
 returns g c =

@@ -7,10 +7,10 @@ ghost use Rattle.cargo_toml_parts.specs.Inherits.{inheritable_map};
 ghost use Rattle.cargo_toml_parts.specs.Reads.{map_meaning};
 ghost use Rattle.cargo_toml_package.specs.Installing.{put_field};
 ghost use Rattle.cargo_toml_tables.specs.Lints.{lint_meaning};
-ghost use Rattle.cargo_toml_workspace.specs.Sharing.{inherited_lints};
+ghost use Rattle.cargo_toml_package.specs.Sharing.{inherited_lints};
 
+use crate::inheriting::NewFields;
 use cargo_toml_dependencies::inheriting::NewTarget;
-use cargo_toml_package::inheriting::NewFields;
 use cargo_toml_parts::{Error, Inheritable};
 use cargo_toml_tables::LintGroups;
 use cargo_toml_tables::lint::duplicate_lints;

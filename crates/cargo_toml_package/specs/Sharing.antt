@@ -6,8 +6,8 @@ use Rattle.cargo_toml_parts.specs.declared.inheritable.Inheritable.TheVariants.{
 use Rattle.cargo_toml_dependencies.specs.Inheriting.{Entries}
 use Rattle.cargo_toml_package.specs.Templates.{TemplateMeaning}
 use Rattle.cargo_toml_tables.specs.Lints.{LintMeaning}
-use Rattle.cargo_toml_workspace.specs.Workspaces.{WorkspaceMeaning, workspace_meaning}
-use Rattle.cargo_toml_workspace.specs.declared.workspace.Workspace.{Workspace}
+use Rattle.cargo_toml_package.specs.Workspaces.{WorkspaceMeaning, workspace_meaning}
+use Rattle.cargo_toml_package.specs.declared.workspace.Workspace.{Workspace}
 
 -- lints by tool, and then by name
 abbrev pub LintsByTool : Type 0

@@ -1,9 +1,9 @@
 //! The settings of a profile, each of which is one value of a tree.
 ghost use Rattle.std.specs.Prelude.{◌≡◌, Some, None, MatchResult};
 ghost use Rattle.toml.specs.View.{view};
-ghost use Rattle.cargo_toml_settings.specs.ProfileSettings.{debug_of, debug_fault, strip_of};
-ghost use Rattle.cargo_toml_settings.specs.ProfileSettings.{strip_fault, lto_of, lto_fault};
-ghost use Rattle.cargo_toml_settings.specs.ProfileSettings.{SettingRefuses};
+ghost use Rattle.cargo_toml_tables.specs.ProfileSettings.{debug_of, debug_fault, strip_of};
+ghost use Rattle.cargo_toml_tables.specs.ProfileSettings.{strip_fault, lto_of, lto_fault};
+ghost use Rattle.cargo_toml_tables.specs.ProfileSettings.{SettingRefuses};
 
 use cargo_toml_parts::read::Read;
 use cargo_toml_parts::{Error, ParseFault};
@@ -106,7 +106,7 @@ fn lto_setting(value: &Value) -> Result<LtoSetting, &'static str>
 }
 
 impl Read for DebugSetting {
-    ghost use Rattle.cargo_toml_settings.specs.declared.profile_settings.DebugSetting.{
+    ghost use Rattle.cargo_toml_tables.specs.declared.profile_settings.DebugSetting.{
       DebugSetting,
     };
 
@@ -146,7 +146,7 @@ impl TryFrom<Value> for DebugSetting {
 }
 
 impl Read for StripSetting {
-    ghost use Rattle.cargo_toml_settings.specs.declared.profile_settings.StripSetting.{
+    ghost use Rattle.cargo_toml_tables.specs.declared.profile_settings.StripSetting.{
       StripSetting,
     };
 
@@ -186,7 +186,7 @@ impl TryFrom<Value> for StripSetting {
 }
 
 impl Read for LtoSetting {
-    ghost use Rattle.cargo_toml_settings.specs.declared.profile_settings.LtoSetting.{LtoSetting};
+    ghost use Rattle.cargo_toml_tables.specs.declared.profile_settings.LtoSetting.{LtoSetting};
 
     ghost Meaning = { LtoSetting };
 

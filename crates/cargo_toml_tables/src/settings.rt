@@ -1,5 +1,7 @@
 //! The enums that stand for one value of a tree.
 
+mod duplicate;
+mod laws;
 mod questions;
 
 use cargo_toml_parts::Error;
@@ -57,7 +59,7 @@ pub enum Publish {
 /// Of the usual name.
 impl Default for OptionalFile {
     ghost use Rattle.std.specs.Prelude.{◌≡◌, true};
-    ghost use Rattle.cargo_toml_settings.specs.Settings.{file_meaning, flag};
+    ghost use Rattle.cargo_toml_tables.specs.Settings.{file_meaning, flag};
 
     ghost is_default = { λ file. file_meaning file ≡ flag true };
 
@@ -69,7 +71,7 @@ impl Default for OptionalFile {
 /// Everywhere.
 impl Default for Publish {
     ghost use Rattle.std.specs.Prelude.{◌≡◌, true};
-    ghost use Rattle.cargo_toml_settings.specs.Settings.{publish_meaning, everywhere};
+    ghost use Rattle.cargo_toml_tables.specs.Settings.{publish_meaning, everywhere};
 
     ghost is_default = { λ publish. publish_meaning publish ≡ everywhere true };
 
@@ -79,7 +81,7 @@ impl Default for Publish {
 }
 
 impl Scalar for Edition {
-    ghost use Rattle.cargo_toml_settings.specs.Settings.{edition_reads};
+    ghost use Rattle.cargo_toml_tables.specs.Settings.{edition_reads};
 
     ghost says = { edition_reads };
 
@@ -95,7 +97,7 @@ impl Scalar for Edition {
 }
 
 impl Scalar for Resolver {
-    ghost use Rattle.cargo_toml_settings.specs.Settings.{resolver_reads};
+    ghost use Rattle.cargo_toml_tables.specs.Settings.{resolver_reads};
 
     ghost says = { resolver_reads };
 
@@ -110,7 +112,7 @@ impl Scalar for Resolver {
 }
 
 impl Read for OptionalFile {
-    ghost use Rattle.cargo_toml_settings.specs.Settings.{File, file_of, file_meaning};
+    ghost use Rattle.cargo_toml_tables.specs.Settings.{File, file_of, file_meaning};
 
     ghost Meaning = { File };
 
@@ -128,8 +130,8 @@ impl Read for OptionalFile {
 }
 
 impl Read for Publish {
-    ghost use Rattle.cargo_toml_settings.specs.Settings.{Registries, publish_of};
-    ghost use Rattle.cargo_toml_settings.specs.Settings.{publish_meaning, PublishRefuses};
+    ghost use Rattle.cargo_toml_tables.specs.Settings.{Registries, publish_of};
+    ghost use Rattle.cargo_toml_tables.specs.Settings.{publish_meaning, PublishRefuses};
 
     ghost Meaning = { Registries };
 

@@ -1,6 +1,6 @@
 use Rattle.std.proofs.Common.{arith}
 use Rattle.cargo_toml_parts.proofs.CopiedFields.{copied, ends, steady, surely}
-use Rattle.cargo_toml_workspace.proofs.workspace.WorkspaceClone.clone.Goals as goal
+use Rattle.cargo_toml_package.proofs.workspace.WorkspaceClone.clone.Goals as goal
 
 pub returns : goal.returns
 returns g c = record {

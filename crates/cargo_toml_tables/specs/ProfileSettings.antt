@@ -4,14 +4,14 @@ use Rattle.std.specs.Prelude.{false, if◌then◌else◌, Option, Some, None}
 use Rattle.std.specs.Ordering.{int_eq}
 use Rattle.toml.specs.Data.{Data, string, integer, boolean}
 use Rattle.cargo_toml_parts.specs.declared.error.Error.{Error}
-use Rattle.cargo_toml_settings.specs.declared.profile_settings.DebugSetting.{DebugSetting}
-use Rattle.cargo_toml_settings.specs.declared.profile_settings.DebugSetting.TheVariants as debug
-use Rattle.cargo_toml_settings.specs.declared.profile_settings.StripSetting.{StripSetting}
-use Rattle.cargo_toml_settings.specs.declared.profile_settings.StripSetting.TheVariants as strip
-use Rattle.cargo_toml_settings.specs.declared.profile_settings.LtoSetting.{LtoSetting}
-use Rattle.cargo_toml_settings.specs.declared.profile_settings.LtoSetting.TheVariants as lto
+use Rattle.cargo_toml_tables.specs.declared.profile_settings.DebugSetting.{DebugSetting}
+use Rattle.cargo_toml_tables.specs.declared.profile_settings.DebugSetting.TheVariants as debug
+use Rattle.cargo_toml_tables.specs.declared.profile_settings.StripSetting.{StripSetting}
+use Rattle.cargo_toml_tables.specs.declared.profile_settings.StripSetting.TheVariants as strip
+use Rattle.cargo_toml_tables.specs.declared.profile_settings.LtoSetting.{LtoSetting}
+use Rattle.cargo_toml_tables.specs.declared.profile_settings.LtoSetting.TheVariants as lto
 use Rattle.cargo_toml_parts.specs.Faults.{IsShape}
-use Rattle.cargo_toml_settings.specs.Settings.{named}
+use Rattle.cargo_toml_tables.specs.Settings.{named}
 
 abbrev pub debug_number : ℤ → Option DebugSetting
 debug_number z =

@@ -1,12 +1,12 @@
 // What is asked of editions, resolvers, optional files and where to publish.
 ghost use Rattle.std.specs.Prelude.{◌≡◌, ◌↔◌, IsTrue, Some, option_map};
-ghost use Rattle.cargo_toml_settings.specs.Settings.{file_meaning, publish_meaning};
+ghost use Rattle.cargo_toml_tables.specs.Settings.{file_meaning, publish_meaning};
 
 use super::{Edition, OptionalFile, Publish, Resolver};
 use std::fmt;
 
 impl Edition {
-    ghost use Rattle.cargo_toml_settings.specs.SettingAnswers.{first_minor_of};
+    ghost use Rattle.cargo_toml_tables.specs.SettingAnswers.{first_minor_of};
 
     /// The minor version `x` of the first Rust 1.`x` that knows the edition. Of 2015, which 1.0
     /// knows too, it is 1.
@@ -24,7 +24,7 @@ impl Edition {
 
 /// The year, which is the text of the key `edition`.
 impl fmt::Display for Edition {
-    ghost use Rattle.cargo_toml_settings.specs.Settings.{edition_text};
+    ghost use Rattle.cargo_toml_tables.specs.Settings.{edition_text};
 
     ghost output = { λ edition. Some (edition_text edition) };
 
@@ -40,7 +40,7 @@ impl fmt::Display for Edition {
 
 /// The number, which is the text of the key `resolver`.
 impl fmt::Display for Resolver {
-    ghost use Rattle.cargo_toml_settings.specs.Settings.{resolver_text};
+    ghost use Rattle.cargo_toml_tables.specs.Settings.{resolver_text};
 
     ghost output = { λ resolver. Some (resolver_text resolver) };
 
@@ -54,7 +54,7 @@ impl fmt::Display for Resolver {
 }
 
 impl OptionalFile {
-    ghost use Rattle.cargo_toml_settings.specs.SettingAnswers.{shown, path_of, is_wanted};
+    ghost use Rattle.cargo_toml_tables.specs.SettingAnswers.{shown, path_of, is_wanted};
 
     /// The path, `<default>` for the file of the usual name, or `<disabled>`.
     pub fn display(&self) -> &str
@@ -89,7 +89,7 @@ impl OptionalFile {
 }
 
 impl Publish {
-    ghost use Rattle.cargo_toml_settings.specs.SettingAnswers.{is_publishable};
+    ghost use Rattle.cargo_toml_tables.specs.SettingAnswers.{is_publishable};
 
     /// Whether the setting says `other`: a list of registries counts as true exactly
     /// if it isn't empty.

@@ -19,7 +19,7 @@ use Rattle.cargo_toml_graph.specs.Redirects.{RedirectsTo}
 use Rattle.cargo_toml_graph.specs.Removal.{SameKept, lists_text, is_removed, pass_all, unremoved, without_all}
 use Rattle.cargo_toml_graph.proofs.BinLists.{among-true, is_among-true}
 use Rattle.cargo_toml_graph.proofs.Elimination.{all_taken_out}
-use Rattle.cargo_toml_graph.proofs.InByteOrder.{ascending_once, by_true, passed_all_alike, passed_has, removed_there, unremoved_alike}
+use Rattle.cargo_toml_graph.proofs.InByteOrder.{ascending_once, passed_all_alike, passed_has, removed_there, unremoved_alike}
 use Rattle.cargo_toml_graph.proofs.Members.{label_within, resolved_alike}
 use Rattle.cargo_toml_graph.proofs.RedirectsInOrder.{redirect_by_bytes}
 use Rattle.cargo_toml_features.specs.InOrder.{feature_at, resolution_among}
@@ -155,8 +155,8 @@ module _ {S H : Type 0} (listed : Listed) (entries : List Entry) (details : Name
         ∙ passed_all_alike (λ v. IsTrue (t.has v)) rs m (unremoved t) (bins_at old) own (unremoved_alike t m start) there own_is f k.0;
   }
 
-  redirected : (r : Text) → is_some (option_map set_has (value_at a.hidden_features r)) ≡ is_removed t keep r
-  redirected r = mapped (value_at a.hidden_features r) ∙ told r ∙ by_true (lists_text rs r) (is_removed t keep r) (λ e. into r (is_among-true rs r e), λ e. among-true rs r (back r e))
+  redirected : (r : Text) → IsSome (option_map set_has (value_at a.hidden_features r)) ↔ R r
+  redirected r = (λ y. into r (is_among-true rs r (sym (mapped (value_at a.hidden_features r) ∙ told r) ∙ y)), λ y. mapped (value_at a.hidden_features r) ∙ told r ∙ among-true rs r (back r y))
     where
       mapped : (o : Option (BTreeSet (Bor Text))) → is_some (option_map set_has o) ≡ is_some o
       mapped None = refl

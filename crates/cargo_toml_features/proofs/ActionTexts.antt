@@ -1,12 +1,11 @@
 -- The parts of an action text, and one more action on a dependency.
-use Rattle.std.proofs.Common.{◌≡◌, ◌<◌, ◌+◌, ℕ, Bool, true, false, cond, ◌&&◌, ◌||◌, not, List, [], ◌∷◌, length, take, nat_eq, Option, Some, None, is_some, IfSome, option_map, bytes_eq, codes, Bor, arith, refl, sym, ap, ◌∙◌, subst, unwrap_or}
+use Rattle.std.proofs.Common.{◌≡◌, ◌+◌, ℕ, Bool, true, false, cond, ◌&&◌, ◌||◌, not, List, [], ◌∷◌, length, nat_eq, Option, Some, None, is_some, IfSome, option_map, bytes_eq, codes, Bor, arith, refl, sym, ap, ◌∙◌, subst, unwrap_or}
 use Rattle.std.specs.List.{starts_with, ends_with, before_first, after_first, list_any, position_or_len}
 use Rattle.std.specs.Option.{option_map_or}
 use Rattle.std.specs.BTreeMap.{BTreeMap, is_at}
 use Rattle.std.specs.Map.{lookup}
 use Rattle.std.specs.Cmp.Lexicographic.{slice_cmp}
 use Rattle.std.specs.Ordering.{nat_cmp}
-use Rattle.std.proofs.Math.Seq.{take-length}
 use Rattle.cargo_toml_graph.specs.Action.{Text, Action, join, join_option, without_start, without_end, is_slash, item_of}
 use Rattle.cargo_toml_graph.specs.Action.Item.{Name, On}
 use Rattle.cargo_toml_features.specs.ActionText.{item_in}
@@ -15,6 +14,7 @@ use Rattle.cargo_toml_features.specs.declared.action.ActionText.{ActionText}
 use Rattle.cargo_toml_features.specs.declared.features.DepAction.{DepAction}
 use Rattle.std.proofs.lemmas.Slice.Eq.{bytes_eq-Decides}
 use Rattle.cargo_toml_graph.proofs.Texts.{bytes_eq_sym}
+use Rattle.cargo_toml_graph.proofs.JoinLaws.{join_option_none}
 
 -- where no element passes, the search runs to the end
 pub none_found : (p : ℕ → Bool) (xs : List ℕ) → position_or_len p xs ≡ length xs → list_any p xs ≡ false
@@ -24,17 +24,6 @@ none_found p (x ∷ xs) e = go (p x) (none_found p xs) e
     go : (b : Bool) → (position_or_len p xs ≡ length xs → list_any p xs ≡ false) → cond (not b) (1 + position_or_len p xs) 0 ≡ length (x ∷ xs) → (b || list_any p xs) ≡ false
     go true rest h = absurd (omega (arith, h))
     go false rest h = rest (omega (arith, h))
-
-pub one_found : (p : ℕ → Bool) (xs : List ℕ) → position_or_len p xs < length xs → list_any p xs ≡ true
-one_found p [] h = absurd (omega (arith, h))
-one_found p (x ∷ xs) h = go (p x) (one_found p xs) h
-  where
-    go : (b : Bool) → (position_or_len p xs < length xs → list_any p xs ≡ true) → cond (not b) (1 + position_or_len p xs) 0 < length (x ∷ xs) → (b || list_any p xs) ≡ true
-    go true rest h = refl
-    go false rest h = rest (omega (arith, h))
-
-pub all_before : (p : ℕ → Bool) (xs : List ℕ) → position_or_len p xs ≡ length xs → xs ≡ before_first p xs
-all_before p xs e = sym (ap (λ n. take n xs) e ∙ take-length xs)
 
 -- which features an action text asks for
 asked : (text : Text) (after : Option (Bor Text)) → is_some after ≡ list_any is_slash text → IfSome after (λ f. f.now ≡ after_first is_slash text) → (x : Text)
@@ -63,10 +52,6 @@ apart text front marked t front_is has after marked_is dep_only target condition
     key : t.target.now ≡ without_end (codes "?") (without_start (codes "dep:") (before_first is_slash text))
     key = target ∙ ap (without_end (codes "?")) whole
 
-pub join_none : (o : Option Action) → join_option o None ≡ o
-join_none None = refl
-join_none (Some a) = refl
-
 -- what a list of entries holds at a text
 abbrev entry_at : List (Bor Text × DepAction) → Text → Option DepAction
 entry_at es k = lookup (is_at (λ q. slice_cmp nat_cmp k q.now)) es
@@ -86,4 +71,4 @@ joined_at old new key a first held made others there neutral held_is made_is k =
 
     go : (b : Bool) → bytes_eq k key ≡ b → option_map action_of (entry_at new k) ≡ join_option (action_at old k) (cond b (Some a) None)
     go true e = subst (λ q. option_map action_of (entry_at new q) ≡ join_option (action_at old q) (Some a)) (sym ((bytes_eq-Decides k key).0 e)) (ap (option_map action_of) there ∙ here (entry_at old.entries key) held_is)
-    go false e = ap (option_map action_of) (others k (bytes_eq_sym key k ∙ e)) ∙ sym (join_none (action_at old k))
+    go false e = ap (option_map action_of) (others k (bytes_eq_sym key k ∙ e)) ∙ sym (join_option_none (action_at old k))

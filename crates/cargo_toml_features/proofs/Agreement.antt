@@ -1,20 +1,15 @@
 -- What is listed, the entries and what is kept settle an answer except its binaries.
-use Rattle.std.proofs.Common.{◌≡◌, ◌↔◌, Bool, true, false, List, Option, Some, None, IsTrue, IfSome, is_some, refl, sym, ap, subst, ◌∙◌}
+use Rattle.std.proofs.Common.{◌≡◌, ◌↔◌, Bool, List, Option, Some, None, IsTrue, IfSome, is_some, sym, ap, subst, ◌∙◌}
 use Rattle.std.proofs.lemmas.Bool.{false≢true}
 use Rattle.cargo_toml_graph.specs.Action.{Text}
 use Rattle.cargo_toml_graph.specs.Admitted.{Listed}
 use Rattle.cargo_toml_graph.specs.Removal.{is_removed}
 use Rattle.cargo_toml_graph.proofs.Settled.{resolution_settled}
+use Rattle.cargo_toml_graph.proofs.Texts.{by_true}
 use Rattle.cargo_toml_features.specs.Agreement.{Agree, SameTests}
 use Rattle.cargo_toml_features.specs.Marks.{NamedDetails, FeatureMarks}
 use Rattle.cargo_toml_features.specs.Recorded.{Entry, RecordedKey}
 use Rattle.cargo_toml_features.specs.Resolved.{Answer, IsAnswer, SameRecorded, table_of}
-
-by_true : (a b : Bool) → IsTrue a ↔ IsTrue b → a ≡ b
-by_true false false e = refl
-by_true false true e = absurd (false≢true (e.1 refl))
-by_true true false e = sym (e.0 refl)
-by_true true true e = refl
 
 -- two that record what a third does
 alike : (a b c : Option RecordedKey) → SameRecorded a c → SameRecorded b c → SameRecorded a b
@@ -43,6 +38,6 @@ settled listed entries details told own others keep a b h k = record {
       ap (λ (m : FeatureMarks). m.explicit) (h.kept.marks f has)
       ∙ sym (ap (λ (m : FeatureMarks). m.explicit) (k.kept.marks f ((k.kept.resolved.kept f).1 ((h.kept.resolved.kept f).0 has))));
   dependencies = λ d. alike (a.dependencies d) (b.dependencies d) _ (h.kept.dependencies d) (k.kept.dependencies d);
-  redirects = λ r. tests_alike _ (a.redirects r) (b.redirects r) (h.redirected r ∙ sym (k.redirected r)) (h.redirects r) (k.redirects r);
+  redirects = λ r. tests_alike _ (a.redirects r) (b.redirects r) (by_true _ _ (λ y. (k.redirected r).1 ((h.redirected r).0 y), λ y. (h.redirected r).1 ((k.redirected r).0 y))) (h.redirects r) (k.redirects r);
   removed_some = by_true a.removed_some b.removed_some (λ e. k.kept.some.1 (h.kept.some.0 e), λ e. h.kept.some.1 (k.kept.some.0 e));
 }

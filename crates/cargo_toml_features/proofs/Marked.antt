@@ -8,7 +8,7 @@ use Rattle.cargo_toml_graph.specs.Action.{Text}
 use Rattle.cargo_toml_graph.specs.Admitted.{Listed, is_explicit}
 use Rattle.cargo_toml_features.specs.Marks.{NamedDetails, detail_named, details_listed, marked, marks_in}
 use Rattle.cargo_toml_features.specs.Recorded.{Entry}
-use Rattle.cargo_toml_features.specs.Resolved.{Answer, IsAnswer}
+use Rattle.cargo_toml_features.specs.Resolved.{Answer, IsAnswerWithout}
 
 -- of a name that is listed, the details of what is listed say what all details say
 listed_says : (listed : Listed) (details : NamedDetails) (f : Text) → is_some (lookup (bytes_eq f) listed) ≡ true → detail_named (details_listed listed details) f ≡ detail_named details f
@@ -22,7 +22,7 @@ listed_says (e ∷ es) details f there = go (bytes_eq f e.0) refl (listed_says e
     go false off later t = later t
 
 -- so the marks by both are the same
-pub marks_listed : (listed : Listed) (details : NamedDetails) (f : Text) → marks_in listed (details_listed listed details) f ≡ marks_in listed details f
+marks_listed : (listed : Listed) (details : NamedDetails) (f : Text) → marks_in listed (details_listed listed details) f ≡ marks_in listed details f
 marks_listed listed details f = ap (marked (is_explicit listed f)) (go (is_some (lookup (bytes_eq f) listed)) (listed_says listed details f))
   where
     go : (b : Bool) → (b ≡ true → detail_named (details_listed listed details) f ≡ detail_named details f)
@@ -31,9 +31,9 @@ marks_listed listed details f = ap (marked (is_explicit listed f)) (go (is_some 
     go false same = refl
 
 -- and an answer by the details of what is listed is one by all details
-pub told_by_listed : (listed : Listed) (entries : List Entry) (details : NamedDetails) (own : Text → List Text) (keep : Text → Bool) (a : Answer)
-    → IsAnswer listed entries (details_listed listed details) own keep a → IsAnswer listed entries details own keep a
-told_by_listed listed entries details own keep a h = record {
+pub told_by_listed : (listed : Listed) (entries : List Entry) (details : NamedDetails) (own : Text → List Text) (R : Text → Type 0) (a : Answer)
+    → IsAnswerWithout listed entries (details_listed listed details) own R a → IsAnswerWithout listed entries details own R a
+told_by_listed listed entries details own R a h = record {
   kept = record {
     resolved = h.kept.resolved;
     keyed = h.kept.keyed;

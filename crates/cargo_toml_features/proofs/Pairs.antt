@@ -4,7 +4,7 @@ use Rattle.std.proofs.lemmas.List.{map-append, append-nil}
 use Rattle.std.proofs.lemmas.Map.{NonePasses}
 use Rattle.std.proofs.lemmas.Map.Entries.{none_past_head}
 use Rattle.std.proofs.lemmas.Map.Keys.{IsDistinct-tail, IsDistinct-from_sorted}
-use Rattle.std.proofs.lemmas.Cmp.{eq_by_cmp_equiv, nat_list_eq_equiv}
+use Rattle.std.proofs.lemmas.Cmp.{eq_by_cmp_equiv}
 use Rattle.std.specs.Map.Iter.{deref_pair}
 use Rattle.std.specs.Cmp.Lexicographic.{slice_cmp, on_texts}
 use Rattle.std.specs.Ordering.{nat_cmp, eq_by_cmp}
@@ -20,6 +20,7 @@ use Rattle.std.specs.HashMap.{HashMap}
 use Rattle.std.specs.Option.{option_map_or}
 use Rattle.cargo_toml_features.specs.declared.features.DepAction.{DepAction}
 use Rattle.cargo_toml_graph.specs.Action.{Text, Action}
+use Rattle.cargo_toml_graph.proofs.Texts.{bytes_eq_sym}
 use Rattle.cargo_toml_features.specs.Reached.{Lists, pairs_at, HaveNoEmpty}
 use Rattle.cargo_toml_features.specs.Visits.{AddsPair, items_at, unconditional}
 use Rattle.cargo_toml_features.specs.Views.{value_at, action_of, action_at}
@@ -30,9 +31,6 @@ module _ {X S : Type 0} (k : Text) (m n : HashMap (Bor Text) X S) (w : Option X)
 
   pub elsewhere : (q : Text) → bytes_eq k q ≡ false → value_at n q ≡ value_at m q
   elsewhere q apart = hash_map_updates_str k m n w h q ∙ cond-false _ _ _ apart
-
-bytes_eq_sym : (a b : Text) → bytes_eq a b ≡ bytes_eq b a
-bytes_eq_sym a b = nat_list_eq_equiv.symm a b
 
 -- the list `held` that stood at k, or an empty one, became `longer`
 pub pair_listed : {S : Type 0} (k : Text) (pair : Bor Text × Bor DepAction) (old new : Lists S) (empty held longer : Vec (Bor Text × Bor DepAction) Global)

@@ -1,5 +1,5 @@
 -- Where texts stand in a list, and in one that ascends in byte order.
-use Rattle.std.proofs.Common.{◌≡◌, ◌↔◌, ◌<◌, ℕ, zero, suc, List, [], ◌∷◌, length, IsTrue, get_or, refl, sym, subst, inl, inr, arith}
+use Rattle.std.proofs.Common.{◌≡◌, ◌<◌, ℕ, zero, suc, List, [], ◌∷◌, length, IsTrue, get_or, refl, sym, subst, inl, inr, arith}
 use Rattle.std.proofs.lemmas.Bool.{cases_order}
 use Rattle.cargo_toml_graph.specs.Ascending.{Ascend}
 use Rattle.cargo_toml_graph.specs.Action.{Text}
@@ -47,7 +47,3 @@ lower_place texts i j ordered lower =
       | inl is ↦ absurd (not_itself (nth_text texts j) (subst (λ k. IsTrue (is_below (nth_text texts k) (nth_text texts j))) is lower))
       | inr other ↦ elim other [ inl less ↦ less | inr more ↦ absurd (below_one_way (nth_text texts i) (nth_text texts j) lower (ordered more)) ]
     ]
-
--- the order of places is the order of texts
-pub by_place : (texts : List Text) → Ascend texts → (i j : ℕ) → i < length texts → j < length texts → (i < j) ↔ IsTrue (is_below (nth_text texts i) (nth_text texts j))
-by_place texts up i j below below' = (λ earlier. rises texts up i j earlier below', lower_place texts i j (λ later. rises texts up j i later below))

@@ -1,5 +1,5 @@
 -- The targets of a dependency, by the order of their keys.
-use Rattle.std.proofs.Common.{◌≡◌, Ordering, Less, Equal, Greater, true, Option, Some, None, option_map, unwrap_or, Bor, refl, sym, ap, ◌∙◌}
+use Rattle.std.proofs.Common.{◌≡◌, Ordering, Less, Equal, Greater, true, Option, Some, None, option_map, Bor, refl, sym, ap, ◌∙◌}
 use Rattle.std.proofs.lemmas.Bool.{false≢true}
 use Rattle.std.specs.Option.{option_copied}
 use Rattle.std.specs.Ordering.{is_eq}
@@ -74,8 +74,3 @@ target_same key m t e = by_key m t ∙ ap (λ f. tree.get_by f m) (λ i k. laws.
 
 abbrev pub at : BTreeMap TargetKey (Bor Dependency) → Target → Option DependencyMeaning
 at m t = option_map (λ x. dependency_meaning x.now) (tree.get_by (λ k. target_cmp t (target_in k)) m)
-
--- the text of a name that may be missing
-pub text_or : (o : Option (Bor Text)) (d : Bor Text) → (unwrap_or o d).now ≡ unwrap_or (option_map (λ t. t.now) o) d.now
-text_or None d = refl
-text_or (Some t) d = refl

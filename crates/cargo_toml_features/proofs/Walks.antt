@@ -12,6 +12,7 @@ use Rattle.cargo_toml_graph.specs.Reach.{Among, IsOnce}
 use Rattle.cargo_toml_graph.specs.Graph.{Table}
 use Rattle.cargo_toml_graph.specs.Recursive.{Enables, ArePairs}
 use Rattle.cargo_toml_graph.specs.Recursive.Enables.{itself, further}
+use Rattle.cargo_toml_graph.proofs.BinLists.{among-either, among-first, among-second, once-push}
 use Rattle.cargo_toml_features.specs.Reached.{Found, Lists, AreEnabled, ComeFrom, HaveNoEmpty, pairs_at}
 use Rattle.cargo_toml_features.specs.Views.{value_at, set_has, action_of, action_at, table_in}
 use Rattle.cargo_toml_features.specs.Visits.{unconditional, is_pending, AreHeld, PushesNamed, PutsFound, AddsActions}
@@ -40,24 +41,6 @@ pub record Walks {S : Type 0} (m : HashMap (Bor Text) Feature S) (s : Text) (F :
   pub no_empty : HaveNoEmpty E
 
 -- ---- lists of pairs
-among-append : {K : Type 0} (xs ys : List K) (v : K) → Among (xs ++ ys) v → Among xs v ⊎ Among ys v
-among-append [] ys v h = inr h
-among-append (x ∷ xs) ys v (inl e) = inl (inl e)
-among-append (x ∷ xs) ys v (inr h) = elim (among-append xs ys v h) [ inl a ↦ inl (inr a) | inr b ↦ inr b ]
-
-among_front : {K : Type 0} (xs ys : List K) (v : K) → Among xs v → Among (xs ++ ys) v
-among_front [] ys v h = absurd h
-among_front (x ∷ xs) ys v (inl e) = inl e
-among_front (x ∷ xs) ys v (inr h) = inr (among_front xs ys v h)
-
-among_back : {K : Type 0} (xs ys : List K) (v : K) → Among ys v → Among (xs ++ ys) v
-among_back [] ys v h = h
-among_back (x ∷ xs) ys v h = inr (among_back xs ys v h)
-
-once-push : {K : Type 0} (xs : List K) (v : K) → IsOnce xs → (¬ Among xs v) → IsOnce (xs ++ v ∷ [])
-once-push [] v o n = (λ h. h, tt)
-once-push (x ∷ xs) v o n = (λ h. elim (among-append xs (v ∷ []) x h) [ inl a ↦ o.0 a | inr b ↦ elim b [ inl e ↦ n (inl (sym e)) | inr b ↦ b ] ], once-push xs v o.1 (λ h. n (inr h)))
-
 with_action : (pairs : List (Text × Action)) (g : Text) → Among (map (λ p. p.0) pairs) g → (a : Action) × Among pairs (g, a)
 with_action [] g h = absurd h
 with_action (p ∷ pairs) g (inl e) = (p.1, inl (ap (λ x. (x, p.1)) e))
@@ -81,13 +64,13 @@ module _ (t : Table) (found found' : Text → Type 0) (f k : Text) (old : List (
 
   one_listed : (b : Action) → t.action f k ≡ Some b → IsFalse b.is_conditional → ArePairsOf t found' k (old ++ (f, b) ∷ [])
   one_listed b at plain = record {
-    sound = λ g a i. elim (among-append old ((f, b) ∷ []) (g, a) i) [
+    sound = λ g a i. elim (among-either old ((f, b) ∷ []) (g, a) i) [
       | inl i ↦ sound_before g a i
       | inr i ↦ elim i [ inl e ↦ (subst found' (sym (ap (λ p. p.0) e)) here, ap (λ p. t.action p.0 k) e ∙ at ∙ ap (λ p. Some p.1) (sym e), ap (λ p. p.1.is_conditional) e ∙ plain) | inr i ↦ absurd i ]
     ];
     complete = λ g a i e plain. elim (only g i) [
-      | inl s ↦ among_back old ((f, b) ∷ []) (g, a) (inl (same_pair g a s (sym e ∙ ap (λ x. t.action x k) s ∙ at)))
-      | inr i ↦ among_front old ((f, b) ∷ []) (g, a) (h.complete g a i e plain)
+      | inl s ↦ among-second old ((f, b) ∷ []) (g, a) (inl (same_pair g a s (sym e ∙ ap (λ x. t.action x k) s ∙ at)))
+      | inr i ↦ among-first old ((f, b) ∷ []) (g, a) (h.complete g a i e plain)
     ];
     once = subst IsOnce (sym (map-append (λ (p : Text × Action). p.0) old ((f, b) ∷ []))) (once-push (map (λ p. p.0) old) f h.once (λ i. let r = with_action old f i in new (h.sound f r.0 r.1).0));
   }

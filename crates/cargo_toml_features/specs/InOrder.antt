@@ -2,20 +2,12 @@
 use Rattle.std.specs.Prelude.{◌≡◌, List, [], Option, IfSome, bytes_eq}
 use Rattle.std.specs.Prelude.{is_some, map}
 use Rattle.std.specs.List.{find}
-use Rattle.std.specs.Borrow.{Bor}
 use Rattle.std.specs.BTreeMap as tree
-use Rattle.std.specs.BTreeMap.{BTreeMap}
-use Rattle.std.specs.Cmp.Lexicographic.{slice_cmp}
-use Rattle.std.specs.Ordering.{nat_cmp}
 use Rattle.cargo_toml_features.specs.declared.features.Feature.{Feature}
 use Rattle.cargo_toml_graph.specs.Ascending.{Ascend}
 use Rattle.cargo_toml_graph.specs.Action.{Text}
 use Rattle.cargo_toml_graph.specs.Graph.{Table, Resolution}
 use Rattle.cargo_toml_features.specs.Views.{resolution_by, table_by}
-
--- what a map in order holds under a text
-abbrev pub sorted_at : {X : Type 0} → BTreeMap (Bor Text) X → Text → Option X
-sorted_at m f = tree.get_by (λ k. slice_cmp nat_cmp f k.now) m
 
 abbrev pub names_of : List Feature → List Text
 names_of vs = map (λ v. v.key.now) vs

@@ -1,5 +1,5 @@
 -- From what a manifest lists to the table of features, and the whole answer.
-use Rattle.std.specs.Prelude.{◌≡◌, ◌↔◌, Bool, false, if◌then◌else◌, ◌&&◌, ◌||◌, List, is_some}
+use Rattle.std.specs.Prelude.{◌≡◌, ◌↔◌, Bool, false, if◌then◌else◌, ◌&&◌, ◌||◌, List, IsSome}
 use Rattle.std.specs.Prelude.{option_map, IsTrue, Option, Some, None, bytes_eq, IfSome}
 use Rattle.cargo_toml_graph.specs.Action.{Text, Action}
 use Rattle.cargo_toml_graph.specs.Admitted.{Listed, is_explicit, is_below, names, joined_action}
@@ -52,34 +52,34 @@ SameRecorded (Some a) (Some b) =
     (a.crate_name ≡ b.crate_name) × ((t : Target) → a.targets t ≡ b.targets t)
 SameRecorded _ _ = ⊥
 
--- the listed features and the entries are resolved, with the features taken out that the filter
--- doesn't keep: which features are left, under their own keys and with their marks, and the
--- recorded dependencies
+-- the listed features and the entries are resolved, with the features taken out of which Removed
+-- holds: which features are left, under their own keys and with their marks, and the recorded
+-- dependencies
 pub record IsKeptAnswer (listed : Listed) (entries : List Entry) (details : NamedDetails)
-    (keep : Text → Bool) (a : Answer) : Type 0 where
-  pub resolved : IsResolved (table_of listed entries)
-      (λ f. IsTrue (is_removed (table_of listed entries) keep f)) a.resolution
+    (Removed : Text → Type 0) (a : Answer) : Type 0 where
+  pub resolved : IsResolved (table_of listed entries) Removed a.resolution
   pub keyed : (f : Text) → IfSome (a.key f) (λ k. k ≡ f)
   pub marks : (f : Text) → IsTrue (a.resolution.table.has f) → a.marks f ≡ marks_in listed details f
   pub dependencies : (k : Text) → SameRecorded (a.dependencies k)
       (recorded_of (entries_at listed entries k))
-  pub some : IsTrue a.removed_some
-      ↔ ((r : Text) × IsTrue (is_removed (table_of listed entries) keep r))
+  pub some : IsTrue a.removed_some ↔ ((r : Text) × Removed r)
 
 -- and so are the binaries that require features, of which own are the binaries' own
 -- mentions: by paths, and as they are passed on in byte order; and what stands for each
 -- feature that is taken out
-pub record IsAnswer (listed : Listed) (entries : List Entry) (details : NamedDetails)
-    (own : Text → List Text) (keep : Text → Bool) (a : Answer) : Type 0 where
-  pub kept : IsKeptAnswer listed entries details keep a
+pub record IsAnswerWithout (listed : Listed) (entries : List Entry) (details : NamedDetails)
+    (own : Text → List Text) (Removed : Text → Type 0) (a : Answer) : Type 0 where
+  pub kept : IsKeptAnswer listed entries details Removed a
   pub bins : (f : Text) → IsTrue (a.resolution.table.has f)
-      → HasBins (table_of listed entries)
-      (λ r. IsTrue (is_removed (table_of listed entries) keep r)) own f (a.bins f)
-  pub passed_on : ArePassedOn (table_of listed entries)
-      (λ r. IsTrue (is_removed (table_of listed entries) keep r)) own a.bins
-  pub redirected : (r : Text) → is_some (a.redirects r)
-      ≡ is_removed (table_of listed entries) keep r
+      → HasBins (table_of listed entries) Removed own f (a.bins f)
+  pub passed_on : ArePassedOn (table_of listed entries) Removed own a.bins
+  pub redirected : (r : Text) → IsSome (a.redirects r) ↔ Removed r
   pub redirects : (r : Text) → IfSome (a.redirects r) (λ names. (x : Text) → IsTrue (names x)
-      ↔ RedirectsTo (table_of listed entries)
-      (λ s. IsTrue (is_removed (table_of listed entries) keep s))
-      (λ s b. IsTrue (is_below s b)) r x)
+      ↔ RedirectsTo (table_of listed entries) Removed (λ s b. IsTrue (is_below s b)) r x)
+
+-- the answer with the features taken out that the filter doesn't keep
+abbrev pub IsAnswer : Listed → List Entry → NamedDetails → (Text → List Text) → (Text → Bool)
+    → Answer → Type 0
+IsAnswer listed entries details own keep a =
+    IsAnswerWithout listed entries details own
+    (λ r. IsTrue (is_removed (table_of listed entries) keep r)) a

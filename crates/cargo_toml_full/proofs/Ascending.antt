@@ -1,6 +1,6 @@
 -- Texts that ascend in byte order.
 use Rattle.std.proofs.Common.{◌≡◌, Bool, true, false, ◌<◌, ◌+◌, ℕ, List, [], ◌∷◌, length, map, get_or}
-use Rattle.std.proofs.Common.{Bor, IsTrue, refl, sym, ap, subst, inl, inr, arith}
+use Rattle.std.proofs.Common.{Bor, IsTrue, sym, ap, subst, inl, inr, arith}
 use Rattle.std.proofs.lemmas.Bool.{false≢true}
 use Rattle.std.proofs.lemmas.Cmp.{nat_list_cmp_total}
 use Rattle.std.proofs.lemmas.List.{get_or-map, length-map}
@@ -8,26 +8,20 @@ use Rattle.std.proofs.lemmas.Map.Keys.{sorted_from_all_adjacent}
 use Rattle.std.specs.Cmp.Lexicographic.{slice_cmp}
 use Rattle.std.specs.List.{IsAllAdjacentAnswer}
 use Rattle.std.specs.Ordering.{nat_cmp, is_lt}
-use Rattle.std.specs.declared.cmp.Ordering.{Ordering}
-use Rattle.std.specs.declared.cmp.Ordering.TheVariants.{Less, Equal, Greater}
+use Rattle.std.specs.declared.cmp.Ordering.TheVariants.{Less}
 use Rattle.cargo_toml_graph.specs.Action.{Text}
 use Rattle.cargo_toml_graph.specs.Admitted.{is_below}
 use Rattle.cargo_toml_graph.specs.Reach.{Among}
 use Rattle.cargo_toml_graph.specs.Ascending.{Ascend}
-use Rattle.cargo_toml_graph.proofs.SortedTexts.{first_below}
+use Rattle.cargo_toml_graph.proofs.SortedTexts.{first_below, less_from}
 
 abbrev pub Below : Text → Text → Type 0
 Below a b = IsTrue (is_below a b)
 
-less : (o : Ordering) → IsTrue (is_lt o) → o ≡ Less
-less Less h = refl
-less Equal h = absurd (false≢true h)
-less Greater h = absurd (false≢true h)
-
 pub below_then : (a b c : Text) → Below a b → Below b c → Below a c
 below_then a b c h k =
-    ap is_lt (nat_list_cmp_total.trans a b c (less (slice_cmp nat_cmp a b) h)
-    (less (slice_cmp nat_cmp b c) k))
+    ap is_lt (nat_list_cmp_total.trans a b c (less_from (slice_cmp nat_cmp a b) h)
+    (less_from (slice_cmp nat_cmp b c) k))
 
 -- what is below the first is below all
 pub lower : (a b : Text) (us : List Text) → Ascend (b ∷ us) → Below a b → (z : Text) → Among (b ∷ us) z → Below a z
@@ -55,6 +49,6 @@ ascend_by_adjacent ts true all on =
 
     step : (k : ℕ) → k + 1 < length ts
         → slice_cmp nat_cmp (get_or (texts ts) k []) (get_or (texts ts) (k + 1) []) ≡ Less
-    step k inside = less (slice_cmp nat_cmp (get_or (texts ts) k []) (get_or (texts ts) (k + 1) []))
+    step k inside = less_from (slice_cmp nat_cmp (get_or (texts ts) k []) (get_or (texts ts) (k + 1) []))
         (subst (λ x. Below x (get_or (texts ts) (k + 1) [])) (at k (omega (arith, inside)))
         (subst (Below (get_or ts k d).now) (at (k + 1) inside) (sym (all k d inside))))

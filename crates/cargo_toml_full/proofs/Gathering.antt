@@ -1,5 +1,5 @@
 -- One more text of a feature's list, and sets of texts.
-use Rattle.std.proofs.Common.{◌≡◌, Bool, true, false, cond, ◌||◌, List, [], ◌∷◌, ◌++◌, map, is_some, Option, Some, None, bytes_eq, Bor, take, length, get_or, ℕ, ◌+◌, ◌<◌, Result, Ok, Err, IfOk, refl, sym, ap, ap₂, ◌∙◌}
+use Rattle.std.proofs.Common.{◌≡◌, Bool, true, false, cond, ◌||◌, List, [], ◌∷◌, ◌++◌, map, is_some, Some, None, bytes_eq, Bor, take, length, get_or, ℕ, ◌+◌, ◌<◌, Result, Ok, Err, IfOk, refl, sym, ap, ap₂, ◌∙◌}
 use Rattle.std.proofs.Math.Bool.{or-false}
 use Rattle.std.proofs.lemmas.List.Folds.{list_any-append}
 use Rattle.std.proofs.lemmas.List.Sums.{fold_push}
@@ -17,6 +17,7 @@ use Rattle.cargo_toml_features.specs.declared.features.Feature.{Feature}
 use Rattle.cargo_toml_graph.specs.Action.{Text, Action, Item, join_option}
 use Rattle.cargo_toml_graph.specs.Action.Item.{Name, On}
 use Rattle.cargo_toml_graph.specs.Admitted.{action_on, item_names}
+use Rattle.cargo_toml_graph.proofs.JoinLaws.{join_option_none}
 use Rattle.cargo_toml_features.specs.ActionText.{action_in, item_in}
 use Rattle.cargo_toml_features.specs.Views.{action_at, set_has}
 use Rattle.cargo_toml_full.specs.ReadFeature.{IsReadFeature, joined_in}
@@ -27,10 +28,6 @@ acting t e = ap (λ b. cond b (On t.target.now (action_in t)) (Name t.target.now
 
 pub naming : (t : ActionText) → false ≡ (t.is_dep_only || is_some t.dep_feature) → item_in t ≡ Name t.target.now
 naming t e = ap (λ b. cond b (On t.target.now (action_in t)) (Name t.target.now)) (sym e)
-
-join_none : (o : Option Action) → join_option o None ≡ o
-join_none None = refl
-join_none (Some a) = refl
 
 module _ (f : Text) (d : Detail) (items : List Item) (v : Feature) (h : IsReadFeature f d items v) where
   joined : (i : Item) (k : Text) → joined_in (items ++ i ∷ []) k ≡ join_option (joined_in items k) (action_on k i)
@@ -54,7 +51,7 @@ module _ (f : Text) (d : Detail) (items : List Item) (v : Feature) (h : IsReadFe
   read_name i y is names more = record {
     fresh = record { key = h.fresh.key; marks = h.fresh.marks; enabled_by = h.fresh.enabled_by; bins = h.fresh.bins };
     names = λ x. more x ∙ ap (λ b. b || bytes_eq x y) (h.names x) ∙ sym (named i x ∙ ap (λ j. list_any (item_names x) items || item_names x j) is);
-    action = λ k. h.action k ∙ sym (joined i k ∙ ap (λ j. join_option (joined_in items k) (action_on k j)) is ∙ join_none (joined_in items k));
+    action = λ k. h.action k ∙ sym (joined i k ∙ ap (λ j. join_option (joined_in items k) (action_on k j)) is ∙ join_option_none (joined_in items k));
   }
 
 -- ---- sets of texts

@@ -1,6 +1,6 @@
 -- Values under names that ascend.
 use Rattle.std.proofs.Common.{◌≡◌, ◌<◌, ℕ, zero, suc, Bool, true, false, cond, List, [], ◌∷◌, length, map, set, get_or, Option, None, Bor, IsTrue, bytes_eq, refl, sym, ap, subst, inl, inr, arith, ◌∙◌}
-use Rattle.std.proofs.lemmas.List.{length-map, set-get_or}
+use Rattle.std.proofs.lemmas.List.{length-map}
 use Rattle.std.proofs.lemmas.Slice.Eq.{bytes_eq-Decides}
 use Rattle.cargo_toml_graph.specs.Action.{Text}
 use Rattle.cargo_toml_graph.specs.Admitted.{is_below}
@@ -82,10 +82,6 @@ module _ {V : Type 0} where
 
     pub value_put : (o : Option V) (f : Text) → held_among (names_in s) (set s.values.items i o) f ≡ cond (bytes_eq f (nth_text (names_in s) i)) o (held_in s f)
     value_put o f = held_set (names_in s) s.values.items i o s.ascend as_many inside f
-
-    -- the value that stood there is put back
-    pub value_back : (o : Option V) → o ≡ get_or s.values.items i o → (f : Text) → held_among (names_in s) (set s.values.items i o) f ≡ held_in s f
-    value_back o is f = ap (λ v. held_among (names_in s) (set s.values.items i v) f) is ∙ ap (λ vs. held_among (names_in s) vs f) (set-get_or s.values.items i o)
 
   -- what stands where a name is found
   pub value_found : (s : Slots V) → (ts : List (Bor Text)) (i : ℕ) (f : Text) (o : Option V) → ts ≡ s.names.items

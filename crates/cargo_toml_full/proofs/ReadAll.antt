@@ -8,6 +8,7 @@ use Rattle.std.proofs.lemmas.List.{map-append, take-append-drop}
 use Rattle.std.proofs.lemmas.List.Folds.{list_any-append}
 use Rattle.std.proofs.lemmas.Slice.Eq.{bytes_eq-Decides}
 use Rattle.std.proofs.Math.Seq.{drop-cons}
+use Rattle.std.proofs.Math.Bool.{or-false}
 use Rattle.cargo_toml_features.specs.declared.features.Feature.{Feature}
 use Rattle.cargo_toml_features.specs.declared.admit.Listing.{Listing}
 use Rattle.cargo_toml_graph.specs.Action.{Text, Action, item_of}
@@ -43,10 +44,6 @@ told_in passes listed k = list_any (λ e. passes (said k e)) listed
 
 abbrev pub is_dep_only : Option Action → Bool
 is_dep_only o = option_map_or (λ a. a.is_dep_only) o false
-
-or-false : (a : Bool) → (a || false) ≡ a
-or-false true = refl
-or-false false = refl
 
 -- nothing is read of no lists
 pub none_read : (details : NamedDetails) (m : List Feature) → m ≡ [] → HasRead [] details m

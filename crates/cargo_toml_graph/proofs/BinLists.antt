@@ -16,33 +16,33 @@ among-true [] x e = absurd e
 among-true (y ∷ ys) x (inl i) = or_left (bytes_eq x y) _ ((bytes_eq-Decides x y).1 i)
 among-true (y ∷ ys) x (inr i) = or_right (bytes_eq x y) _ (among-true ys x i)
 
-pub among-first : (xs ys : List Text) (x : Text) → Among xs x → Among (xs ++ ys) x
+pub among-first : {K : Type 0} (xs ys : List K) (x : K) → Among xs x → Among (xs ++ ys) x
 among-first [] ys x i = absurd i
 among-first (z ∷ xs) ys x (inl i) = inl i
 among-first (z ∷ xs) ys x (inr i) = inr (among-first xs ys x i)
 
-pub among-second : (xs ys : List Text) (x : Text) → Among ys x → Among (xs ++ ys) x
+pub among-second : {K : Type 0} (xs ys : List K) (x : K) → Among ys x → Among (xs ++ ys) x
 among-second [] ys x i = i
 among-second (z ∷ xs) ys x i = inr (among-second xs ys x i)
 
-pub among-either : (xs ys : List Text) (x : Text) → Among (xs ++ ys) x → Among xs x ⊎ Among ys x
+pub among-either : {K : Type 0} (xs ys : List K) (x : K) → Among (xs ++ ys) x → Among xs x ⊎ Among ys x
 among-either [] ys x i = inr i
 among-either (z ∷ xs) ys x (inl i) = inl (inl i)
 among-either (z ∷ xs) ys x (inr i) = elim (among-either xs ys x i) [ inl j ↦ inl (inr j) | inr j ↦ inr j ]
 
-pub among-take : (n : ℕ) (xs ys : List Text) (x : Text) → Among (take n xs) x → Among (take n (xs ++ ys)) x
+pub among-take : {K : Type 0} (n : ℕ) (xs ys : List K) (x : K) → Among (take n xs) x → Among (take n (xs ++ ys)) x
 among-take zero xs ys x i = absurd i
 among-take (suc n) [] ys x i = absurd i
 among-take (suc n) (z ∷ xs) ys x (inl i) = inl i
 among-take (suc n) (z ∷ xs) ys x (inr i) = inr (among-take n xs ys x i)
 
-pub among-taken : (n : ℕ) (xs : List Text) (x : Text) → Among (take n xs) x → Among xs x
+pub among-taken : {K : Type 0} (n : ℕ) (xs : List K) (x : K) → Among (take n xs) x → Among xs x
 among-taken zero xs x i = absurd i
 among-taken (suc n) [] x i = absurd i
 among-taken (suc n) (z ∷ xs) x (inl i) = inl i
 among-taken (suc n) (z ∷ xs) x (inr i) = inr (among-taken n xs x i)
 
-pub once-push : (xs : List Text) (y : Text) → IsOnce xs → ¬ Among xs y → IsOnce (xs ++ y ∷ [])
+pub once-push : {K : Type 0} (xs : List K) (y : K) → IsOnce xs → ¬ Among xs y → IsOnce (xs ++ y ∷ [])
 once-push [] y o n = ((λ i. i), tt)
 once-push (x ∷ xs) y o n = (
   λ i. elim (among-either xs (y ∷ []) x i) [ inl i ↦ o.0 i | inr i ↦ elim i [ inl e ↦ n (inl (sym e)) | inr i ↦ i ] ],

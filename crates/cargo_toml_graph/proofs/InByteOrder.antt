@@ -14,6 +14,7 @@ use Rattle.cargo_toml_graph.proofs.Members.{reaches_within}
 use Rattle.cargo_toml_graph.proofs.PassedBins.{bins_are, bins_complete, grown_weaker, passed_alike}
 use Rattle.cargo_toml_graph.proofs.RedirectsInOrder.{below_one_way}
 use Rattle.cargo_toml_graph.proofs.SortedTexts.{first_below, one_ascends, others_ascend, put_first}
+use Rattle.cargo_toml_graph.proofs.Texts.{by_true}
 
 abbrev Below : Text → Text → Type 0
 Below a b = IsTrue (is_below a b)
@@ -80,12 +81,6 @@ module _ (T : Text → Type 0) where
       step v k =
           ap (λ b. cond b (put_each (own v) (take 10 (own r))) (own v)) (h.names r v)
           ∙ ap₂ (λ xs ys. cond (n.table.names r v) (put_each xs (take 10 ys)) xs) (same v k) (same r (inside r (inl refl)))
-
-pub by_true : (a b : Bool) → IsTrue a ↔ IsTrue b → a ≡ b
-by_true false false e = refl
-by_true false true e = absurd (false≢true (e.1 refl))
-by_true true false e = absurd (false≢true (e.0 refl))
-by_true true true e = refl
 
 -- a resolution with nothing removed is the table's own
 pub unremoved_alike : (t : Table) (m : Resolution) → IsUnremoved t m → Alike m (unremoved t)

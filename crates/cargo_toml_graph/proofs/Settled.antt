@@ -7,12 +7,7 @@ use Rattle.cargo_toml_graph.specs.Reach.{Among, IsOnce}
 use Rattle.cargo_toml_graph.specs.Removal.{without_all, SameKept}
 use Rattle.cargo_toml_graph.proofs.Members.{resolved_alike}
 use Rattle.cargo_toml_graph.proofs.Elimination.{all_taken_out}
-
-by_true : (a b : Bool) → IsTrue a ↔ IsTrue b → a ≡ b
-by_true false false e = refl
-by_true false true e = absurd (false≢true (e.1 refl))
-by_true true false e = absurd (false≢true (e.0 refl))
-by_true true true e = refl
+use Rattle.cargo_toml_graph.proofs.Texts.{by_true}
 
 by_false : (a b : Bool) → IsFalse a ↔ IsFalse b → a ≡ b
 by_false false false e = refl

@@ -13,7 +13,7 @@ use Rattle.cargo_toml_graph.specs.Action.{Text}
 use Rattle.cargo_toml_graph.specs.Admitted.{is_below}
 use Rattle.cargo_toml_graph.specs.Reach.{Among}
 
-less_from : (o : Ordering) → IsTrue (is_lt o) → o ≡ Less
+pub less_from : (o : Ordering) → IsTrue (is_lt o) → o ≡ Less
 less_from Less below = refl
 less_from Equal below = absurd (false≢true below)
 less_from Greater below = absurd (false≢true below)

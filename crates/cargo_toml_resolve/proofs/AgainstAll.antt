@@ -12,11 +12,11 @@ use Rattle.cargo_toml_graph.proofs.Closure as closure
 use Rattle.cargo_toml_graph.proofs.Members.{resolved_alike}
 use Rattle.cargo_toml_features.specs.Marks.{NamedDetails}
 use Rattle.cargo_toml_features.specs.Recorded.{Entry}
-use Rattle.cargo_toml_features.specs.Resolved.{Answer, IsAnswer, table_of}
+use Rattle.cargo_toml_features.specs.Resolved.{Answer, IsAnswer, IsAnswerWithout, table_of}
 use Rattle.cargo_toml_features.proofs.Agreement.{settled}
 use Rattle.cargo_toml_resolve.specs.Filter.{Asked}
-use Rattle.cargo_toml_resolve.specs.Removed.{AgreesWithAll, IsAnswerBy, IsAnswerWithout, IsRemovedBy}
-use Rattle.cargo_toml_resolve.proofs.ByFilter.{answer_alike, by_test}
+use Rattle.cargo_toml_resolve.specs.Removed.{AgreesWithAll, IsAnswerBy, IsRemovedBy}
+use Rattle.cargo_toml_resolve.proofs.ByFilter.{answer_alike}
 
 -- where every name is kept, none is removed
 none_removed : (t : Table) (v : Text) → IsFalse (is_removed t (λ _. true) v)
@@ -34,7 +34,7 @@ module _ (listed : Listed) (entries : List Entry) where
   module _ (details : NamedDetails) (own : Text → List Text) (R : Text → Type 0) (a : Answer) (h : IsAnswerWithout listed entries details own R a) where
     -- something stands for exactly the removed ones
     resolved : IsResolved t (λ r. IsTrue (is_some (a.redirects r))) a.resolution
-    resolved = resolved_alike t R (λ r. IsTrue (is_some (a.redirects r))) (λ r. (h.redirected r).1) (λ r. (h.redirected r).0) a.resolution h.resolved
+    resolved = resolved_alike t R (λ r. IsTrue (is_some (a.redirects r))) (λ r. (h.redirected r).1) (λ r. (h.redirected r).0) a.resolution h.kept.resolved
 
     pub none_left : NoneIsLeft (λ r. IsSome (a.redirects r)) a.resolution
     none_left = closure.none_left t (λ r. is_some (a.redirects r)) a.resolution resolved
@@ -70,8 +70,7 @@ module _ (listed : Listed) (entries : List Entry) where
     back r y = (h.answer.redirected r).0 (first (t.has r) (starts_with nat_eq r (codes "_")) (is_some (b.redirects r)) y)
 
     tested : (others : NamedDetails) (mentioned : Text → List Text) (a : Answer) → IsAnswerBy g filter listed entries others mentioned a → IsAnswer listed entries others mentioned keep a
-    tested others mentioned a k = by_test listed entries others mentioned keep a
-        (answer_alike listed entries others mentioned (IsRemovedBy g filter t) (λ r. IsTrue (is_removed t keep r)) a into back k.answer)
+    tested others mentioned a k = answer_alike listed entries others mentioned (IsRemovedBy g filter t) (λ r. IsTrue (is_removed t keep r)) a into back k.answer
 
     pub agrees : AgreesWithAll g filter listed entries b
     agrees = record {

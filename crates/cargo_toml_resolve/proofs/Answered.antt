@@ -21,9 +21,6 @@ use Rattle.cargo_toml_resolve.specs.KeptFeatures.{IsKeptFeature}
 use Rattle.cargo_toml_resolve.specs.Holding.{Holds, action_by}
 use Rattle.cargo_toml_resolve.proofs.InPlace.{name_in, stands_found, stands_in}
 
-no_some : {X : Type 0} {x : X} → None ≡ Some x → ⊥
-no_some e = false≢true (ap is_some e)
-
 -- a path to one of S begins by an edge to one
 first_step : {E : ℕ → ℕ → Type 0} {S : ℕ → Type 0} {a f : ℕ} → Reaches E S a f → S f → (b : ℕ) × E a b × S b
 first_step {f} (edge e) s = (f, e, s)

@@ -20,12 +20,11 @@ use Rattle.cargo_toml_features.specs.InOrder.{AreTable, feature_at, names_of}
 use Rattle.cargo_toml_features.specs.Reached.{IsKeyed}
 use Rattle.cargo_toml_features.specs.Marks.{NamedDetails, marked, marks_in, marks_of}
 use Rattle.cargo_toml_features.specs.Recorded.{Entry, entries_at, recorded_of}
-use Rattle.cargo_toml_features.specs.Resolved.{SameRecorded, table_of}
+use Rattle.cargo_toml_features.specs.Resolved.{IsAnswerWithout, SameRecorded, table_of}
 use Rattle.cargo_toml_features.specs.Views.{answer_of, set_has, value_at}
 use Rattle.cargo_toml_resolve.specs.KeptFeatures.{IsNamedAlike, own_bins}
 use Rattle.cargo_toml_resolve.specs.KeptByName.{AreKept}
 use Rattle.cargo_toml_resolve.specs.Numbering.{IsFlagged}
-use Rattle.cargo_toml_resolve.specs.Removed.{IsAnswerWithout}
 use Rattle.cargo_toml_resolve.proofs.InPlace.{found_stands}
 
 -- the key of a feature that may be there
@@ -100,11 +99,7 @@ module _ {S H : Type 0} (listed : Listed) (entries : List Entry) (details : Name
 
   pub answers : IsAnswerWithout listed entries details own R (answer_of a)
   answers = record {
-    resolved = kept.resolved;
-    keyed = key_at;
-    marks = marks_at;
-    dependencies = dependencies;
-    some = some;
+    kept = record { resolved = kept.resolved; keyed = key_at; marks = marks_at; dependencies = dependencies; some = some };
     bins = λ f y. passed_has t R own there (answer_of a).bins passed_on f ((kept.resolved.kept f).0 y);
     passed_on = passed_on;
     redirected = λ r. (λ y. sym (redirected r) ∙ y, λ y. redirected r ∙ y);

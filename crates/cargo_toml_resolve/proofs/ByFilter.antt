@@ -8,19 +8,19 @@ use Rattle.cargo_toml_graph.specs.Admitted.{Listed, is_below}
 use Rattle.cargo_toml_graph.specs.Graph.{Table, IsKept}
 use Rattle.cargo_toml_graph.specs.Redirects.{RedirectsTo}
 use Rattle.cargo_toml_graph.specs.Removal.{is_removed}
-use Rattle.cargo_toml_graph.proofs.InByteOrder.{by_true}
 use Rattle.cargo_toml_graph.proofs.Members.{label_within, resolved_alike}
 use Rattle.cargo_toml_graph.proofs.PassedBins.{grown_weaker, passed_alike}
 use Rattle.cargo_toml_features.specs.declared.features.Feature.{Feature}
 use Rattle.cargo_toml_features.specs.InOrder.{AreInOrder, AreTable, names_of}
-use Rattle.cargo_toml_features.specs.Marks.{NamedDetails}
+use Rattle.cargo_toml_features.specs.Marks.{NamedDetails, details_listed}
 use Rattle.cargo_toml_features.specs.Recorded.{Entry}
-use Rattle.cargo_toml_features.specs.Resolved.{Answer, IsAnswer, table_of}
+use Rattle.cargo_toml_features.specs.Resolved.{Answer, IsAnswer, IsAnswerWithout, table_of}
 use Rattle.cargo_toml_features.specs.Places.{nth_text}
+use Rattle.cargo_toml_features.proofs.Marked.{told_by_listed}
 use Rattle.cargo_toml_resolve.specs.Numbers.{IsWanted}
 use Rattle.cargo_toml_resolve.specs.Filter.{Answers, Asked, HasNameFilter, IsFlagOf, IsHiddenName, FilterTells}
 use Rattle.cargo_toml_resolve.specs.Numbering.{IsFlagged}
-use Rattle.cargo_toml_resolve.specs.Removed.{IsAnswerBy, IsAnswerWithout, IsRemovedBy}
+use Rattle.cargo_toml_resolve.specs.Removed.{IsAnswerBy, IsRemovedBy}
 use Rattle.cargo_toml_resolve.proofs.InPlace.{has_place}
 
 -- the flag of the feature of this name, by looking it up
@@ -115,11 +115,13 @@ module _ (listed : Listed) (entries : List Entry) (details : NamedDetails) (own 
 
     pub answer_alike : IsAnswerWithout listed entries details own S a
     answer_alike = record {
-      resolved = resolved_alike t R S into back a.resolution h.resolved;
-      keyed = h.keyed;
-      marks = h.marks;
-      dependencies = h.dependencies;
-      some = (λ y. let s = h.some.0 y in (s.0, into s.0 s.1), λ s. h.some.1 (s.0, back s.0 s.1));
+      kept = record {
+        resolved = resolved_alike t R S into back a.resolution h.kept.resolved;
+        keyed = h.kept.keyed;
+        marks = h.kept.marks;
+        dependencies = h.kept.dependencies;
+        some = (λ y. let s = h.kept.some.0 y in (s.0, into s.0 s.1), λ s. h.kept.some.1 (s.0, back s.0 s.1));
+      };
       bins = λ f left.
           let b = h.bins f left in
           record { lists = grown_weaker (λ x c. passed_alike t own R S into f x c) b.lists; direct = λ r x gone n j. b.direct r x (back r gone) n j };
@@ -134,16 +136,6 @@ module _ (listed : Listed) (entries : List Entry) (details : NamedDetails) (own 
       redirected = λ r. (λ y. into r ((h.redirected r).0 y), λ y. (h.redirected r).1 (back r y));
       redirects = redirects;
     }
-
-  -- in the words of a test
-  pub by_test : (keep : Text → Bool) (a : Answer) → IsAnswerWithout listed entries details own (λ r. IsTrue (is_removed t keep r)) a → IsAnswer listed entries details own keep a
-  by_test keep a h = record {
-    kept = record { resolved = h.resolved; keyed = h.keyed; marks = h.marks; dependencies = h.dependencies; some = h.some };
-    bins = h.bins;
-    passed_on = h.passed_on;
-    redirected = λ r. by_true _ _ (h.redirected r);
-    redirects = h.redirects;
-  }
 
   module _ {F : Type 0} (g : Asked F) (filter : Option (Bor F)) where
     abbrev R : Text → Type 0
@@ -165,7 +157,7 @@ module _ (listed : Listed) (entries : List Entry) (details : NamedDetails) (own 
     pub tell_alike : (keep : Text → Bool) (a : Answer) → IsAnswerWithout listed entries details own R a
         → ((f : Text) → IsTrue (a.resolution.table.has f) → IsHiddenName f → Answers g filter f true)
         → FilterTells g filter keep → IsAnswer listed entries details own keep a
-    tell_alike keep a h kept tells = by_test keep a (answer_alike R (λ r. IsTrue (is_removed t keep r)) a into back h)
+    tell_alike keep a h kept tells = answer_alike R (λ r. IsTrue (is_removed t keep r)) a into back h
       where
         into : (r : Text) → R r → IsTrue (is_removed t keep r)
         into r gone = three (t.has r) (starts_with nat_eq r (codes "_")) (keep r) gone.there gone.hidden (told_as g filter keep tells r false gone.refused)
@@ -179,7 +171,7 @@ module _ (listed : Listed) (entries : List Entry) (details : NamedDetails) (own 
             go : (b : Bool) → IsTrue b ↔ R r → R r
             go true e = e.0 refl
             go false e =
-                let left = (h.resolved.kept r).1 (p.0, λ gone. false≢true (e.1 gone)) in
+                let left = (h.kept.resolved.kept r).1 (p.0, λ gone. false≢true (e.1 gone)) in
                 absurd (false≢true (sym p.2 ∙ sym (told_as g filter keep tells r true (kept r left p.1))))
 
     -- an answer without the refused features is the answer by the filter
@@ -187,3 +179,11 @@ module _ (listed : Listed) (entries : List Entry) (details : NamedDetails) (own 
         → ((f : Text) → IsTrue (a.resolution.table.has f) → IsHiddenName f → Answers g filter f true)
         → IsAnswerBy g filter listed entries details own a
     answer_by a h kept = record { answer = h; kept = kept; told = λ keep tells. tell_alike keep a h kept tells }
+
+    -- and so by the details of what is listed
+    pub answer_by_listed : (a : Answer) → IsAnswerBy g filter listed entries (details_listed listed details) own a → IsAnswerBy g filter listed entries details own a
+    answer_by_listed a h = record {
+      answer = told_by_listed listed entries details own R a h.answer;
+      kept = h.kept;
+      told = λ keep tells. told_by_listed listed entries details own (λ r. IsTrue (is_removed t keep r)) a (h.told keep tells);
+    }

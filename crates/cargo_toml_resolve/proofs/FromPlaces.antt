@@ -1,6 +1,5 @@
 -- From what stands in places to what is kept by name.
 use Rattle.std.proofs.Common.{◌≡◌, ◌↔◌, ◌<◌, ℕ, Bool, true, false, List, [], length, map, Option, Some, None, Bor, IsTrue, IsSome, IfSome, is_some, slice_get, refl, sym, ap, subst, inl, ◌∙◌, arith}
-use Rattle.std.proofs.lemmas.Bool.{false≢true}
 use Rattle.std.specs.BTreeSet.{BTreeSet}
 use Rattle.std.specs.HashMap.{HashMap}
 use Rattle.std.specs.Option.{IsSomeAnd, option_map_or}
@@ -9,6 +8,7 @@ use Rattle.cargo_toml_graph.specs.Admitted.{is_below}
 use Rattle.cargo_toml_graph.specs.Graph.{Table, IsKept}
 use Rattle.cargo_toml_graph.specs.Redirects.{RedirectsTo}
 use Rattle.cargo_toml_graph.specs.Removal.{pass_all, unremoved}
+use Rattle.cargo_toml_graph.proofs.Texts.{by_true}
 use Rattle.cargo_toml_resolve.specs.Numbers.{IsWanted, Leads, row_items}
 use Rattle.cargo_toml_features.specs.Places.{nth_text}
 use Rattle.cargo_toml_resolve.specs.NumberedTables.{HasNumber, IsNaming, IsNumbered}
@@ -34,12 +34,6 @@ use Rattle.cargo_toml_resolve.proofs.Renumbered.{renumbered}
 none_unless : {X : Type 0} (o : Option X) → ¬ IsSome o → o ≡ None
 none_unless None h = refl
 none_unless (Some x) h = absurd (h refl)
-
-by_true : (a b : Bool) → IsTrue a ↔ IsTrue b → a ≡ b
-by_true false false e = refl
-by_true false true e = absurd (false≢true (e.1 refl))
-by_true true false e = absurd (false≢true (e.0 refl))
-by_true true true e = refl
 
 some_there : {X : Type 0} (o : Option X) (P : X → Type 0) → IsSomeAnd o P → IsSome o
 some_there None P h = absurd h

@@ -10,6 +10,7 @@ use Rattle.cargo_toml_features.specs.declared.features.Feature.{Feature}
 use Rattle.cargo_toml_features.specs.Reached.{IsKeyed}
 use Rattle.cargo_toml_features.specs.Views.{value_at}
 use Rattle.cargo_toml_resolve.proofs.Placing.{place_inside}
+use Rattle.cargo_toml_resolve.proofs.InPlace.{some_same}
 
 no_element : (v : Feature) (ws : List Feature) → v ∷ ws ≡ [] → ⊥
 no_element v ws same = false≢true (sym (ap is_cons same))
@@ -95,9 +96,6 @@ module _ {S : Type 0} (vs : List Feature) (flags : List Bool) where
     kept = λ i v lt at off. put v.key.now ∙ h.kept i v lt at off;
     only = λ f y. h.only f (sym (ap is_some (put f)) ∙ y);
   })
-
-some_same : {v w : Feature} → Some v ≡ Some w → v ≡ w
-some_same e = cc
 
 -- each stands under its own key
 pub keyed_kept : {S : Type 0} (vs : List Feature) (flags : List Bool) (m : HashMap (Bor Text) Feature S) →

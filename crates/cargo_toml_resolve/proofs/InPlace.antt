@@ -14,7 +14,7 @@ use Rattle.cargo_toml_features.specs.Places.{nth_text}
 use Rattle.cargo_toml_features.specs.declared.features.Feature.{Feature}
 use Rattle.cargo_toml_features.specs.InOrder.{AreInOrder, AreTable, feature_at, names_of}
 
-some_same : {v w : Feature} → Some v ≡ Some w → v ≡ w
+pub some_same : {v w : Feature} → Some v ≡ Some w → v ≡ w
 some_same e = cc
 
 no_some : {v : Feature} → None ≡ Some v → ⊥

@@ -2,22 +2,19 @@
 use Rattle.std.proofs.Common.{◌≡◌, ◌||◌, ℕ, Bool, true, false, cond, not, List, [], ◌∷◌, ◌++◌, length, slice_get, Some, Bor, bytes_eq, IsTrue, refl, sym, ap, subst, inl, inr, ◌↔◌, ◌∙◌}
 use Rattle.std.proofs.lemmas.Bool.{false≢true}
 use Rattle.std.proofs.lemmas.Slice.Eq.{bytes_eq-Decides}
+use Rattle.std.proofs.Math.Bool.{or-false}
 use Rattle.std.specs.BTreeSet.{BTreeSet, btree_set_len}
 use Rattle.cargo_toml_graph.specs.Action.{Text}
 use Rattle.cargo_toml_graph.specs.Removal.{lists_text, put_each}
 use Rattle.cargo_toml_features.specs.Views.{set_has}
 use Rattle.cargo_toml_resolve.specs.KnownBins.{Knows, MayKnow}
 
-or_none : (a : Bool) → (a || false) ≡ a
-or_none true = refl
-or_none false = refl
-
 or_more : (a b c : Bool) → (a || (b || c)) ≡ ((a || b) || c)
 or_more true b c = refl
 or_more false b c = refl
 
 among_last : (xs : List Text) (k x : Text) → lists_text (xs ++ k ∷ []) x ≡ (lists_text xs x || bytes_eq x k)
-among_last [] k x = or_none (bytes_eq x k)
+among_last [] k x = or-false (bytes_eq x k)
 among_last (y ∷ xs) k x = ap (λ t. bytes_eq x y || t) (among_last xs k x) ∙ or_more (bytes_eq x y) (lists_text xs x) (bytes_eq x k)
 
 -- a text that is there already makes no difference
@@ -28,7 +25,7 @@ among_again xs k x there = go (bytes_eq x k) refl
     go true e =
         let t : lists_text xs x ≡ true = subst (λ z. lists_text xs z ≡ true) (sym ((bytes_eq-Decides x k).0 e)) there in
         ap (λ a. a || true) t ∙ sym t
-    go false e = or_none (lists_text xs x)
+    go false e = or-false (lists_text xs x)
 
 -- what an answer that says whether a text is new tells of the set before
 pub was_false : (had is_new : Bool) → is_new ≡ not had → is_new ≡ true → had ≡ false

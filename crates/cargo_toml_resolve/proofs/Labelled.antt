@@ -1,5 +1,5 @@
 -- The labels of a list of vertices, one vertex after another.
-use Rattle.std.proofs.Common.{◌↔◌, ◌<◌, ◌≤◌, ◌+◌, ℕ, Bool, true, false, List, [], ◌∷◌, take, length, get_or, refl, subst, inl, inr, arith}
+use Rattle.std.proofs.Common.{◌↔◌, ◌<◌, ◌≤◌, ◌+◌, ℕ, Bool, true, false, List, [], take, length, get_or, refl, subst, inl, inr}
 use Rattle.cargo_toml_graph.specs.Reach.{Among, GathersLabel, Reaches}
 use Rattle.cargo_toml_resolve.specs.Numbers.{HasLabel, IsPassed, Leads, AreMarked, FindsNamed, IsWanted}
 use Rattle.cargo_toml_resolve.proofs.Linking.{last_edge, with_last}
@@ -24,10 +24,6 @@ module _ (labels : List (List ℕ)) (flags : List Bool) (wanted : Bool) where
 
   pub begin_list : (passed found : List ℕ) (met : List Bool) → AreMarked found met → FindsNamed (Labelled (Among (take 0 passed))) found found met met
   begin_list passed found met marks = alike (λ y. ⊥) (Labelled (Among (take 0 passed))) found found met met (λ y. (λ n. absurd n, λ n. absurd n.0.1)) (no_visit found met marks)
-
-pub some_among : (xs : List ℕ) → 0 < length xs → (c : ℕ) × Among xs c
-some_among [] lt = absurd (omega arith)
-some_among (x ∷ xs) lt = (x, inl refl)
 
 -- what a vertex and those that it passes have, it gathers along its paths
 module _ (edges : List (List ℕ)) (flags : List Bool) (labels : List (List ℕ)) (Passed : ℕ → Type 0) (a : ℕ) (is : (b : ℕ) → Passed b ↔ IsPassed edges flags a b) (x : ℕ) where

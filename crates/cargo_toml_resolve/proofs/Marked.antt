@@ -1,9 +1,6 @@
 -- Stamps as marks.
-use Rattle.std.proofs.Common.{◌≡◌, ◌<◌, ◌≤◌, ℕ, zero, suc, Bool, true, false, List, [], ◌∷◌, length, get_or, set, map, replicate, nat_eq, refl, sym, subst, ap, inl, inr, ◌∙◌, arith}
-use Rattle.std.proofs.lemmas.List.{map-set, get_or_past, get_or-replicate, length-replicate}
-use Rattle.std.proofs.lemmas.Bool.{cases_lt, false≢true}
-use Rattle.cargo_toml_graph.specs.Reach.{Among}
-use Rattle.cargo_toml_resolve.specs.Numbers.{AreMarked}
+use Rattle.std.proofs.Common.{◌≡◌, ◌<◌, ◌≤◌, ℕ, zero, suc, Bool, true, false, List, [], ◌∷◌, length, get_or, set, map, replicate, nat_eq, refl, ap, ◌∙◌, arith}
+use Rattle.std.proofs.lemmas.List.{map-set}
 use Rattle.std.proofs.lemmas.Bool.Decides.{nat_tests}
 
 -- what stands at an epoch
@@ -26,13 +23,3 @@ pub one_marked : (ss : List ℕ) (x s e : ℕ) → s ≡ e → marks_at e (set s
 one_marked ss x s e is =
     let same : nat_eq s e ≡ true = grind (arith, nat_tests) in
     map-set (λ z. nat_eq z e) ss x s ∙ ap (set (marks_at e ss) x) same
-
--- at first
-pub none_found : (found : List ℕ) (met : List Bool) (n : ℕ) → found ≡ [] → met ≡ replicate n false → AreMarked found met
-none_found found met n none clear x = (
-  λ i. absurd (false≢true (sym (elim (cases_lt x n) [
-    | inl lt ↦ get_or-replicate n x false false lt
-    | inr le ↦ get_or_past (replicate n false) x false (let l = length-replicate n false in omega (arith, l, le))
-  ]) ∙ ap (λ m. get_or m x false) (sym clear) ∙ i)),
-  λ i. absurd (subst (λ f. Among f x) none i),
-)

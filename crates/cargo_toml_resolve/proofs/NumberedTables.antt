@@ -8,21 +8,11 @@ use Rattle.cargo_toml_graph.specs.Graph.{Table, Edge, ReachesThrough, KeepsName,
 use Rattle.cargo_toml_graph.specs.Reach.{Reaches, Gathers, GathersLabel}
 use Rattle.cargo_toml_graph.specs.Reach.Reaches.{edge, through}
 use Rattle.cargo_toml_graph.specs.Redirects.{RedirectsTo}
+use Rattle.cargo_toml_graph.proofs.OneRemoval.{target}
 use Rattle.cargo_toml_resolve.specs.Numbers.{Leads, IsWanted, IsPassed, IsUnder, IsRedirect, KeepsLabel}
 use Rattle.cargo_toml_features.specs.Places.{nth_text}
 use Rattle.cargo_toml_resolve.specs.NumberedTables.{HasNumber, IsNaming, IsNumbered}
-use Rattle.cargo_toml_resolve.proofs.Steps.{has_row}
 use Rattle.cargo_toml_features.proofs.Places.{lower_place}
-
--- a path begins at a vertex
-pub starts_inside : (edges : List (List ℕ)) (S : ℕ → Type 0) (i j : ℕ) → Reaches (Leads edges) S i j → i < length edges
-starts_inside edges S i j (edge e) = has_row edges i j e
-starts_inside edges S i j (through {b} e s p) = has_row edges i b e
-
--- a path ends at a vertex
-reached_vertex : {t : Table} {T : Text → Type 0} {v w : Text} → Reaches (Edge t) T v w → IsTrue (t.has w)
-reached_vertex (edge e) = e.target
-reached_vertex (through e s p) = reached_vertex p
 
 module _ (t : Table) (Removed : Text → Type 0) (texts : List Text) (edges names : List (List ℕ)) (flags : List Bool)
     (h : IsNumbered t Removed texts edges names flags) where
@@ -62,7 +52,7 @@ module _ (t : Table) (Removed : Text → Type 0) (texts : List Text) (edges name
     gathers_from : (i : ℕ) (v : Text) → i < length edges → Gathers (Edge t) T (nth_text texts i) v → HasNumber texts (length edges) (Gathers (Leads edges) S i) v
     gathers_from i v below (inl is) = (i, below, sym is, inl refl)
     gathers_from i v below (inr g) =
-        let k = (h.vertex v).0 (reached_vertex g.1) in
+        let k = (h.vertex v).0 (target g.1) in
         (k.0, k.1, k.2, inr ((same k.0 k.1).1 (subst T (sym k.2) g.0), to_numbers g.1 i k.0 below k.1 refl k.2))
 
     -- a vertex gathers the labels of what it gathers as a number
@@ -146,10 +136,6 @@ module _ (t : Table) (Removed : Text → Type 0) (texts : List Text) (edges name
 
   pub vertex_under : (r : ℕ) → r < length edges → (i : ℕ) → i < length edges → IsUnder edges flags r i ↔ Lower r (nth_text texts i)
   vertex_under r below i vertex = under r below i (let fits = h.count in omega arith)
-
-  pub reaches_under : (r : ℕ) → r < length edges → (i j : ℕ) → i < length edges → j < length edges
-      → Reaches (Leads edges) (IsUnder edges flags r) i j ↔ Reaches (Edge t) (Lower r) (nth_text texts i) (nth_text texts j)
-  reaches_under r below i j inside inside' = reaches_between (IsUnder edges flags r) (Lower r) (vertex_under r below) i j inside inside'
 
   under_asked : (r : ℕ) → IsWanted flags true r → (k : ℕ) → Gathers (Leads edges) (IsUnder edges flags r) r k → IsNaming edges flags k
   under_asked r gone k (inl is) = inl (subst (IsWanted flags true) (sym is) gone)

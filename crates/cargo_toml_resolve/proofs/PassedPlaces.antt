@@ -11,12 +11,13 @@ use Rattle.cargo_toml_graph.specs.Removal.{pass_all, put_each, unremoved, withou
 use Rattle.cargo_toml_graph.proofs.BinLists.{among-either, among-first, among-second}
 use Rattle.cargo_toml_graph.proofs.Edges.{unremoved_is}
 use Rattle.cargo_toml_graph.proofs.Elimination.{all_taken_out}
-use Rattle.cargo_toml_graph.proofs.InByteOrder.{ascending_last, ascending_once, by_true, last_passes}
+use Rattle.cargo_toml_graph.proofs.InByteOrder.{ascending_last, ascending_once, last_passes}
 use Rattle.cargo_toml_graph.proofs.Members.{label_within}
 use Rattle.cargo_toml_graph.proofs.RedirectsInOrder.{below_one_way}
 use Rattle.cargo_toml_features.specs.Places.{nth_text}
 use Rattle.cargo_toml_graph.specs.Ascending.{Ascend}
 use Rattle.cargo_toml_graph.proofs.SortedTexts.{none_ascend}
+use Rattle.cargo_toml_graph.proofs.Texts.{by_true}
 use Rattle.cargo_toml_resolve.specs.NumberedTables.{HasNumber}
 use Rattle.cargo_toml_resolve.specs.Numbers.{IsWanted, Leads, row_items}
 use Rattle.cargo_toml_resolve.proofs.NumberedTables as numbered

@@ -1,5 +1,5 @@
 -- What features hold in their places once walks have been made and binaries are passed on.
-use Rattle.std.proofs.Common.{◌≡◌, ◌⊎◌, ◌↔◌, ◌<◌, ℕ, Bool, true, false, List, [], length, map, Option, Some, IsTrue, is_some, slice_get, sym, ap, subst, inl, inr, ◌∙◌, arith}
+use Rattle.std.proofs.Common.{◌≡◌, ◌⊎◌, ◌↔◌, ◌<◌, ℕ, Bool, true, false, List, [], length, map, Option, Some, IsTrue, is_some, slice_get, sym, ap, subst, inl, inr, ◌∙◌}
 use Rattle.std.proofs.lemmas.Bool.{cases_lt, false≢true}
 use Rattle.std.proofs.lemmas.Option.{slice_get_past}
 use Rattle.std.specs.Option.{option_map_or}
@@ -55,9 +55,6 @@ module _ (t : Table) (removed : Text → Bool) (old left new : List Feature) (te
     (stand : StandFor t removed old texts edges names flags) where
   abbrev pub R : Text → Type 0
   R v = IsTrue (removed v)
-
-  abbrev fits : (i : ℕ) → i < length edges → i < length texts
-  fits i lt = let c = stand.numbered.count in omega (arith, c, lt)
 
   vertex_place : (i : ℕ) → i < length edges → i < length old
   vertex_place i lt = subst (λ n. i < n) stand.count lt

@@ -6,7 +6,7 @@ use Rattle.cargo_toml_graph.specs.Reach.{Among}
 use Rattle.cargo_toml_graph.proofs.Members.{label_within}
 use Rattle.cargo_toml_resolve.specs.Numbers.{IsWanted, FindsRedirects, HasLabel, IsPassed, IsRedirect, Leads, Replaces, row_items}
 use Rattle.cargo_toml_resolve.proofs.Linking.{last_edge, with_last}
-use Rattle.cargo_toml_resolve.proofs.Cuts.{AreRows, IsBelow, IsFinished, back, next_row, none_among, not_own, under_later, under_split}
+use Rattle.cargo_toml_resolve.proofs.Cuts.{AreRows, IsBelow, IsFinished, back, next_row, not_own, under_later, under_split}
 use Rattle.cargo_toml_resolve.proofs.Labelled.{gathered}
 
 module _ (edges : List (List ℕ)) (removed : List Bool) where
@@ -82,17 +82,6 @@ module _ (edges : List (List ℕ)) (removed : List Bool) where
             others = v.others;
           })
           (λ x w. let l = (row_is x).1 w in h.inside l.0.0 x l.0.2)
-
--- a row that passes nothing and has nothing finished
-pub row_stays : (rows : List (List ℕ)) (finished : List Bool) (passed : List ℕ) (r : ℕ) → length passed ≡ 0 → ((x : ℕ) → Leads rows r x → IsWanted finished false x) → Replaces r (HasLabel (Among passed) rows finished r) rows rows
-row_stays rows finished passed r none clean = record {
-  len = refl;
-  here = λ x. (
-    λ i. ((r, inl refl, i), clean x i),
-    λ n. elim (n.0.1) [ inl own ↦ subst (λ z. Leads rows z x) own n.0.2 | inr p ↦ absurd (none_among passed none n.0.0 p) ],
-  );
-  others = λ a x other. (λ i. i, λ i. i);
-}
 
 -- a row that is set
 pub replaced : (rows : List (List ℕ)) (r : ℕ) (row : List ℕ) (P : ℕ → Type 0) → r < length rows → ((x : ℕ) → Among row x ↔ P x) → Replaces r P rows (set rows r row)

@@ -1,7 +1,7 @@
 -- Steps of a walk over numbers, by marks.
-use Rattle.std.proofs.Common.{◌≡◌, ◌≢◌, ◌⊎◌, ◌↔◌, ◌<◌, ◌≤◌, ◌+◌, ℕ, zero, suc, Bool, true, false, IsTrue, if◌then◌else◌, List, [], ◌∷◌, ◌++◌, take, length, get_or, set, Vec, refl, sym, ap, subst, inl, inr, ◌∙◌, arith, add-one, length-append, length-set}
-use Rattle.std.proofs.lemmas.Bool.{cases_Bool, cases_eq, false≢true}
-use Rattle.std.proofs.lemmas.List.{get_or-set_same, get_or-set_other, set-get_or, take-append-le}
+use Rattle.std.proofs.Common.{◌≡◌, ◌≢◌, ◌⊎◌, ◌↔◌, ◌<◌, ◌≤◌, ◌+◌, ℕ, zero, suc, Bool, true, false, if◌then◌else◌, List, [], ◌∷◌, ◌++◌, take, length, get_or, set, Vec, refl, sym, ap, subst, inl, inr, ◌∙◌, arith, add-one, length-append, length-set}
+use Rattle.std.proofs.lemmas.Bool.{cases_eq, false≢true}
+use Rattle.std.proofs.lemmas.List.{get_or-set_same, get_or-set_other, take-append-le}
 use Rattle.std.proofs.lemmas.List.Sums.{sum_by-set}
 use Rattle.cargo_toml_graph.specs.Reach.{Among}
 use Rattle.cargo_toml_resolve.specs.Bits.{words_of}
@@ -80,13 +80,6 @@ has_row [] a b i = absurd i
 has_row (y ∷ rows) zero b i = omega arith
 has_row (y ∷ rows) (suc a) b i = let lt = has_row rows a b i in omega (arith, lt)
 
--- a row of which no flag stands
-pub none_flagged : (row : List ℕ) (flags : List Bool) (found : Bool) → (IsTrue found ↔ ((x : ℕ) × Among row x × IsWanted flags true x)) → found ≡ false → (x : ℕ) → Among row x → IsWanted flags false x
-none_flagged row flags found is none x i = elim (cases_Bool (get_or flags x false)) [
-  | inl on ↦ absurd (false≢true (sym none ∙ is.1 (x, i, on)))
-  | inr off ↦ off
-]
-
 pub no_visit : (found : List ℕ) (marks : List Bool) → AreMarked found marks → FindsNamed (λ y. ⊥) found found marks marks
 no_visit found marks are = record {
   marks = are;
@@ -133,19 +126,6 @@ module _ (x : ℕ) (found : List ℕ) (met : List Bool) (marks : AreMarked found
           let two : weight (get_or met x false) ≡ 1 = ap weight new in
           let s = sum_by-set weight met x true false inside in
           omega (arith, l, two, s)
-
-  -- x was met
-  pub is_old : get_or met x false ≡ true → (met' : List Bool) → met' ≡ set met x true → FindsNamed (λ y. y ≡ x) found found met met'
-  is_old old met' is = subst (FindsNamed (λ y. y ≡ x) found found met) (sym (is ∙ ap (set met x) (sym old) ∙ set-get_or met x false)) (record {
-    marks = marks;
-    grows = λ y i. i;
-    reaches = λ y same. subst (Among found) (sym same) ((marks x).0 old);
-    only = λ y i. inl i;
-    front = λ k le. refl;
-    longer = omega arith;
-    count = refl;
-    len = refl;
-  })
 
 -- one visit after another
 pub then_visit : (A B C : ℕ → Type 0) (f0 f1 f2 : List ℕ) (m0 m1 m2 : List Bool) → ((y : ℕ) → C y ↔ (A y ⊎ B y)) → FindsNamed A f0 f1 m0 m1 → FindsNamed B f1 f2 m1 m2 → FindsNamed C f0 f2 m0 m2

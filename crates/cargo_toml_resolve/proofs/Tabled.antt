@@ -1,11 +1,11 @@
 -- Tables of bits, row after row.
-use Rattle.std.proofs.Common.{◌≡◌, ◌≢◌, ◌↔◌, ◌⊎◌, ◌<◌, ◌≤◌, ◌+◌, ℕ, zero, suc, Bool, List, [], ◌∷◌, ◌++◌, take, length, get_or, set, Vec, refl, sym, ap, subst, inl, inr, ◌∙◌, arith, length-append, length-set}
+use Rattle.std.proofs.Common.{◌≡◌, ◌≢◌, ◌↔◌, ◌⊎◌, ◌<◌, ◌+◌, ℕ, zero, suc, Bool, List, [], ◌∷◌, ◌++◌, take, length, get_or, set, Vec, refl, sym, ap, subst, inl, inr, ◌∙◌, arith, length-append, length-set}
 use Rattle.std.proofs.lemmas.Bool.{cases_eq}
 use Rattle.cargo_toml_graph.specs.Reach.{Among}
 use Rattle.cargo_toml_resolve.specs.Bits.{AreWide, Gains, HasBit, Holds, words_of}
 use Rattle.cargo_toml_resolve.specs.Dense.{IsTable}
 use Rattle.cargo_toml_resolve.specs.Numbers.{IsWanted}
-use Rattle.cargo_toml_resolve.proofs.Steps.{among_all, among_more, among_taken, row_read}
+use Rattle.cargo_toml_resolve.proofs.Steps.{among_more, row_read}
 use Rattle.cargo_toml_resolve.proofs.Words.{no_bit_past}
 
 -- a row past the end has no bit
@@ -110,23 +110,6 @@ module _ {Z : Type 0} (named : List ℕ) (i : ℕ) (Bits : ℕ → Type 0) (t0 t
     where
       there : (a : ℕ) → a ≡ at → words_of (set t at v) a ≡ v.items
       there a same = ap (words_of (set t at v)) same ∙ set_here t v at inside
-
-pub no_gains : {Z : Type 0} (named : List ℕ) (Bits : ℕ → Type 0) (t : List (Vec ℕ Z)) → Gains (Among (take 0 named)) Bits t t
-no_gains named Bits t = record {
-  len = refl;
-  widths = λ a. refl;
-  bits = λ a x. (λ h. inl h, elim [ inl h ↦ h | inr p ↦ absurd p.0 ]);
-}
-
-pub all_gains : {Z : Type 0} (named : List ℕ) (i : ℕ) (Bits : ℕ → Type 0) (t0 t : List (Vec ℕ Z)) → length named ≤ i → Gains (Among (take i named)) Bits t0 t → Gains (Among named) Bits t0 t
-all_gains named i Bits t0 t le g = record {
-  len = g.len;
-  widths = g.widths;
-  bits = λ a x. (
-    λ h. elim ((g.bits a x).0 h) [ inl o ↦ inl o | inr p ↦ inr (among_taken named i a p.0, p.1) ],
-    λ h. (g.bits a x).1 (elim h [ inl o ↦ inl o | inr p ↦ inr (among_all named i a le p.0, p.1) ]),
-  );
-}
 
 -- the row of a vertex, as it is read
 module _ {Z : Type 0} (P : ℕ → ℕ → Type 0) (width n : ℕ) (table : List (Vec ℕ Z)) (t : IsTable P width n table) (own p : ℕ) (lt : own < n) (at : p ≡ own) where

@@ -1,9 +1,9 @@
 -- Bits of words.
-use Rattle.std.proofs.Common.{◌≡◌, ◌≢◌, ◌↔◌, ◌⊎◌, ◌<◌, ◌≤◌, ◌+◌, ◌*◌, ◌/◌, ◌%◌, ◌^◌, ℕ, List, [], ◌∷◌, ◌++◌, length, get_or, replicate, set, max, sym, ap, subst, inl, inr, ◌∙◌, arith, w64}
+use Rattle.std.proofs.Common.{◌≡◌, ◌≢◌, ◌↔◌, ◌⊎◌, ◌<◌, ◌≤◌, ◌+◌, ◌*◌, ◌/◌, ◌%◌, ◌^◌, ℕ, List, [], ◌∷◌, ◌++◌, length, get_or, set, max, sym, ap, subst, inl, inr, ◌∙◌, arith, w64}
 use Rattle.std.specs.Prelude.{bit_or}
 use Rattle.std.specs.Int.{bit_at}
 use Rattle.std.proofs.lemmas.Bool.{cases_lt, cases_eq}
-use Rattle.std.proofs.lemmas.List.{get_or_past, get_or-replicate, get_or-set_same, get_or-set_other, length-replicate}
+use Rattle.std.proofs.lemmas.List.{get_or_past, get_or-set_same, get_or-set_other}
 use Rattle.std.proofs.lemmas.Nat.Bits.{bit_at_or, bit_at-zero, bit_at-lt, bit_at_set_same, bit_at_set_other}
 use Rattle.cargo_toml_graph.specs.Reach.{Among}
 use Rattle.cargo_toml_resolve.specs.Bits.{HasBit}
@@ -15,17 +15,6 @@ no_bit_past words x past h =
     let none : bit_at (get_or words (x / 64) 0) (x % 64) ≡ 0 = ap (λ w. bit_at w (x % 64)) (get_or_past words (x / 64) 0 past) ∙ bit_at-zero (x % 64) in
     let one = h.stands in
     absurd (omega (arith, none, one))
-
--- nor among words that are none
-pub no_bit : (n : ℕ) (words : List ℕ) (x : ℕ) → words ≡ replicate n 0 → ¬ HasBit words x
-no_bit n words x are h =
-    let none : get_or (replicate n 0) (x / 64) 0 ≡ 0 = elim (cases_lt (x / 64) n) [
-      | inl lt ↦ get_or-replicate n (x / 64) 0 0 lt
-      | inr le ↦ get_or_past (replicate n 0) (x / 64) 0 (let l = length-replicate {A = ℕ} n 0 in omega (arith, l, le))
-    ] in
-    let zero : bit_at (get_or words (x / 64) 0) (x % 64) ≡ 0 = ap (λ w. bit_at (get_or w (x / 64) 0) (x % 64)) are ∙ ap (λ w. bit_at w (x % 64)) none ∙ bit_at-zero (x % 64) in
-    let one = h.stands in
-    absurd (omega (arith, zero, one))
 
 either_one : (p q : ℕ) → p < 2 → q < 2 → (max p q ≡ 1) ↔ ((p ≡ 1) ⊎ (q ≡ 1))
 either_one p q lp lq = (

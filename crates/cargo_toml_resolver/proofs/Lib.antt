@@ -1,5 +1,4 @@
 mod Lent
 mod Words
 mod Mentions
-mod CompleteBins
-mod ToldBy
+mod Hiding

@@ -18,6 +18,6 @@ returns-clause-resolved g c = λ listed is.
     (sym c.as_slice.ensures.value) c.in_ok-listings.ensures.details in
     subst (λ (fs : Listed). IsAnswer fs es [] (λ _. []) keep a)
     (ap listed_of c.as_slice.ensures.value ∙ c.in_ok-listings.ensures.all listed is)
-    (told_by_listed (listed_of ls) es [] (λ _. []) keep a
+    (told_by_listed (listed_of ls) es [] (λ _. []) _ a
     (subst (λ ds. IsAnswer (listed_of ls) es ds (λ _. []) keep a) told
     (c.in_ok-resolve.ensures.resolved keep (λ n. refl))))

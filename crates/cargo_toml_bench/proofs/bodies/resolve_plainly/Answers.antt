@@ -22,7 +22,7 @@ module _ {M : Type 0} (limit : ℕ) (m : ManifestMeaning M) (keep : Text → Boo
       let own = own_of (requirements m) in
       let details = m.feature_details in
       subst (λ xs. IsAnswer xs (parsed_entries limit m) details own keep a) listed
-      (told_by_listed fs (parsed_entries limit m) details own keep a
+      (told_by_listed fs (parsed_entries limit m) details own _ a
       (subst (λ xs. IsAnswer fs xs (details_listed fs details) own keep a) entries
       (subst (λ xs. IsAnswer fs es xs own keep a) told
       (subst (λ xs. IsAnswer fs es ds (own_of xs) keep a) required is))))

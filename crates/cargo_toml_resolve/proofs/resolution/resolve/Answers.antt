@@ -44,4 +44,4 @@ returns-clause-resolved g c =
     (some_flagged c.contains.result vs c.deref.result.now (λ f. IsTrue (removed f)) (ap length c.deref.ensures.value ∙ len) c.contains.ensures.cases
     (subst (λ fs. (f : Text) → IsTrue (removed f) ↔ IsFlagged vs fs f) (sym c.deref.ensures.value) is))) in
     answer_by listed entries details own g.F.Fn c.args.filter (answer_of answer) without
-    (λ f left hidden. kept_by g.F.Fn c.args.filter c.requires.filter t vs all.features.table all.in_order flags are f ((without.resolved.kept f).0 left).0 ((without.resolved.kept f).0 left).1 hidden)
+    (λ f left hidden. kept_by g.F.Fn c.args.filter c.requires.filter t vs all.features.table all.in_order flags are f ((without.kept.resolved.kept f).0 left).0 ((without.kept.resolved.kept f).0 left).1 hidden)

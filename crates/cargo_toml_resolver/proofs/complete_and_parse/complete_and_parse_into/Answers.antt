@@ -1,7 +1,5 @@
 use Rattle.std.proofs.Common.{inl, refl}
-use Rattle.cargo_toml_manifest.specs.Manifests.{held}
 use Rattle.cargo_toml_resolver.specs.Filtered.{filter_of, limit_of}
-use Rattle.cargo_toml_resolver.specs.Parsed.{IsResolvedFor}
 use Rattle.cargo_toml_manifest.proofs.Meeting.{refused_again}
 use Rattle.cargo_toml_resolver.proofs.Lent.{answered_with, is_answered, wrapped_with, resolved_for}
 use Rattle.cargo_toml_resolver.proofs.complete_and_parse.complete_and_parse_into.Goals as goal

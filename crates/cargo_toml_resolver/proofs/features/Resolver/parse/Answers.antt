@@ -12,9 +12,8 @@ use Rattle.cargo_toml_resolver.specs.Filtered.{filter_of, limit_of}
 use Rattle.cargo_toml_resolver.specs.Parsed.{IsParsedBy, parsed_entries, parsed_table, requirements}
 use Rattle.cargo_toml_resolve.specs.Filter.{Asked}
 use Rattle.cargo_toml_resolve.specs.Removed.{IsAnswerBy, IsRemovedBy}
-use Rattle.cargo_toml_resolve.proofs.AgainstAll.{none_left, keeps_enabling, loses_nothing}
-use Rattle.cargo_toml_resolver.proofs.CompleteBins.{complete_bins}
-use Rattle.cargo_toml_resolver.proofs.ToldBy.{answer_by_listed}
+use Rattle.cargo_toml_resolve.proofs.ByFilter.{answer_by_listed}
+use Rattle.cargo_toml_resolver.proofs.Hiding.{complete_bins, hides}
 use Rattle.cargo_toml_resolver.proofs.features.Resolver.parse.Goals as goal
 
 -- the answer for what stands in a manifest is the answer for the manifest
@@ -25,7 +24,7 @@ module _ {M F : Type 0} (limit : ℕ) (m : ManifestMeaning M) (g : Asked F) (fil
       IsAnswerBy g filter fs es ds (own_of rs) a → IsParsedBy limit m g filter a
   parsed_from fs es ds rs listed entries told required is =
       subst (λ xs. IsAnswerBy g filter xs (parsed_entries limit m) m.feature_details (own_of (requirements m)) a) listed
-      (answer_by_listed g filter fs (parsed_entries limit m) m.feature_details (own_of (requirements m)) a
+      (answer_by_listed fs (parsed_entries limit m) m.feature_details (own_of (requirements m)) g filter a
       (subst (λ xs. IsAnswerBy g filter fs xs (details_listed fs m.feature_details) (own_of (requirements m)) a) entries
       (subst (λ xs. IsAnswerBy g filter fs es xs (own_of (requirements m)) a) told
       (subst (λ xs. IsAnswerBy g filter fs es ds (own_of xs) a) required is))))
@@ -51,17 +50,8 @@ pub returns-clause-hiding : goal.returns-clause-hiding
 returns-clause-hiding g c =
     let limit = limit_of c.args.self.now in
     let m = manifest_meaning (λ m. m) c.args.manifest.now in
-    let fs = admitted limit m.features in
-    let es = parsed_entries limit m in
-    let own = own_of (requirements m) in
-    let removed = IsRemovedBy g.F.Fn (filter_of c.args.self.now) (parsed_table limit m) in
-    let a = answer_of c.in_ok-resolve.field-0 in
-    let answer = (returns-clause-resolved g c).answer in
-    record {
-      no_removed_name = none_left fs es m.feature_details own removed a answer;
-      closure = λ full all. keeps_enabling fs es m.feature_details own removed a answer m.feature_details own full all;
-      nothing_lost = λ full all. loses_nothing fs es m.feature_details own removed a answer m.feature_details own full all;
-    }
+    hides (admitted limit m.features) (parsed_entries limit m) m.feature_details (own_of (requirements m))
+    (IsRemovedBy g.F.Fn (filter_of c.args.self.now) (parsed_table limit m)) (answer_of c.in_ok-resolve.field-0) (returns-clause-resolved g c).answer
 
 pub returns-clause-complete_bins : goal.returns-clause-complete_bins
 returns-clause-complete_bins g c =

@@ -4,9 +4,10 @@ use Rattle.cargo_toml_features.specs.Marks.{details_listed, named_details}
 use Rattle.cargo_toml_features.specs.Views.{listed_of, answer_of, entry_of}
 use Rattle.cargo_toml_features.specs.Resolved.{table_of}
 use Rattle.cargo_toml_resolve.specs.Removed.{IsAnswerBy, IsRemovedBy}
-use Rattle.cargo_toml_resolve.proofs.AgainstAll.{agrees, none_left, keeps_enabling, loses_nothing}
+use Rattle.cargo_toml_resolve.proofs.AgainstAll.{agrees}
+use Rattle.cargo_toml_resolve.proofs.ByFilter.{answer_by_listed}
 use Rattle.cargo_toml_resolver.specs.Filtered.{filter_of, limit_of}
-use Rattle.cargo_toml_resolver.proofs.ToldBy.{answer_by_listed}
+use Rattle.cargo_toml_resolver.proofs.Hiding.{hides}
 use Rattle.cargo_toml_resolver.proofs.features.Resolver.parse_custom.Goals as goal
 
 pub returns-clause-resolved : goal.returns-clause-resolved
@@ -21,7 +22,7 @@ returns-clause-resolved g c = λ listed is.
     let answered : IsAnswerBy g.F.Fn filter fs es [] (λ _. []) a =
     subst (λ (fs : Listed). IsAnswerBy g.F.Fn filter fs es [] (λ _. []) a)
     (ap listed_of c.as_slice.ensures.value ∙ c.in_ok-listings.ensures.all listed is)
-    (answer_by_listed g.F.Fn filter (listed_of ls) es [] (λ _. []) a
+    (answer_by_listed (listed_of ls) es [] (λ _. []) g.F.Fn filter a
     (subst (λ ds. IsAnswerBy g.F.Fn filter (listed_of ls) es ds (λ _. []) a) told c.in_ok-resolve.ensures.resolved)) in
     record { answered = answered; agreement = agrees fs es g.F.Fn filter a [] (λ _. []) answered }
 
@@ -29,11 +30,4 @@ pub returns-clause-hiding : goal.returns-clause-hiding
 returns-clause-hiding g c = λ listed is.
     let fs = admitted (limit_of c.args.self.now) listed in
     let es = map entry_of c.args.dependencies.now in
-    let removed = IsRemovedBy g.F.Fn (filter_of c.args.self.now) (table_of fs es) in
-    let a = answer_of c.in_ok-resolve.field-0 in
-    let answer = (returns-clause-resolved g c listed is).answered.answer in
-    record {
-      no_removed_name = none_left fs es [] (λ _. []) removed a answer;
-      closure = λ full all. keeps_enabling fs es [] (λ _. []) removed a answer [] (λ _. []) full all;
-      nothing_lost = λ full all. loses_nothing fs es [] (λ _. []) removed a answer [] (λ _. []) full all;
-    }
+    hides fs es [] (λ _. []) (IsRemovedBy g.F.Fn (filter_of c.args.self.now) (table_of fs es)) (answer_of c.in_ok-resolve.field-0) (returns-clause-resolved g c listed is).answered.answer

@@ -1,15 +1,16 @@
--- With few mentions of removed features, no binary is lost on its way to a kept one.
-use Rattle.std.proofs.Common.{◌≤◌, Bool, List, IsTrue, count_by, is_some, le_trans}
+-- What hiding leaves; and with few mentions of removed features, no binary is lost on its way to a kept one.
+use Rattle.std.proofs.Common.{◌≤◌, Bool, true, List, IsTrue, count_by, is_some, le_trans}
 use Rattle.cargo_toml_graph.specs.Action.{Text}
 use Rattle.cargo_toml_graph.specs.Admitted.{Listed}
 use Rattle.cargo_toml_graph.specs.Bins.{IsComplete}
 use Rattle.cargo_toml_graph.proofs.InByteOrder.{ascending_once, passed_complete}
 use Rattle.cargo_toml_features.specs.Marks.{NamedDetails}
 use Rattle.cargo_toml_features.specs.Recorded.{Entry}
-use Rattle.cargo_toml_features.specs.Resolved.{Answer, table_of}
-use Rattle.cargo_toml_resolve.specs.Removed.{IsAnswerWithout}
+use Rattle.cargo_toml_features.specs.Resolved.{Answer, IsAnswer, IsAnswerWithout, table_of}
 use Rattle.cargo_toml_resolve.proofs.ByFilter.{answer_alike}
 use Rattle.cargo_toml_full.specs.OwnBins.{own_of}
+use Rattle.cargo_toml_resolve.proofs.AgainstAll.{none_left, keeps_enabling, loses_nothing}
+use Rattle.cargo_toml_resolver.specs.Parsed.{IsHiding}
 use Rattle.cargo_toml_resolver.proofs.Mentions.{mentions_counted}
 
 module _ (listed : Listed) (entries : List Entry) (details : NamedDetails) (required : List (Text × Text)) (R : Text → Type 0) (a : Answer)
@@ -26,5 +27,14 @@ module _ (listed : Listed) (entries : List Entry) (details : NamedDetails) (requ
   complete_bins few f left =
       let p = by_redirects.passed_on in
       let once = ascending_once p.order p.in_order.ascending in
-      passed_complete (table_of listed entries) (λ r. IsTrue (removed r)) (own_of required) (λ r y. there r ((h.redirected r).0 y)) a.bins p f ((by_redirects.resolved.kept f).0 left)
+      passed_complete (table_of listed entries) (λ r. IsTrue (removed r)) (own_of required) (λ r y. there r ((h.redirected r).0 y)) a.bins p f ((by_redirects.kept.resolved.kept f).0 left)
       (le_trans (mentions_counted removed required p.order once (λ r i. (p.in_order.members r).0 i)) few)
+
+-- what hiding leaves, by itself and beside each full answer
+pub hides : (listed : Listed) (entries : List Entry) (details : NamedDetails) (own : Text → List Text) (R : Text → Type 0) (a : Answer)
+    → IsAnswerWithout listed entries details own R a → IsHiding (IsAnswer listed entries details own (λ _. true)) a
+hides listed entries details own R a h = record {
+  no_removed_name = none_left listed entries details own R a h;
+  closure = λ full all. keeps_enabling listed entries details own R a h details own full all;
+  nothing_lost = λ full all. loses_nothing listed entries details own R a h details own full all;
+}

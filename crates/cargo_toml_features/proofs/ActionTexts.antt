@@ -1,35 +1,22 @@
 -- The parts of an action text, and one more action on a dependency.
-use Rattle.std.proofs.Common.{◌≡◌, ◌+◌, ℕ, Bool, true, false, cond, ◌&&◌, ◌||◌, not, List, [], ◌∷◌, length, nat_eq, Option, Some, None, is_some, IfSome, option_map, bytes_eq, codes, Bor, arith, refl, sym, ap, ◌∙◌, subst, unwrap_or}
-use Rattle.std.specs.List.{starts_with, ends_with, before_first, after_first, list_any, position_or_len}
-use Rattle.std.specs.Option.{option_map_or}
-use Rattle.std.specs.BTreeMap.{BTreeMap, is_at}
-use Rattle.std.specs.Map.{lookup}
-use Rattle.std.specs.Cmp.Lexicographic.{slice_cmp}
-use Rattle.std.specs.Ordering.{nat_cmp}
+use Rattle.std.proofs.Common.{◌≡◌, ℕ, Bool, false, cond, ◌&&◌, ◌||◌, List, [], ◌∷◌, length, nat_eq, Option, Some, None, is_some, IfSome, option_map, bytes_eq, codes, Bor, arith, refl, ap, ◌∙◌, unwrap_or}
+use Rattle.std.specs.{List.starts_with, List.ends_with, List.before_first, List.after_first, List.list_any, List.position_or_len, Option.option_map_or, BTreeMap.BTreeMap, BTreeMap.is_at, Map.lookup}
+use Rattle.std.specs.{Cmp.Lexicographic.slice_cmp, Ordering.nat_cmp}
 use Rattle.cargo_toml_graph.specs.Action.{Text, Action, join, join_option, without_start, without_end, is_slash, item_of}
 use Rattle.cargo_toml_graph.specs.Action.Item.{Name, On}
-use Rattle.cargo_toml_features.specs.ActionText.{item_in}
-use Rattle.cargo_toml_features.specs.Views.{action_of, action_at}
-use Rattle.cargo_toml_features.specs.declared.action.ActionText.{ActionText}
-use Rattle.cargo_toml_features.specs.declared.features.DepAction.{DepAction}
-use Rattle.std.proofs.lemmas.Slice.Eq.{bytes_eq-Decides}
-use Rattle.cargo_toml_graph.proofs.Texts.{bytes_eq_sym}
-use Rattle.cargo_toml_graph.proofs.JoinLaws.{join_option_none}
+use Rattle.cargo_toml_features.specs.{ActionText.item_in, Views.action_of, Views.action_at, declared.action.ActionText.ActionText, declared.features.DepAction.DepAction}
+use Rattle.std.proofs.lemmas.{Slice.Eq.bytes_eq-Decides, Grind.common_steps}
+use Rattle.cargo_toml_graph.proofs.{Texts.bytes_eq_sym, JoinLaws.join_option_none}
 
 -- where no element passes, the search runs to the end
 pub none_found : (p : ℕ → Bool) (xs : List ℕ) → position_or_len p xs ≡ length xs → list_any p xs ≡ false
 none_found p [] e = refl
-none_found p (x ∷ xs) e = go (p x) (none_found p xs) e
-  where
-    go : (b : Bool) → (position_or_len p xs ≡ length xs → list_any p xs ≡ false) → cond (not b) (1 + position_or_len p xs) 0 ≡ length (x ∷ xs) → (b || list_any p xs) ≡ false
-    go true rest h = absurd (omega (arith, h))
-    go false rest h = rest (omega (arith, h))
+none_found p (x ∷ xs) e = grind (arith, common_steps, none_found p xs)
 
 -- which features an action text asks for
 asked : (text : Text) (after : Option (Bor Text)) → is_some after ≡ list_any is_slash text → IfSome after (λ f. f.now ≡ after_first is_slash text) → (x : Text)
     → option_map_or (λ f. bytes_eq x f.now) after false ≡ (list_any is_slash text && bytes_eq x (after_first is_slash text))
-asked text None has is x = ap (λ h. h && bytes_eq x (after_first is_slash text)) has
-asked text (Some f) has is x = ap (bytes_eq x) is ∙ ap (λ h. h && bytes_eq x (after_first is_slash text)) has
+asked v0 v1 v2 v3 v4 = grind (arith, common_steps)
 
 -- the parts that the code takes are those of the definition
 pub apart : (text front marked : Text) (t : ActionText) → front ≡ before_first is_slash text
@@ -63,12 +50,4 @@ pub joined_at : (old : BTreeMap (Bor Text) DepAction) (new : List (Bor Text × D
     → join (action_of first) a ≡ a → held ≡ unwrap_or (entry_at old.entries key) first
     → action_of made ≡ join (action_of held) a
     → (k : Text) → option_map action_of (entry_at new k) ≡ join_option (action_at old k) (cond (bytes_eq k key) (Some a) None)
-joined_at old new key a first held made others there neutral held_is made_is k = go (bytes_eq k key) refl
-  where
-    here : (o : Option DepAction) → held ≡ unwrap_or o first → Some (action_of made) ≡ join_option (option_map action_of o) (Some a)
-    here None e = ap Some (made_is ∙ ap (λ h. join (action_of h) a) e ∙ neutral)
-    here (Some o) e = ap Some (made_is ∙ ap (λ h. join (action_of h) a) e)
-
-    go : (b : Bool) → bytes_eq k key ≡ b → option_map action_of (entry_at new k) ≡ join_option (action_at old k) (cond b (Some a) None)
-    go true e = subst (λ q. option_map action_of (entry_at new q) ≡ join_option (action_at old q) (Some a)) (sym ((bytes_eq-Decides k key).0 e)) (ap (option_map action_of) there ∙ here (entry_at old.entries key) held_is)
-    go false e = ap (option_map action_of) (others k (bytes_eq_sym key k ∙ e)) ∙ sym (join_option_none (action_at old k))
+joined_at old new key a first held made others there neutral held_is made_is k = grind (arith, common_steps, bytes_eq-Decides, bytes_eq_sym, join_option_none)

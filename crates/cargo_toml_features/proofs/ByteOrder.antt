@@ -1,28 +1,12 @@
 -- Texts sorted, each once, and the place that a search finds.
-use Rattle.std.proofs.Common.{◌≡◌, ◌↔◌, ◌+◌, ◌<◌, ℕ, zero, suc, Bool, List, [], ◌∷◌, length, map, IsTrue, Bor, bytes_eq, get_or, Result, Ok, Err, None, IfSome, refl, sym, ap, subst, inl, inr, ◌∙◌, arith}
-use Rattle.std.proofs.lemmas.Bool.{false_from_ne_true, cases_lt}
-use Rattle.std.proofs.lemmas.Cmp.{nat_list_cmp_total, nat_list_eq_equiv, on_total, on_equiv, tied_itself}
-use Rattle.std.proofs.lemmas.List.{get_or-map, length-map}
-use Rattle.std.proofs.lemmas.List.Filters.{dedup_is}
-use Rattle.std.proofs.lemmas.List.Kept.{Any-dedup, Contains-from_dedup, IsStrictlySortedBy-dedup}
-use Rattle.std.proofs.lemmas.List.Sorted.{IsPermutation-sym, Contains-permutation, searchable_from_sorted}
-use Rattle.std.proofs.lemmas.Map.Lookups.{exact_bytes}
-use Rattle.std.proofs.lemmas.Map.Text.{is_eq-slice_cmp}
-use Rattle.std.proofs.lemmas.Slice.Eq.{bytes_eq-Decides}
-use Rattle.std.specs.Cmp.Lexicographic.{slice_cmp}
-use Rattle.std.specs.List.{Contains, dedup}
-use Rattle.std.specs.List.Retain.{IsFiltered, DiffersFromLast}
-use Rattle.std.specs.List.Sorted.{IsPermutation, IsSorted, IsSearchInRange, IsBinarySearchResult}
-use Rattle.std.specs.Ordering.{nat_cmp}
-use Rattle.std.specs.Result.{result_ok}
-use Rattle.std.specs.declared.cmp.Ordering.{Ordering}
-use Rattle.std.specs.declared.cmp.Ordering.TheVariants.{Equal}
-use Rattle.cargo_toml_graph.specs.Ascending.{Ascend}
-use Rattle.cargo_toml_graph.specs.Action.{Text}
-use Rattle.cargo_toml_graph.specs.Admitted.{is_below}
-use Rattle.cargo_toml_graph.specs.Reach.{Among}
-use Rattle.cargo_toml_graph.proofs.RedirectsInOrder.{below_one_way}
-use Rattle.cargo_toml_graph.proofs.SortedTexts.{texts_ascend}
+use Rattle.std.proofs.Common.{◌≡◌, ◌↔◌, ◌<◌, ℕ, zero, suc, Bool, List, [], ◌∷◌, length, map, Bor, bytes_eq, get_or, Result, Ok, Err, None, IfSome, refl, sym, ap, subst, inl, inr, ◌∙◌, arith}
+use Rattle.std.proofs.lemmas.{Bool.false_from_ne_true, Bool.cases_lt, Cmp.nat_list_cmp_total, Cmp.nat_list_eq_equiv, Cmp.on_total, Cmp.on_equiv, Cmp.tied_itself, List.get_or-map, List.length-map}
+use Rattle.std.proofs.lemmas.{List.Filters.dedup_is, List.Kept.Any-dedup, List.Kept.Contains-from_dedup, List.Kept.IsStrictlySortedBy-dedup, List.Sorted.IsPermutation-sym}
+use Rattle.std.proofs.lemmas.{List.Sorted.Contains-permutation, List.Sorted.searchable_from_sorted, Map.Lookups.exact_bytes, Map.Text.is_eq-slice_cmp, Slice.Eq.bytes_eq-Decides, Grind.common_steps}
+use Rattle.std.specs.{Cmp.Lexicographic.slice_cmp, List.Contains, List.dedup, List.Retain.IsFiltered, List.Retain.DiffersFromLast, List.Sorted.IsPermutation, List.Sorted.IsSorted}
+use Rattle.std.specs.{List.Sorted.IsSearchInRange, List.Sorted.IsBinarySearchResult, Ordering.nat_cmp, Result.result_ok, declared.cmp.Ordering.Ordering, declared.cmp.Ordering.TheVariants.Equal}
+use Rattle.cargo_toml_graph.specs.{Ascending.Ascend, Action.Text, Reach.Among}
+use Rattle.cargo_toml_graph.proofs.{RedirectsInOrder.below_one_way, SortedTexts.texts_ascend}
 use Rattle.cargo_toml_features.specs.Places.{nth_text}
 use Rattle.cargo_toml_features.proofs.Places.{at_among, rises}
 
@@ -80,11 +64,7 @@ module _ (ts : List (Bor Text)) (x : Text) where
   found_there (Err i) below parted = tt
 
   sorted_now : Ascend (texts ts) → IsSorted cmp ts
-  sorted_now up k d low high =
-      let here : k < length ts = omega arith in
-      let long = length-map ts (λ (t : Bor Text). t.now) in
-      false_from_ne_true _ (λ later. below_one_way (get_or ts k d).now (get_or ts (k + 1) d).now
-      (subst (λ v. IsTrue (is_below v (get_or ts (k + 1) d).now)) (text_now k d here) (subst (λ v. IsTrue (is_below (nth_text (texts ts) k) v)) (text_now (k + 1) d high) (rises (texts ts) up k (k + 1) (omega arith) (omega arith)))) later)
+  sorted_now up k d low high = grind (arith, common_steps, length-map, false_from_ne_true, below_one_way, text_now, rises)
 
   pub missing_there : (r : Result ℕ ℕ) → IsBinarySearchResult (λ t. slice_cmp nat_cmp t.now x) ts r → Ascend (texts ts) → result_ok r ≡ None → ¬ Among (texts ts) x
   missing_there (Ok i) equal up none there = cc

@@ -1,27 +1,14 @@
 -- A hashed table, put in order one name after another.
-use Rattle.std.proofs.Common.{◌≡◌, ◌||◌, Bool, true, false, cond, List, [], ◌∷◌, ◌++◌, map, option_map, string_bytes, Option, String, Vec, Some, None, is_some, bytes_eq, refl, sym, ap, ◌∙◌}
+use Rattle.std.proofs.Common.{◌≡◌, ◌||◌, Bool, true, false, cond, List, [], ◌∷◌, ◌++◌, map, option_map, string_bytes, Option, String, Vec, Some, None, is_some, bytes_eq, refl, sym, ap, ◌∙◌, arith}
 use Rattle.std.proofs.Math.Bool.{or-false}
-use Rattle.std.proofs.lemmas.Bool.{or_right}
-use Rattle.std.proofs.lemmas.List.{map-append}
-use Rattle.std.proofs.lemmas.List.Folds.{list_any-append}
-use Rattle.std.proofs.lemmas.Map.Made.{is_some-lookup}
-use Rattle.std.proofs.lemmas.Map.Text.{btree_map_updates_str, is_eq-slice_cmp}
-use Rattle.std.proofs.lemmas.Slice.Eq.{bytes_eq-Decides}
-use Rattle.std.specs.Borrow.{Bor}
+use Rattle.std.proofs.lemmas.{Bool.or_right, List.map-append, List.Folds.list_any-append, Map.Made.is_some-lookup, Map.Text.btree_map_updates_str, Map.Text.is_eq-slice_cmp, Slice.Eq.bytes_eq-Decides}
+use Rattle.std.proofs.lemmas.Grind.{common_steps}
+use Rattle.std.specs.{Borrow.Bor, BTreeMap.BTreeMap, BTreeMap.is_at, Cmp.Lexicographic.slice_cmp, HashMap.HashMap, List.list_any, List.Sorted.IsStrictlySortedBy, Map.lookup, Map.Iter.deref_pair}
+use Rattle.std.specs.{Ordering.nat_cmp, declared.alloc.Global.Global}
 use Rattle.std.specs.BTreeMap as tree
-use Rattle.std.specs.BTreeMap.{BTreeMap, is_at}
-use Rattle.std.specs.Cmp.Lexicographic.{slice_cmp}
-use Rattle.std.specs.HashMap.{HashMap}
-use Rattle.std.specs.List.{list_any}
-use Rattle.std.specs.List.Sorted.{IsStrictlySortedBy}
-use Rattle.std.specs.Map.{lookup}
-use Rattle.std.specs.Map.Iter.{deref_pair}
-use Rattle.std.specs.Ordering.{nat_cmp}
-use Rattle.std.specs.declared.alloc.Global.{Global}
 use Rattle.cargo_toml_graph.specs.Action.{Text}
-use Rattle.cargo_toml_graph.proofs.Cut.{Ascends}
+use Rattle.cargo_toml_graph.proofs.{Cut.Ascends, Texts.bytes_eq_sym}
 use Rattle.cargo_toml_features.proofs.OneListing.{listed_ascend}
-use Rattle.cargo_toml_graph.proofs.Texts.{bytes_eq_sym}
 use Rattle.cargo_toml_features.specs.Hashed.{actions_at, sorted_actions_at}
 
 abbrev Walked : Type 0
@@ -38,10 +25,7 @@ abbrev pub IsPut : {S : Type 0} → HashMap (String Global) (Vec (String Global)
 IsPut m yielded sorted = (f : Text) → sorted_actions_at sorted f ≡ cond (is_walked yielded f) (actions_at m f) None
 
 walked_more : (yielded : Walked) (k : Bor (String Global)) (v : Bor (Vec (String Global) Global)) (f : Text) → is_walked (yielded ++ (k, v) ∷ []) f ≡ (is_walked yielded f || bytes_eq f (string_bytes k.now))
-walked_more yielded k v f =
-    ap (list_any (λ (q : String Global). bytes_eq f (string_bytes q))) (map-append (λ (e : Bor (String Global) × Bor (Vec (String Global) Global)). e.0.now) yielded ((k, v) ∷ []))
-    ∙ list_any-append (λ (q : String Global). bytes_eq f (string_bytes q)) (map (λ e. e.0.now) yielded) (k.now ∷ [])
-    ∙ ap (λ t. is_walked yielded f || t) (or-false _)
+walked_more yielded k v f = grind (arith, common_steps, string_bytes, map-append, list_any-append, or-false)
 
 module _ {S : Type 0} (m : HashMap (String Global) (Vec (String Global) Global) S) where
   pub one_put : (yielded : Walked) (k : Bor (String Global)) (v : Bor (Vec (String Global) Global)) (name : Bor Text) (actions : Bor (List (String Global))) (a b : Sorted) → name.now ≡ string_bytes k.now → actions.now ≡ v.now.items
@@ -88,12 +72,7 @@ sorted_entry e = (e.0.now, map string_bytes e.1.now)
 -- looking a name up in what is listed is looking it up in the table
 pub looked_up : (f : Text) (es : List (Bor Text × Bor (List (String Global)))) → lookup (bytes_eq f) (map sorted_entry es) ≡ option_map (λ v. map string_bytes v.now) (lookup (is_at (λ k. slice_cmp nat_cmp f k.now)) es)
 looked_up f [] = refl
-looked_up f (e ∷ es) = ap (λ t. cond t (Some (map string_bytes e.1.now)) (lookup (bytes_eq f) (map sorted_entry es))) (sym (is_eq-slice_cmp f e.0.now)) ∙ go (is_at (λ (k : Bor Text). slice_cmp nat_cmp f k.now) e.0) (looked_up f es)
-  where
-    go : (t : Bool) → lookup (bytes_eq f) (map sorted_entry es) ≡ option_map (λ (v : Bor (List (String Global))). map string_bytes v.now) (lookup (is_at (λ k. slice_cmp nat_cmp f k.now)) es)
-        → cond t (Some (map string_bytes e.1.now)) (lookup (bytes_eq f) (map sorted_entry es)) ≡ option_map (λ (v : Bor (List (String Global))). map string_bytes v.now) (cond t (Some e.1) (lookup (is_at (λ k. slice_cmp nat_cmp f k.now)) es))
-    go true later = refl
-    go false later = later
+looked_up f (e ∷ es) = grind (arith, common_steps, string_bytes, is_eq-slice_cmp, looked_up f es)
 
 -- the order of the table is the byte order of the names
 pub sorted_ascends : (es : List (Bor Text × Bor (List (String Global)))) → IsStrictlySortedBy (λ x y. slice_cmp nat_cmp x.now y.now) (map (λ e. e.0) es) → Ascends (map sorted_entry es)

@@ -1,19 +1,10 @@
 -- Each hashed table has a listing: its entries, put in order one after another.
-use Rattle.std.proofs.Common.{◌≡◌, ◌&&◌, Bool, true, false, T, cond, List, [], ◌∷◌, map, option_map, string_bytes, String, Vec, Some, bytes_eq, refl, sym, ap₂, ◌∙◌}
-use Rattle.std.proofs.lemmas.Cmp.{nat_list_cmp_total}
-use Rattle.std.proofs.lemmas.Map.Text.{is_eq-slice_cmp}
-use Rattle.std.specs.Cmp.Lexicographic.{slice_cmp}
-use Rattle.std.specs.FinMap.Entries.{put, find, below_all, is_sorted, is_sorted-put, find-put}
-use Rattle.std.specs.HashMap.{HashMap}
-use Rattle.std.specs.List.{AllByRecursion}
-use Rattle.std.specs.List.Sorted.{IsStrictlySortedBy}
-use Rattle.std.specs.Map.{lookup}
-use Rattle.std.specs.Ordering.{nat_cmp, is_lt}
-use Rattle.std.specs.declared.alloc.Global.{Global}
-use Rattle.std.specs.declared.cmp.Ordering.{Ordering}
-use Rattle.std.specs.declared.cmp.Ordering.TheVariants.{Less, Equal, Greater}
-use Rattle.cargo_toml_graph.specs.Action.{Text}
-use Rattle.cargo_toml_graph.specs.Admitted.{Listed}
+use Rattle.std.proofs.Common.{◌≡◌, ◌&&◌, Bool, true, false, T, cond, List, [], ◌∷◌, map, option_map, string_bytes, String, Vec, Some, bytes_eq, refl, sym, ap₂, ◌∙◌, arith}
+use Rattle.std.proofs.lemmas.{Cmp.nat_list_cmp_total, Map.Text.is_eq-slice_cmp, Grind.common_steps}
+use Rattle.std.specs.{Cmp.Lexicographic.slice_cmp, FinMap.Entries.put, FinMap.Entries.find, FinMap.Entries.below_all, FinMap.Entries.is_sorted, FinMap.Entries.is_sorted-put, FinMap.Entries.find-put}
+use Rattle.std.specs.{HashMap.HashMap, List.AllByRecursion, List.Sorted.IsStrictlySortedBy, Map.lookup, Ordering.nat_cmp, Ordering.is_lt, declared.alloc.Global.Global, declared.cmp.Ordering.Ordering}
+use Rattle.std.specs.declared.cmp.Ordering.TheVariants.{Less}
+use Rattle.cargo_toml_graph.specs.{Action.Text, Admitted.Listed}
 use Rattle.cargo_toml_features.specs.Hashed.{IsListingOf}
 
 abbrev Entries : Type 0
@@ -44,13 +35,10 @@ by_bytes f [] = refl
 by_bytes f (e ∷ ls) = ap₂ (λ b o. cond b (Some e.1) o) (sym (is_eq-slice_cmp f e.0)) (by_bytes f ls)
 
 both : (a b : Bool) → T (a && b) → T a × T b
-both true b h = (tt, h)
-both false b h = absurd h
+both v0 v1 v2 = grind (arith, common_steps)
 
 less : (o : Ordering) → T (is_lt o) → o ≡ Less
-less Less h = refl
-less Equal h = absurd h
-less Greater h = absurd h
+less v0 v1 = grind (arith, common_steps)
 
 below : (k : Text) (ls : Listed) → T (below_all (slice_cmp nat_cmp) k ls) → AllByRecursion (λ y. slice_cmp nat_cmp k y ≡ Less) (map (λ e. e.0) ls)
 below k [] h = tt

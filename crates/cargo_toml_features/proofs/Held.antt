@@ -1,13 +1,9 @@
 -- A feature of a map whose features stand under their own keys is found under its key.
 use Rattle.std.proofs.Common.{◌≡◌, ◌<◌, ℕ, zero, suc, List, [], ◌∷◌, length, Some, is_some, IsSome, Bor, bytes_eq, slice_get, slice_index_or, sym, ap, ◌∙◌, inl, inr, arith}
 use Rattle.std.proofs.lemmas.Map.Entries.{hash_map_get_place}
-use Rattle.std.specs.Cmp.Lexicographic.{on_texts_equal}
-use Rattle.std.specs.HashMap.{HashMap, IsUnique}
-use Rattle.std.specs.Map.{values_of}
+use Rattle.std.specs.{Cmp.Lexicographic.on_texts_equal, HashMap.HashMap, HashMap.IsUnique, Map.values_of}
 use Rattle.cargo_toml_graph.specs.Action.{Text}
-use Rattle.cargo_toml_features.specs.declared.features.Feature.{Feature}
-use Rattle.cargo_toml_features.specs.Reached.{IsHeldBy, IsKeyed}
-use Rattle.cargo_toml_features.specs.Views.{value_at}
+use Rattle.cargo_toml_features.specs.{declared.features.Feature.Feature, Reached.IsHeldBy, Reached.IsKeyed, Views.value_at}
 use Rattle.cargo_toml_features.proofs.Pending.{key_of}
 
 -- the value at an index stands there under some key

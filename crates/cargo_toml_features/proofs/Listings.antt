@@ -1,23 +1,14 @@
 -- The names of a table, in byte order and each once.
-use Rattle.std.proofs.Common.{◌≡◌, Bool, true, false, cond, List, [], ◌∷◌, map, Option, Some, None, Bor, bytes_eq, option_map, string_bytes, String, unwrap_or, Vec, refl, sym, ap, ◌∙◌}
-use Rattle.std.specs.Option.{option_copied}
-use Rattle.std.specs.BTreeMap.{BTreeMap, get_by, is_at}
-use Rattle.std.specs.Cmp.Lexicographic.{slice_cmp}
-use Rattle.std.specs.Map.{lookup}
-use Rattle.std.specs.Ordering.{nat_cmp}
-use Rattle.std.specs.List.Sorted.{IsStrictlySortedBy}
-use Rattle.std.specs.String.{string_cmp}
-use Rattle.std.specs.declared.alloc.Global.{Global}
-use Rattle.std.proofs.lemmas.Map.Text.{is_eq-slice_cmp}
+use Rattle.std.proofs.Common.{◌≡◌, List, [], ◌∷◌, map, Option, Bor, option_map, string_bytes, String, unwrap_or, Vec, refl, sym, ap, ◌∙◌, arith}
+use Rattle.std.specs.{Option.option_copied, BTreeMap.BTreeMap, BTreeMap.get_by, BTreeMap.is_at, Cmp.Lexicographic.slice_cmp, Map.lookup, Ordering.nat_cmp, List.Sorted.IsStrictlySortedBy}
+use Rattle.std.specs.{String.string_cmp, declared.alloc.Global.Global}
+use Rattle.std.proofs.lemmas.{Map.Text.is_eq-slice_cmp, Grind.common_steps}
 use Rattle.cargo_toml_graph.specs.Action.{Text}
 use Rattle.cargo_toml_graph.proofs.Cut.{Ascends}
 use Rattle.cargo_toml_features.proofs.OneListing.{listed_ascend}
-use Rattle.cargo_toml_dependencies.specs.Details.{Detail, detail_of, plain_detail}
-use Rattle.cargo_toml_dependencies.specs.declared.target.FeatureDetail.{FeatureDetail}
+use Rattle.cargo_toml_dependencies.specs.{Details.Detail, Details.detail_of, Details.plain_detail, declared.target.FeatureDetail.FeatureDetail}
 use Rattle.cargo_toml_parts.specs.Reads.{map_meaning}
-use Rattle.cargo_toml_features.specs.Marks.{detail_named, detail_in}
-use Rattle.cargo_toml_features.specs.Views.{listed_of}
-use Rattle.cargo_toml_features.specs.declared.admit.Listing.{Listing}
+use Rattle.cargo_toml_features.specs.{Marks.detail_named, Marks.detail_in, Views.listed_of, declared.admit.Listing.Listing}
 
 abbrev Owned : Type 0
 Owned = String Global × Vec (String Global) Global
@@ -46,19 +37,10 @@ names_listed (l ∷ ls) = ap (λ xs. l.name.now ∷ xs) (names_listed ls)
 detail_among : (f : Text) (es : List (String Global × FeatureDetail))
     → detail_named (map (λ e. (string_bytes e.0, detail_of e.1)) es) f ≡ unwrap_or (option_map detail_of (lookup (is_at (λ k. slice_cmp nat_cmp f (string_bytes k))) es)) plain_detail
 detail_among f [] = refl
-detail_among f (e ∷ es) =
-    ap (λ t. unwrap_or (cond t (Some (detail_of e.1)) (lookup (bytes_eq f) (map (λ (d : String Global × FeatureDetail). (string_bytes d.0, detail_of d.1)) es))) plain_detail) (sym (is_eq-slice_cmp f (string_bytes e.0)))
-    ∙ go (is_at (λ (k : String Global). slice_cmp nat_cmp f (string_bytes k)) e.0) (detail_among f es)
-  where
-    go : (t : Bool) → detail_named (map (λ (d : String Global × FeatureDetail). (string_bytes d.0, detail_of d.1)) es) f ≡ unwrap_or (option_map detail_of (lookup (is_at (λ (k : String Global). slice_cmp nat_cmp f (string_bytes k))) es)) plain_detail
-        → unwrap_or (cond t (Some (detail_of e.1)) (lookup (bytes_eq f) (map (λ (d : String Global × FeatureDetail). (string_bytes d.0, detail_of d.1)) es))) plain_detail
-        ≡ unwrap_or (option_map detail_of (cond t (Some e.1) (lookup (is_at (λ (k : String Global). slice_cmp nat_cmp f (string_bytes k))) es))) plain_detail
-    go true h = refl
-    go false h = h
+detail_among f (e ∷ es) = grind (arith, common_steps, string_bytes, is_eq-slice_cmp, detail_among f es)
 
 detail_copied : (o : Option (Bor FeatureDetail)) → detail_in o ≡ unwrap_or (option_map detail_of (option_copied o)) plain_detail
-detail_copied None = refl
-detail_copied (Some d) = refl
+detail_copied v0 = grind (arith, common_steps)
 
 -- and so the look-up in the map gives it
 pub detail_found : (f : Text) (m : BTreeMap (String Global) FeatureDetail) (o : Option (Bor FeatureDetail)) → option_copied o ≡ get_by (λ k. slice_cmp nat_cmp f (string_bytes k)) m

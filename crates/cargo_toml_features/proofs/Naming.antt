@@ -1,6 +1,7 @@
 -- The names that a loop over a map puts into a set.
-use Rattle.std.proofs.Common.{◌≡◌, ◌||◌, Bool, false, List, [], ◌∷◌, sym, ap, ◌∙◌}
+use Rattle.std.proofs.Common.{◌≡◌, ◌||◌, Bool, false, List, [], ◌∷◌, sym, ap, ◌∙◌, arith}
 use Rattle.std.proofs.Math.Bool.{or-false, or_assoc}
+use Rattle.std.proofs.lemmas.Grind.{common_steps}
 use Rattle.std.specs.List.{list_any}
 
 module _ {A : Type 0} (hits : A → Bool) where
@@ -9,9 +10,7 @@ module _ {A : Type 0} (hits : A → Bool) where
 
   pub one_more : (old new : Bool) (x : A) (left rest : List A) (all : Bool) → left ≡ x ∷ rest → new ≡ (old || hits x)
       → (old || list_any hits left) ≡ all → (new || list_any hits rest) ≡ all
-  one_more old new x left rest all is put before =
-      ap (λ t. t || list_any hits rest) put ∙ or_assoc old (hits x) (list_any hits rest)
-      ∙ ap (λ es. old || list_any hits es) (sym is) ∙ before
+  one_more old new x left rest all is put before = grind (arith, common_steps, or_assoc)
 
   pub none_left : (old : Bool) (left : List A) (all : Bool) → left ≡ [] → (old || list_any hits left) ≡ all → old ≡ all
   none_left old left all none before = sym (or-false old) ∙ ap (λ es. old || list_any hits es) (sym none) ∙ before

@@ -1,12 +1,7 @@
 -- The next name that an iterator without `default` yields.
-use Rattle.std.proofs.Common.{◌≡◌, Bool, true, false, cond, List, [], ◌∷◌, ◌++◌, map, filter, Option, Some, None, MatchOption, IfSome, Bor, refl, sym, ap, subst, ◌∙◌}
-use Rattle.std.proofs.lemmas.List.Elements.{filter-append}
-use Rattle.std.proofs.lemmas.Map.Iter.{rest_so_far}
-use Rattle.std.specs.Option.{option_copied}
-use Rattle.std.specs.Fn.{CalledAt}
-use Rattle.std.specs.List.{FoldsTo}
-use Rattle.std.specs.Iterator.{YieldsThen}
-use Rattle.std.specs.Map.Iter.{TakesFirst, deref}
+use Rattle.std.proofs.Common.{◌≡◌, Bool, true, false, cond, List, [], ◌∷◌, ◌++◌, map, filter, Option, Some, None, MatchOption, IfSome, Bor, refl, sym, ap, subst, ◌∙◌, arith}
+use Rattle.std.proofs.lemmas.{List.Elements.filter-append, Map.Iter.rest_so_far, Grind.common_steps}
+use Rattle.std.specs.{Option.option_copied, Fn.CalledAt, List.FoldsTo, Iterator.YieldsThen, Map.Iter.TakesFirst, Map.Iter.deref}
 use denote.Param.Members.{Mut}
 
 module _ {X F : Type 0} (g : Mut F (Bor (Bor X) × Unit {0}) Bool) (test : X → Bool) (f : F) (pure : (x : Bor X) (b : Bool) (q : F) → CalledAt g f x b q → (q ≡ f) × (b ≡ test x.now)) where
@@ -35,8 +30,4 @@ module _ {X F : Type 0} (g : Mut F (Bor (Bor X) × Unit {0}) Bool) (test : X →
 -- the same of a copy of what was found, where `all` is what passes of the list
 pub first_copied : {X : Type 0} (all rest : List X) (r : Option (Bor X)) (r' : Option X) → r' ≡ option_copied r → MatchOption r ((all ≡ []) × (rest ≡ [])) (λ x. all ≡ x.now ∷ rest)
     → MatchOption r' ((all ≡ []) × (rest ≡ [])) (λ x. all ≡ x ∷ rest)
-first_copied {X} all rest r r' e h = subst (λ o. MatchOption o ((all ≡ []) × (rest ≡ [])) (λ x. all ≡ x ∷ rest)) (sym e) (go r h)
-  where
-    go : (r : Option (Bor X)) → MatchOption r ((all ≡ []) × (rest ≡ [])) (λ x. all ≡ x.now ∷ rest) → MatchOption (option_copied r) ((all ≡ []) × (rest ≡ [])) (λ x. all ≡ x ∷ rest)
-    go None h = h
-    go (Some x) h = h
+first_copied {X} all rest r r' e h = grind (arith, common_steps)

@@ -1,18 +1,9 @@
 -- Two tables in byte order that tell the same of each name are the same.
-use Rattle.std.proofs.Common.{◌≡◌, Bool, true, false, cond, List, [], ◌∷◌, map, Some, None, is_some, unwrap_or, bytes_eq, refl, sym, subst, ap, ap₂, inl, inr, ◌∙◌}
-use Rattle.std.proofs.lemmas.Bool.{false≢true, false_from_ne_true}
-use Rattle.std.proofs.lemmas.Slice.Eq.{bytes_eq-Decides}
-use Rattle.std.specs.Cmp.Lexicographic.{slice_cmp}
-use Rattle.std.specs.List.Sorted.{IsStrictlySortedBy}
-use Rattle.std.specs.Map.{lookup}
-use Rattle.std.specs.Ordering.{nat_cmp}
-use Rattle.cargo_toml_graph.specs.Action.{Text}
-use Rattle.cargo_toml_graph.specs.Admitted.{Listed}
-use Rattle.cargo_toml_graph.specs.Ascending.{Ascend}
-use Rattle.cargo_toml_graph.specs.Reach.{Among}
-use Rattle.cargo_toml_graph.proofs.Cut.{Ascends}
-use Rattle.cargo_toml_graph.proofs.RedirectsInOrder.{below_one_way}
-use Rattle.cargo_toml_graph.proofs.SortedTexts.{first_below, others_ascend, texts_ascend}
+use Rattle.std.proofs.Common.{◌≡◌, Bool, true, false, cond, List, [], ◌∷◌, map, Some, None, is_some, unwrap_or, bytes_eq, refl, sym, subst, ap, ap₂, inl, inr, ◌∙◌, arith}
+use Rattle.std.proofs.lemmas.{Bool.false≢true, Bool.false_from_ne_true, Slice.Eq.bytes_eq-Decides, Grind.common_steps}
+use Rattle.std.specs.{Cmp.Lexicographic.slice_cmp, List.Sorted.IsStrictlySortedBy, Map.lookup, Ordering.nat_cmp}
+use Rattle.cargo_toml_graph.specs.{Action.Text, Admitted.Listed, Ascending.Ascend, Reach.Among}
+use Rattle.cargo_toml_graph.proofs.{Cut.Ascends, RedirectsInOrder.below_one_way, SortedTexts.first_below, SortedTexts.others_ascend, SortedTexts.texts_ascend}
 
 -- the order of keys is the byte order of the names that they list
 pub listed_ascend : {K V : Type 0} (text : K → Text) (list : V → List Text) (es : List (K × V)) → IsStrictlySortedBy (λ (x y : K). slice_cmp nat_cmp (text x) (text y)) (map (λ e. e.0) es)
@@ -35,11 +26,7 @@ missing f (e ∷ es) n = passed f e es (false_from_ne_true _ (λ on. n (inl ((by
 
 among : (f : Text) (es : Listed) (v : List Text) → lookup (bytes_eq f) es ≡ Some v → Among (map (λ e. e.0) es) f
 among f [] v h = absurd (false≢true (ap is_some h))
-among f (e ∷ es) v h = go (bytes_eq f e.0) refl (λ later. among f es v later)
-  where
-    go : (t : Bool) → bytes_eq f e.0 ≡ t → (lookup (bytes_eq f) es ≡ Some v → Among (map (λ e. e.0) es) f) → Among (map (λ e. e.0) (e ∷ es)) f
-    go true on later = inl ((bytes_eq-Decides f e.0).0 on)
-    go false off later = inr (later (sym (passed f e es off) ∙ h))
+among f (e ∷ es) v h = grind (arith, common_steps, false≢true, bytes_eq-Decides, passed, among f es v)
 
 not_after : (e : Text × List Text) (es : Listed) → Ascends (e ∷ es) → ¬ Among (map (λ e. e.0) es) e.0
 not_after e es a i = below_one_way e.0 e.0 (first_below e.0 (map (λ e. e.0) es) a e.0 i) (first_below e.0 (map (λ e. e.0) es) a e.0 i)

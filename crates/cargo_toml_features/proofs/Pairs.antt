@@ -1,29 +1,15 @@
 -- The lists of pairs, as one pair and then the actions of one feature are added.
-use Rattle.std.proofs.Common.{◌≡◌, ◌≢◌, ◌++◌, ◌∷◌, [], Bool, true, false, cond, map, List, Option, Some, None, Bor, Vec, Global, unwrap_or, option_map, IfSome, bytes_eq, IsTrue, IsFalse, refl, sym, ap, subst, ◌∙◌, append_assoc}
-use Rattle.std.proofs.lemmas.List.{map-append, append-nil}
-use Rattle.std.proofs.lemmas.Map.{NonePasses}
-use Rattle.std.proofs.lemmas.Map.Entries.{none_past_head}
-use Rattle.std.proofs.lemmas.Map.Keys.{IsDistinct-tail, IsDistinct-from_sorted}
-use Rattle.std.proofs.lemmas.Cmp.{eq_by_cmp_equiv}
-use Rattle.std.specs.Map.Iter.{deref_pair}
-use Rattle.std.specs.Cmp.Lexicographic.{slice_cmp, on_texts}
-use Rattle.std.specs.Ordering.{nat_cmp, eq_by_cmp}
-use Rattle.std.specs.List.{IsDistinct}
-use Rattle.std.specs.Map.{lookup, keys_of}
+use Rattle.std.proofs.Common.{◌≡◌, ◌++◌, ◌∷◌, [], Bool, true, false, cond, map, List, Option, Some, None, Bor, Vec, Global, unwrap_or, option_map, bytes_eq, IsTrue, IsFalse, refl, sym, ap, ◌∙◌, append_assoc, arith}
+use Rattle.std.proofs.lemmas.{List.map-append, List.append-nil, Map.NonePasses, Map.Entries.none_past_head, Map.Keys.IsDistinct-tail, Map.Keys.IsDistinct-from_sorted, Cmp.eq_by_cmp_equiv}
+use Rattle.std.proofs.lemmas.{Bool.cond-true, Bool.cond-false, Slice.Eq.bytes_eq-Decides, Map.Text.hash_map_updates_str, Map.Text.is_eq-slice_cmp, Grind.common_steps}
+use Rattle.std.specs.{Map.Iter.deref_pair, Cmp.Lexicographic.slice_cmp, Cmp.Lexicographic.on_texts, Ordering.nat_cmp, Ordering.eq_by_cmp, List.IsDistinct, Map.lookup, Map.keys_of, BTreeMap.BTreeMap}
+use Rattle.std.specs.{BTreeMap.is_at, HashMap.HashMap, Option.option_map_or}
 use Rattle.std.specs.BTreeMap as tree
-use Rattle.std.specs.BTreeMap.{BTreeMap, is_at}
-use Rattle.std.proofs.lemmas.Bool.{cond-true, cond-false}
-use Rattle.std.proofs.lemmas.Slice.Eq.{bytes_eq-Decides}
-use Rattle.std.proofs.lemmas.Map.Text.{hash_map_updates_str, is_eq-slice_cmp}
 use Rattle.std.specs.HashMap as hash
-use Rattle.std.specs.HashMap.{HashMap}
-use Rattle.std.specs.Option.{option_map_or}
-use Rattle.cargo_toml_features.specs.declared.features.DepAction.{DepAction}
+use Rattle.cargo_toml_features.specs.{declared.features.DepAction.DepAction, Reached.Lists, Reached.pairs_at, Reached.HaveNoEmpty, Visits.AddsPair, Visits.unconditional, Views.value_at}
+use Rattle.cargo_toml_features.specs.Views.{action_of, action_at}
 use Rattle.cargo_toml_graph.specs.Action.{Text, Action}
 use Rattle.cargo_toml_graph.proofs.Texts.{bytes_eq_sym}
-use Rattle.cargo_toml_features.specs.Reached.{Lists, pairs_at, HaveNoEmpty}
-use Rattle.cargo_toml_features.specs.Visits.{AddsPair, items_at, unconditional}
-use Rattle.cargo_toml_features.specs.Views.{value_at, action_of, action_at}
 
 module _ {X S : Type 0} (k : Text) (m n : HashMap (Bor Text) X S) (w : Option X) (h : hash.UpdatesBy (λ x y. bytes_eq x.now y.now) (λ q. bytes_eq k q.now) m n w) where
   pub at_key : value_at n k ≡ w
@@ -48,27 +34,11 @@ pair_listed k pair old new empty held longer u none here more = record {
 -- the pairs under any key, once one more pair stands under k
 pub pairs_more : {S : Type 0} (k : Text) (pair : Bor Text × Bor DepAction) (old new : Lists S) → AddsPair k pair old new
     → (q : Text) → pairs_at new q ≡ pairs_at old q ++ cond (bytes_eq k q) ((pair.0.now, action_of pair.1.now) ∷ []) []
-pairs_more k pair old new h q = go (bytes_eq k q) refl
-  where
-    go : (b : Bool) → bytes_eq k q ≡ b → pairs_at new q ≡ pairs_at old q ++ cond b ((pair.0.now, action_of pair.1.now) ∷ []) []
-    go true e =
-        let same : k ≡ q = (bytes_eq-Decides k q).0 e in
-        subst (λ x. pairs_at new x ≡ pairs_at old x ++ (pair.0.now, action_of pair.1.now) ∷ []) same
-        (ap (map (λ p. (p.0.now, action_of p.1.now))) h.here ∙ map-append _ (items_at old k) (pair ∷ []))
-    go false e = ap (λ o. map (λ p. (p.0.now, action_of p.1.now)) (option_map_or (λ v. v.items) o [])) (h.others q e) ∙ sym (append-nil _)
+pairs_more k pair old new h q = grind (arith, common_steps, bytes_eq-Decides, map-append, append-nil)
 
 -- no list becomes empty
 pub still_no_empty : {S : Type 0} (k : Text) (pair : Bor Text × Bor DepAction) (old new : Lists S) → AddsPair k pair old new → HaveNoEmpty old → HaveNoEmpty new
-still_no_empty k pair old new h none q = go (bytes_eq k q) refl
-  where
-    not_empty : (o : Option (Vec (Bor Text × Bor DepAction) Global)) (l : List (Bor Text × Bor DepAction)) → option_map_or (λ v. v.items) o [] ≡ l ++ pair ∷ [] → IfSome o (λ v. v.items ≢ [])
-    not_empty None l e = tt
-    not_empty (Some v) [] e = λ empty. let both : pair ∷ [] ≡ [] = sym e ∙ empty in cc
-    not_empty (Some v) (x ∷ l) e = λ empty. let both : x ∷ (l ++ pair ∷ []) ≡ [] = sym e ∙ empty in cc
-
-    go : (b : Bool) → bytes_eq k q ≡ b → IfSome (value_at new q) (λ v. v.items ≢ [])
-    go true e = subst (λ x. IfSome (value_at new x) (λ v. v.items ≢ [])) ((bytes_eq-Decides k q).0 e) (not_empty (value_at new k) (items_at old k) h.here)
-    go false e = subst (λ o. IfSome o (λ v. v.items ≢ [])) (sym (h.others q e)) (none q)
+still_no_empty k pair old new h none q = grind (arith, common_steps, bytes_eq-Decides)
 
 -- the test by which a text is looked up among ordered keys
 abbrev pub is_key : Text → Bor Text → Bool
@@ -118,20 +88,10 @@ module _ (f k : Text) (ys : List (Bor (Bor Text) × Bor DepAction)) (y : Bor (Bo
 
   pub listed_one : (first old new : List (Text × Action)) → IsFalse y.1.now.is_conditional → new ≡ old ++ cond (bytes_eq y.0.now.now k) ((f, action_of y.1.now) ∷ []) []
       → old ≡ first ++ own_pairs f k (map deref_pair ys) → new ≡ first ++ own_pairs f k (map deref_pair (ys ++ y ∷ []))
-  listed_one first old new plain more e =
-      more ∙ ap (λ b. old ++ cond b ((f, action_of y.1.now) ∷ []) []) (sym is_key-bytes_eq)
-      ∙ ap (λ b. old ++ cond (is_key k y.0.now) (cond b [] ((f, action_of y.1.now) ∷ [])) []) (sym plain)
-      ∙ ap (λ l. l ++ own_pair f k (y.0.now, y.1.now)) e ∙ append_assoc first (own_pairs f k (map deref_pair ys)) (own_pair f k (y.0.now, y.1.now)) ∙ ap (λ l. first ++ l) (sym one_more)
+  listed_one first old new plain more e = grind (arith, common_steps, is_key-bytes_eq, append_assoc, one_more)
 
   pub listed_none : (first old : List (Text × Action)) → IsTrue y.1.now.is_conditional → old ≡ first ++ own_pairs f k (map deref_pair ys) → old ≡ first ++ own_pairs f k (map deref_pair (ys ++ y ∷ []))
-  listed_none first old conditional e = e ∙ ap (λ l. first ++ l) (sym (append-nil _) ∙ ap (λ l. own_pairs f k (map deref_pair ys) ++ l) (sym nothing) ∙ sym one_more)
-    where
-      empty : (b : Bool) → cond {A = List (Text × Action)} b [] [] ≡ []
-      empty true = refl
-      empty false = refl
-
-      nothing : own_pair f k (y.0.now, y.1.now) ≡ []
-      nothing = ap (λ b. cond (is_key k y.0.now) (cond b [] ((f, action_of y.1.now) ∷ [])) []) conditional ∙ empty (is_key k y.0.now)
+  listed_none first old conditional e = grind (arith, common_steps, append-nil, one_more)
 
 -- the end of the loop: the pairs are those of all entries
 pub all_listed : (f k : Text) (ys : List (Bor (Bor Text) × Bor DepAction)) (m : BTreeMap (Bor Text) DepAction) → map deref_pair ys ≡ m.entries → tree.IsOrdered (λ x y. slice_cmp nat_cmp x.now y.now) m

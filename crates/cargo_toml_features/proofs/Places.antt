@@ -1,12 +1,8 @@
 -- Where texts stand in a list, and in one that ascends in byte order.
 use Rattle.std.proofs.Common.{◌≡◌, ◌<◌, ℕ, zero, suc, List, [], ◌∷◌, length, IsTrue, get_or, refl, sym, subst, inl, inr, arith}
-use Rattle.std.proofs.lemmas.Bool.{cases_order}
-use Rattle.cargo_toml_graph.specs.Ascending.{Ascend}
-use Rattle.cargo_toml_graph.specs.Action.{Text}
-use Rattle.cargo_toml_graph.specs.Admitted.{is_below}
-use Rattle.cargo_toml_graph.specs.Reach.{Among}
-use Rattle.cargo_toml_graph.proofs.RedirectsInOrder.{below_one_way}
-use Rattle.cargo_toml_graph.proofs.SortedTexts.{first_below, others_ascend}
+use Rattle.std.proofs.lemmas.{Bool.cases_order, Grind.common_steps}
+use Rattle.cargo_toml_graph.specs.{Ascending.Ascend, Action.Text, Admitted.is_below, Reach.Among}
+use Rattle.cargo_toml_graph.proofs.{RedirectsInOrder.below_one_way, SortedTexts.first_below, SortedTexts.others_ascend}
 use Rattle.cargo_toml_features.specs.Places.{nth_text}
 
 pub among_at : {K : Type 0} (xs : List K) (k : ℕ) (d : K) → k < length xs → Among xs (get_or xs k d)
@@ -42,8 +38,4 @@ once texts up i j below below' same =
 
 -- where a lower place has a lower text, a lower text has a lower place
 pub lower_place : (texts : List Text) (i j : ℕ) → (j < i → IsTrue (is_below (nth_text texts j) (nth_text texts i))) → IsTrue (is_below (nth_text texts i) (nth_text texts j)) → i < j
-lower_place texts i j ordered lower =
-    elim (cases_order i j) [
-      | inl is ↦ absurd (not_itself (nth_text texts j) (subst (λ k. IsTrue (is_below (nth_text texts k) (nth_text texts j))) is lower))
-      | inr other ↦ elim other [ inl less ↦ less | inr more ↦ absurd (below_one_way (nth_text texts i) (nth_text texts j) lower (ordered more)) ]
-    ]
+lower_place texts i j ordered lower = grind (arith, common_steps, cases_order, not_itself, below_one_way)

@@ -1,59 +1,29 @@
 -- The targets of a dependency, by the order of their keys.
-use Rattle.std.proofs.Common.{◌≡◌, Ordering, Less, Equal, Greater, true, Option, Some, None, option_map, Bor, refl, sym, ap, ◌∙◌}
-use Rattle.std.proofs.lemmas.Bool.{false≢true}
-use Rattle.std.specs.Option.{option_copied}
-use Rattle.std.specs.Ordering.{is_eq}
+use Rattle.std.proofs.Common.{◌≡◌, Ordering, Less, Equal, Greater, true, Option, option_map, Bor, refl, sym, ap, ◌∙◌, arith}
+use Rattle.std.proofs.lemmas.{Bool.false≢true, Grind.common_steps}
+use Rattle.std.specs.{Option.option_copied, Ordering.is_eq, BTreeMap.BTreeMap}
 use Rattle.std.specs.BTreeMap as tree
-use Rattle.std.specs.BTreeMap.{BTreeMap}
-use Rattle.cargo_toml_dependencies.specs.declared.dependency.Dependency.{Dependency}
-use Rattle.cargo_toml_dependencies.specs.Dependencies.{DependencyMeaning, dependency_meaning}
+use Rattle.cargo_toml_dependencies.specs.{declared.dependency.Dependency.Dependency, Dependencies.DependencyMeaning, Dependencies.dependency_meaning}
 use Rattle.cargo_toml_features.specs.contracts.features.TargetKeyOrd.TheImpl as key_order
 use Rattle.cargo_toml_features.specs.contracts.features.TargetKeyOrd.TheImpl.Laws as laws
-use Rattle.cargo_toml_features.specs.declared.features.Kind.{Kind}
-use Rattle.cargo_toml_features.specs.declared.features.Kind.TheVariants.{Normal, Build, Dev}
-use Rattle.cargo_toml_features.specs.declared.features.TargetKey.{TargetKey}
+use Rattle.cargo_toml_features.specs.{declared.features.Kind.Kind, declared.features.TargetKey.TargetKey, Recorded.Target, Recorded.target_cmp, Views.target_in}
 use Rattle.cargo_toml_graph.specs.Action.{Text}
-use Rattle.cargo_toml_features.specs.Recorded.{Target, target_cmp}
-use Rattle.cargo_toml_features.specs.Views.{target_in}
 
 abbrev pub key_of : Target → TargetKey
 key_of t = record { kind = t.0; target = option_map (λ s. record { ref_ptr = (0, 0); now = s }) t.1 }
 
 targets_cmp : (k : Kind) (s t : Option (Bor Text)) → (key_order.cmp-value).it (record { kind = k; target = s }) (record { kind = k; target = t }) ≡ target_cmp (k, option_copied s) (k, option_copied t)
-targets_cmp Normal None None = refl
-targets_cmp Normal None (Some y) = refl
-targets_cmp Normal (Some x) None = refl
-targets_cmp Normal (Some x) (Some y) = refl
-targets_cmp Build None None = refl
-targets_cmp Build None (Some y) = refl
-targets_cmp Build (Some x) None = refl
-targets_cmp Build (Some x) (Some y) = refl
-targets_cmp Dev None None = refl
-targets_cmp Dev None (Some y) = refl
-targets_cmp Dev (Some x) None = refl
-targets_cmp Dev (Some x) (Some y) = refl
+targets_cmp v0 v1 v2 = grind (arith, common_steps)
 
 parts_cmp : (a b : Kind) (s t : Option (Bor Text)) → (key_order.cmp-value).it (record { kind = a; target = s }) (record { kind = b; target = t }) ≡ target_cmp (a, option_copied s) (b, option_copied t)
-parts_cmp Normal Normal s t = targets_cmp Normal s t
-parts_cmp Normal Build s t = refl
-parts_cmp Normal Dev s t = refl
-parts_cmp Build Normal s t = refl
-parts_cmp Build Build s t = targets_cmp Build s t
-parts_cmp Build Dev s t = refl
-parts_cmp Dev Normal s t = refl
-parts_cmp Dev Build s t = refl
-parts_cmp Dev Dev s t = targets_cmp Dev s t
+parts_cmp v0 v1 v2 v3 = grind (arith, common_steps, targets_cmp)
 
 -- the derived order of keys is that of targets
 pub cmp_is : (a b : TargetKey) → (key_order.cmp-value).it a b ≡ target_cmp (target_in a) (target_in b)
 cmp_is a b = parts_cmp a.kind b.kind a.target b.target
 
 pub target_of-key_of : (t : Target) → target_in (key_of t) ≡ t
-target_of-key_of t = go t.0 t.1
-  where
-    go : (k : Kind) (o : Option Text) → target_in (key_of (k, o)) ≡ (k, o)
-    go k None = refl
-    go k (Some s) = refl
+target_of-key_of t = grind (arith, common_steps)
 
 -- the look-up of a target is that of its key
 pub by_key : {X : Type 0} (m : BTreeMap TargetKey X) (t : Target) → tree.get_by (λ k. target_cmp t (target_in k)) m ≡ tree.get (key_order.cmp-value).it m (key_of t)

@@ -1,18 +1,13 @@
 -- A map of a resolution with nothing removed has what the table has, and enables what it enables.
-use Rattle.std.proofs.Common.{◌≡◌, Bor, IsTrue, refl, subst, inl, inr}
+use Rattle.std.proofs.Common.{◌≡◌, Bor, IsTrue, refl, subst, inl, arith}
+use Rattle.std.proofs.lemmas.Grind.{common_steps}
 use Rattle.std.specs.HashMap.{HashMap}
-use Rattle.cargo_toml_graph.specs.Action.{Text}
-use Rattle.cargo_toml_graph.specs.Graph.{Table, Edge, IsResolved}
-use Rattle.cargo_toml_graph.specs.Reach.{Gathers}
-use Rattle.cargo_toml_graph.specs.Recursive.{Enables}
-use Rattle.cargo_toml_graph.specs.Recursive.Enables.{itself, further}
-use Rattle.cargo_toml_features.specs.Views.{resolution_of, table_in}
-use Rattle.cargo_toml_features.specs.declared.features.Feature.{Feature}
+use Rattle.cargo_toml_graph.specs.{Action.Text, Graph.Table, Graph.Edge, Graph.IsResolved, Reach.Gathers, Recursive.Enables, Recursive.Enables.itself, Recursive.Enables.further}
+use Rattle.cargo_toml_features.specs.{Views.resolution_of, Views.table_in, declared.features.Feature.Feature}
 
 -- what a feature of a table enables is one of its features
 pub enables_has : {t : Table} {f g : Text} → IsTrue (t.has f) → Enables t f g → IsTrue (t.has g)
-enables_has h itself = h
-enables_has h (further e n k) = k
+enables_has v0 v1 = grind (arith, common_steps)
 
 module _ {S : Type 0} (m : HashMap (Bor Text) Feature S) (t : Table) (Removed : Text → Type 0)
     (none : (f : Text) → ¬ Removed f) (resolved : IsResolved t Removed (resolution_of m)) where
@@ -23,8 +18,7 @@ module _ {S : Type 0} (m : HashMap (Bor Text) Feature S) (t : Table) (Removed : 
   held f h = (resolved.kept f).1 (h, none f)
 
   own : (f b : Text) → Gathers (Edge t) Removed f b → b ≡ f
-  own f b (inl e) = e
-  own f b (inr r) = absurd (none b r.0)
+  own v0 v1 v2 = grind (arith, common_steps)
 
   -- what the map names is named in the table, and the other way round
   pub named : (f x : Text) → IsTrue (t.has f) → IsTrue ((table_in m).names f x)

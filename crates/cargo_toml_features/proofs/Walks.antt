@@ -1,23 +1,13 @@
 -- The invariant of the walk, and what is found and listed at its end.
-use Rattle.std.proofs.Common.{◌≡◌, ◌≢◌, ◌+◌, ◌<◌, ◌⊎◌, ◌&&◌, Bool, true, false, cond, List, [], ◌∷◌, ◌++◌, map, Option, Some, None, is_some, IsTrue, IsFalse, IfSome, Bor, bytes_eq, refl, sym, ap, ap₂, subst, inl, inr, ◌∙◌, length, arith, length-append}
-use Rattle.std.proofs.lemmas.Bool.{false≢true, cases_Bool, or_cases, or_left, or_right}
-use Rattle.std.proofs.lemmas.List.{map-append, append-nil}
-use Rattle.std.proofs.lemmas.Slice.Eq.{bytes_eq-Decides}
-use Rattle.std.specs.Option.{option_map_or}
-use Rattle.std.specs.Map.{lookup}
-use Rattle.std.specs.HashMap.{HashMap}
-use Rattle.cargo_toml_features.specs.declared.features.Feature.{Feature}
-use Rattle.cargo_toml_graph.specs.Action.{Text, Action}
-use Rattle.cargo_toml_graph.specs.Reach.{Among, IsOnce}
-use Rattle.cargo_toml_graph.specs.Graph.{Table}
-use Rattle.cargo_toml_graph.specs.Recursive.{Enables, ArePairs}
-use Rattle.cargo_toml_graph.specs.Recursive.Enables.{itself, further}
+use Rattle.std.proofs.Common.{◌≡◌, ◌≢◌, ◌+◌, ◌<◌, ◌⊎◌, ◌&&◌, Bool, true, false, cond, List, [], ◌∷◌, ◌++◌, map, Option, Some, None, is_some, IsTrue, IsFalse, IfSome, Bor, bytes_eq, refl, sym, ap, subst, inl, inr, ◌∙◌, length, arith, length-append}
+use Rattle.std.proofs.lemmas.{Bool.false≢true, Bool.cases_Bool, Bool.or_cases, Bool.or_left, Bool.or_right, List.map-append, List.append-nil, Slice.Eq.bytes_eq-Decides, Grind.common_steps}
+use Rattle.std.specs.{Option.option_map_or, Map.lookup, HashMap.HashMap}
+use Rattle.cargo_toml_features.specs.{declared.features.Feature.Feature, Reached.Found, Reached.Lists, Reached.AreEnabled, Reached.ComeFrom, Reached.HaveNoEmpty, Reached.pairs_at, Views.value_at}
+use Rattle.cargo_toml_features.specs.{Views.set_has, Views.action_of, Views.action_at, Views.table_in, Visits.unconditional, Visits.is_pending, Visits.AreHeld, Visits.PushesNamed, Visits.PutsFound}
+use Rattle.cargo_toml_features.specs.Visits.{AddsActions}
+use Rattle.cargo_toml_graph.specs.{Action.Text, Action.Action, Reach.Among, Reach.IsOnce, Graph.Table, Recursive.Enables, Recursive.ArePairs, Recursive.Enables.itself, Recursive.Enables.further}
 use Rattle.cargo_toml_graph.proofs.BinLists.{among-either, among-first, among-second, once-push}
-use Rattle.cargo_toml_features.specs.Reached.{Found, Lists, AreEnabled, ComeFrom, HaveNoEmpty, pairs_at}
-use Rattle.cargo_toml_features.specs.Views.{value_at, set_has, action_of, action_at, table_in}
-use Rattle.cargo_toml_features.specs.Visits.{unconditional, is_pending, AreHeld, PushesNamed, PutsFound, AddsActions}
-use Rattle.cargo_toml_features.proofs.Pending.{is_pending-push}
-use Rattle.cargo_toml_features.proofs.Work.{work, work_drops, work_less}
+use Rattle.cargo_toml_features.proofs.{Pending.is_pending-push, Work.work, Work.work_drops, Work.work_less}
 
 -- a feature of this name is found
 abbrev pub is_found : {S : Type 0} → Found S → Text → Bool
@@ -53,42 +43,13 @@ module _ (t : Table) (found found' : Text → Type 0) (f k : Text) (old : List (
   sound_before g a i = let s = h.sound g a i in (grows g s.0, s.1, s.2)
 
   nothing_listed : ((a : Action) → t.action f k ≡ Some a → IsTrue a.is_conditional) → ArePairsOf t found' k (old ++ [])
-  nothing_listed none = subst (ArePairsOf t found' k) (sym (append-nil old)) (record {
-    sound = sound_before;
-    complete = λ g a i e plain. elim (only g i) [
-      | inl s ↦ absurd (false≢true (sym plain ∙ none a (ap (λ x. t.action x k) (sym s) ∙ e)))
-      | inr i ↦ h.complete g a i e plain
-    ];
-    once = h.once;
-  })
+  nothing_listed none = grind (arith, common_steps, append-nil, sound_before, only, false≢true)
 
   one_listed : (b : Action) → t.action f k ≡ Some b → IsFalse b.is_conditional → ArePairsOf t found' k (old ++ (f, b) ∷ [])
-  one_listed b at plain = record {
-    sound = λ g a i. elim (among-either old ((f, b) ∷ []) (g, a) i) [
-      | inl i ↦ sound_before g a i
-      | inr i ↦ elim i [ inl e ↦ (subst found' (sym (ap (λ p. p.0) e)) here, ap (λ p. t.action p.0 k) e ∙ at ∙ ap (λ p. Some p.1) (sym e), ap (λ p. p.1.is_conditional) e ∙ plain) | inr i ↦ absurd i ]
-    ];
-    complete = λ g a i e plain. elim (only g i) [
-      | inl s ↦ among-second old ((f, b) ∷ []) (g, a) (inl (same_pair g a s (sym e ∙ ap (λ x. t.action x k) s ∙ at)))
-      | inr i ↦ among-first old ((f, b) ∷ []) (g, a) (h.complete g a i e plain)
-    ];
-    once = subst IsOnce (sym (map-append (λ (p : Text × Action). p.0) old ((f, b) ∷ []))) (once-push (map (λ p. p.0) old) f h.once (λ i. let r = with_action old f i in new (h.sound f r.0 r.1).0));
-  }
-    where
-      some_same : {X : Type 0} {x y : X} → Some x ≡ Some y → x ≡ y
-      some_same e = cc
-
-      paired : Text → Action → Text × Action
-      paired g a = (g, a)
-
-      same_pair : (g : Text) (a : Action) → g ≡ f → Some a ≡ Some b → paired g a ≡ paired f b
-      same_pair g a s e = ap₂ paired s (some_same e)
+  one_listed b at plain = grind (arith, common_steps, among-either, sound_before, here, only, among-second, among-first, map-append, once-push, with_action)
 
   pub pairs_joined : (o : Option Action) → t.action f k ≡ o → ArePairsOf t found' k (old ++ unconditional f o)
-  pairs_joined None at = nothing_listed (λ a e. absurd (none_some (sym at ∙ e)))
-    where
-      none_some : {X : Type 0} {x : X} → None ≡ Some x → ⊥
-      none_some e = cc
+  pairs_joined None at = grind (arith, common_steps, nothing_listed, one_listed)
   pairs_joined (Some b) at = go b.is_conditional refl
     where
       some_same : {X : Type 0} {x y : X} → Some x ≡ Some y → x ≡ y
@@ -119,22 +80,13 @@ module _ {S : Type 0} (m : HashMap (Bor Text) Feature S) (s : Text) where
     at_new = ap is_some u.here
 
     grows : (x : Text) → IsTrue (is_found F x) → IsTrue (is_found F' x)
-    grows x e = elim (cases_Bool (bytes_eq v.now.key.now x)) [
-      | inl i ↦ subst (λ y. IsTrue (is_found F' y)) ((bytes_eq-Decides v.now.key.now x).0 i) at_new
-      | inr i ↦ ap is_some (u.others x i) ∙ e
-    ]
+    grows x e = grind (arith, common_steps, cases_Bool, bytes_eq-Decides, at_new)
 
     only : (x : Text) → IsTrue (is_found F' x) → (x ≡ v.now.key.now) ⊎ IsTrue (is_found F x)
-    only x e = elim (cases_Bool (bytes_eq v.now.key.now x)) [
-      | inl i ↦ inl (sym ((bytes_eq-Decides v.now.key.now x).0 i))
-      | inr i ↦ inr (sym (ap is_some (u.others x i)) ∙ e)
-    ]
+    only x e = grind (arith, common_steps, cases_Bool, bytes_eq-Decides)
 
     still_same : value_at m v.now.key.now ≡ Some v.now → ComeFrom m F → ComeFrom m F'
-    still_same here same x = elim (cases_Bool (bytes_eq v.now.key.now x)) [
-      | inl i ↦ subst (λ y. IfSome (value_at F' y) (λ z. value_at m y ≡ Some z.now)) ((bytes_eq-Decides v.now.key.now x).0 i) (subst (λ o. IfSome o (λ z. value_at m v.now.key.now ≡ Some z.now)) (sym u.here) here)
-      | inr i ↦ subst (λ o. IfSome o (λ z. value_at m x ≡ Some z.now)) (sym (u.others x i)) (same x)
-    ]
+    still_same here same x = grind (arith, common_steps, here, cases_Bool, bytes_eq-Decides)
 
   -- a feature that was found before is put there again
   module _ (F F' : Found S) (E : Lists S) (L : List (Bor Feature)) (v : Bor Feature) (w : Walks m s F E (L ++ v ∷ [])) (old : IsTrue (is_found F v.now.key.now))
@@ -146,11 +98,7 @@ module _ {S : Type 0} (m : HashMap (Bor Text) Feature S) (s : Text) where
     found_or_left x l = elim (split_pending L v x l) [ inl a ↦ inr a | inr e ↦ inl (ap (is_found F') e ∙ at_new F F' v u) ]
 
     same_pairs : (k : Text) → ArePairsOf (table_in m) (λ g. IsTrue (is_found F' g)) k (pairs_at E k)
-    same_pairs k = let p = w.pairs k in record {
-      sound = λ g a i. let r = p.sound g a i in (grows F F' v u g r.0, r.1, r.2);
-      complete = λ g a f. p.complete g a (was_found g f);
-      once = p.once;
-    }
+    same_pairs k = grind (arith, common_steps, grows, was_found)
 
     pub walks_on : Walks m s F' E L
     walks_on = record {
@@ -165,10 +113,7 @@ module _ {S : Type 0} (m : HashMap (Bor Text) Feature S) (s : Text) where
     }
 
     pub walks_on_less : work (is_found F') m.entries + length L < work (is_found F) m.entries + length (L ++ v ∷ [])
-    walks_on_less =
-        let less = work_less (is_found F) (is_found F') (grows F F' v u) m.entries in
-        let last = length-append L (v ∷ []) in
-        omega (arith, less, last)
+    walks_on_less = grind (arith, common_steps, work_less, grows, length-append)
 
   -- a feature that is visited now
   module _ (F F' : Found S) (E E' : Lists S) (L L' : List (Bor Feature)) (v : Bor Feature) (w : Walks m s F E (L ++ v ∷ [])) (new : is_found F v.now.key.now ≡ false)
@@ -189,8 +134,7 @@ module _ {S : Type 0} (m : HashMap (Bor Text) Feature S) (s : Text) where
     found_or_pending x l = elim (split_pending L v x l) [ inl a ↦ inr (pushed.pending x ∙ or_left _ _ a) | inr e ↦ inl (ap (is_found F') e ∙ at_new F F' v u) ]
 
     by_name : (x : Text) (a b : Bool) → (a && b) ≡ true → (a ≡ true) × (b ≡ true)
-    by_name x true b e = (refl, e)
-    by_name x false b e = absurd (false≢true e)
+    by_name v0 v1 v2 v3 = grind (arith, common_steps, false≢true)
 
     both : (a b : Bool) → a ≡ true → b ≡ true → (a && b) ≡ true
     both a b e e' = ap (λ x. x && b) e ∙ e'
@@ -216,11 +160,7 @@ module _ {S : Type 0} (m : HashMap (Bor Text) Feature S) (s : Text) where
 
     -- less is left to do
     pub visited_less : work (is_found F') m.entries + length L' < work (is_found F) m.entries + length (L ++ v ∷ [])
-    visited_less =
-        let drops = work_drops (is_found F) (is_found F') (grows F F' v u) v.now.key.now v.now new (at_new F F' v u) m.entries here in
-        let more = pushed.count in
-        let last = length-append L (v ∷ []) in
-        omega (arith, drops, more, last)
+    visited_less = grind (arith, common_steps, work_drops, grows, at_new, here, length-append)
 
   -- the start is pending, and nothing is found
   pub begins : (F : Found S) (E : Lists S) (L : List (Bor Feature)) (v : Bor Feature) → F.entries ≡ [] → E.entries ≡ [] → L ≡ v ∷ [] → value_at m s ≡ Some v.now → v.now.key.now ≡ s → Walks m s F E L
@@ -254,8 +194,4 @@ module _ {S : Type 0} (m : HashMap (Bor Text) Feature S) (s : Text) where
     all_enabled x = (w.found x, all_found)
 
     pub all_pairs : (k : Text) → ArePairs (table_in m) s k (pairs_at E k)
-    all_pairs k = record {
-      sound = λ g a i. let p = (w.pairs k).sound g a i in (w.found g p.0, p.1, p.2);
-      complete = λ g a e. (w.pairs k).complete g a (all_found e.0) e.1 e.2;
-      once = (w.pairs k).once;
-    }
+    all_pairs k = grind (arith, common_steps, all_found)

@@ -1,31 +1,17 @@
 -- From the features that are read to all that are resolved, before any is removed.
-use Rattle.std.proofs.Common.{◌≡◌, ◌&&◌, ◌||◌, not, Bool, true, false, cond, List, [], ◌++◌, map, Option, Some, None, IfSome, is_some, option_map, bytes_eq, codes, Bor, refl, sym, ap, ap₂, subst, ◌∙◌}
-use Rattle.std.proofs.lemmas.Bool.{false≢true}
-use Rattle.std.specs.List.{list_any}
-use Rattle.std.specs.Map.{lookup}
-use Rattle.std.specs.Option.{option_map_or}
-use Rattle.cargo_toml_features.specs.declared.features.Feature.{Feature}
-use Rattle.cargo_toml_features.specs.declared.features.FeatureDependency.{FeatureDependency}
-use Rattle.cargo_toml_features.specs.InOrder.{AreTable, HaveNoEnablers, feature_at, table_among}
-use Rattle.cargo_toml_full.specs.Searching.{has_key}
-use Rattle.cargo_toml_full.specs.declared.read.Mentions.{Mentions}
-use Rattle.cargo_toml_graph.specs.Action.{Text, Action}
-use Rattle.cargo_toml_graph.specs.Admitted.{Listed, is_explicit, joined_action}
-use Rattle.cargo_toml_full.specs.Slots.{HeldHaveTargets, Relates}
+use Rattle.std.proofs.Common.{◌≡◌, ◌&&◌, ◌||◌, not, Bool, true, false, cond, List, [], ◌++◌, map, Option, Some, None, IfSome, is_some, option_map, bytes_eq, Bor, refl, sym, ap, ap₂, subst, ◌∙◌, arith}
+use Rattle.std.proofs.lemmas.{Bool.false≢true, Grind.common_steps}
+use Rattle.std.specs.{List.list_any, Option.option_map_or}
+use Rattle.cargo_toml_features.specs.{declared.features.Feature.Feature, declared.features.FeatureDependency.FeatureDependency, InOrder.AreTable, InOrder.HaveNoEnablers, InOrder.feature_at}
+use Rattle.cargo_toml_features.specs.{InOrder.table_among, Recorded.Entry, Recorded.RecordedKey, Recorded.is_mentioned, Recorded.is_reserved, Recorded.entries_at, Recorded.recorded_of}
+use Rattle.cargo_toml_features.specs.{Recorded.first_target, Recorded.without_redundant, Resolved.table_of, Resolved.plain_action, Resolved.SameRecorded, Marks.NamedDetails, Marks.FeatureMarks}
+use Rattle.cargo_toml_features.specs.{Marks.detail_listed, Marks.marked, Marks.marks_in, Marks.marks_of, Views.set_has, Views.action_at}
+use Rattle.cargo_toml_full.specs.{Searching.has_key, declared.read.Mentions.Mentions, Slots.HeldHaveTargets, Slots.Relates, Implying.ImpliesAll, Implying.IsImplied, Implying.is_optional_at}
+use Rattle.cargo_toml_full.specs.{Implying.is_offered, Reading.IsRead, Reading.IsFresh, Reading.AreFresh, Requiring.Required, Requiring.RequiredAll, Recording.recorded_at, Recording.is_mentioned_in}
+use Rattle.cargo_toml_full.specs.{Redundant.IsRecordOf, Redundant.Thinned, Redundant.ThinnedAll, Unremoved.AreUnremoved, declared.slots.Slots.Slots}
+use Rattle.cargo_toml_graph.specs.{Action.Text, Action.Action, Admitted.Listed, Admitted.is_explicit, Admitted.joined_action, Graph.Table}
 use Rattle.cargo_toml_full.proofs.HeldTargets.{have_targets}
-use Rattle.cargo_toml_graph.specs.Graph.{Table}
-use Rattle.cargo_toml_full.specs.Implying.{Becomes, ImpliesAll, IsImplied, is_optional_at, is_offered}
-use Rattle.cargo_toml_full.specs.Reading.{IsRead, IsFresh, AreFresh}
-use Rattle.cargo_toml_full.specs.Requiring.{Required, RequiredAll}
-use Rattle.cargo_toml_features.specs.Recorded.{Entry, RecordedKey, is_mentioned, is_reserved, entries_at, recorded_of, first_target, without_redundant}
-use Rattle.cargo_toml_full.specs.Recording.{recorded_at, is_mentioned_in}
-use Rattle.cargo_toml_full.specs.Redundant.{IsRecordOf, Thinned, ThinnedAll}
-use Rattle.cargo_toml_features.specs.Resolved.{table_of, plain_action, SameRecorded}
 use Rattle.cargo_toml_dependencies.specs.Details.{plain_detail}
-use Rattle.cargo_toml_features.specs.Marks.{NamedDetails, FeatureMarks, detail_named, detail_listed, marked, marks_in, marks_of}
-use Rattle.cargo_toml_features.specs.Views.{set_has, action_at}
-use Rattle.cargo_toml_full.specs.Unremoved.{AreUnremoved}
-use Rattle.cargo_toml_full.specs.declared.slots.Slots.{Slots}
 
 -- tables that say the same
 pub record Same (t u : Table) : Type 0 where
@@ -46,13 +32,7 @@ or_not false false = refl
 module _ (Changes : Text → Feature → Feature → Type 0) (old new : List Feature) (each : (f : Text) → Relates (Changes f) (feature_at old f) (feature_at new f)) where
   -- what holds of none, and of each that changed, holds at every name
   along : (f : Text) (P : Option Feature → Option Feature → Type 0) → P None None → ((a b : Feature) → Changes f a b → P (Some a) (Some b)) → P (feature_at old f) (feature_at new f)
-  along f P none some = go (feature_at old f) (feature_at new f) (each f)
-    where
-      go : (o o' : Option Feature) → Relates (Changes f) o o' → P o o'
-      go None None r = none
-      go None (Some b) r = absurd r
-      go (Some a) None r = absurd r
-      go (Some a) (Some b) r = some a b r
+  along f P none some = grind (arith, common_steps)
 
   has_along : (f : Text) → is_some (feature_at new f) ≡ is_some (feature_at old f)
   has_along f = along f (λ o o'. is_some o' ≡ is_some o) refl (λ a b r. refl)
@@ -87,14 +67,7 @@ module _ (implied : Text → Bool) (old new : List Feature) (h : ImpliesAll impl
   -- what holds of none, of one that is implied, and of one that stays, holds at every name
   became : (f : Text) (P : Bool → Option Feature → Option Feature → Type 0) → P false None None → ((v : Feature) → feature_at old f ≡ None → IsImplied f v → P true None (Some v))
       → ((t : Bool) (v : Feature) → feature_at old f ≡ Some v → P t (Some v) (Some v)) → P (implied f) (feature_at old f) (feature_at new f)
-  became f P none gained stays = go (implied f) (feature_at old f) (feature_at new f) refl (h.at f)
-    where
-      go : (t : Bool) (o o' : Option Feature) → feature_at old f ≡ o → Becomes t f o o' → P t o o'
-      go true None None s b = absurd b
-      go true None (Some v) s b = gained v s b
-      go false None o' s b = subst (P false None) (sym b) none
-      go true (Some v) o' s b = subst (P true (Some v)) (sym b) (stays true v s)
-      go false (Some v) o' s b = subst (P false (Some v)) (sym b) (stays false v s)
+  became f P none gained stays = grind (arith, common_steps)
 
   has_after : (f : Text) → is_some (feature_at new f) ≡ (is_some (feature_at old f) || implied f)
   has_after f = became f (λ t o o'. is_some o' ≡ (is_some o || t)) refl (λ v s k. refl) (λ t v s. refl)
@@ -145,11 +118,7 @@ pub record Told (listed : Listed) (entries : List Entry) (details : NamedDetails
   pub targets : HeldHaveTargets deps
 
 same_recorded : (a b : Option RecordedKey) → a ≡ b → SameRecorded a b
-same_recorded a b e = subst (SameRecorded a) e (own a)
-  where
-    own : (o : Option RecordedKey) → SameRecorded o o
-    own None = tt
-    own (Some r) = (refl, λ t. refl)
+same_recorded a b e = grind (arith, common_steps)
 
 module _ (listed : Listed) (entries : List Entry) (details : NamedDetails) (own : Text → List Text) (mentions : Mentions) (thinned implied last : List Feature) (deps : Slots FeatureDependency)
     (r : IsRead listed (table_among mentions.features.items) (has_key mentions.acted.keys) (has_key mentions.acted.reserved)) (fresh : AreFresh listed details mentions.features.items)
@@ -210,12 +179,7 @@ module _ (listed : Listed) (entries : List Entry) (details : NamedDetails) (own 
   listed_marks f on = ap (λ b. marked b (detail_listed listed details f)) (sym on)
 
   implied_marks : (f : Text) → is_explicit listed f ≡ false → marked false plain_detail ≡ marks_in listed details f
-  implied_marks f off = ap₂ marked (sym off) (sym (go (bytes_eq f (codes "default")) (is_some (lookup (bytes_eq f) listed)) off))
-    where
-      go : (d l : Bool) → (d || l) ≡ false → cond l (detail_named details f) plain_detail ≡ plain_detail
-      go true l e = absurd (false≢true (sym e))
-      go false true e = absurd (false≢true (sym e))
-      go false false e = refl
+  implied_marks f off = grind (arith, common_steps, false≢true)
 
   marked_all : (f : Text) → IfSome (feature_at implied f) (IsMarked f (marks_in listed details f))
   marked_all f = became (is_offered (has_key mentions.acted.reserved) entries) thinned implied i f (λ t o o'. IfSome o' (IsMarked f (marks_in listed details f))) tt
@@ -229,11 +193,7 @@ module _ (listed : Listed) (entries : List Entry) (details : NamedDetails) (own 
 
   -- a part of what is told of the feature
   told_of : (f : Text) (P : Feature → Type 0) → ((v : Feature) → IsTold f (marks_in listed details f) (own f) v → P v) → IfSome (feature_at last f) P
-  told_of f P part = go (feature_at last f) (told f)
-    where
-      go : (o : Option Feature) → IfSome o (IsTold f (marks_in listed details f) (own f)) → IfSome o P
-      go None k = tt
-      go (Some v) k = part v k
+  told_of f P part = grind (arith, common_steps, told)
 
   pub all_told : Told listed entries details own last deps
   all_told = record {

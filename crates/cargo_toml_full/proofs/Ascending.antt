@@ -1,18 +1,9 @@
 -- Texts that ascend in byte order.
 use Rattle.std.proofs.Common.{◌≡◌, Bool, true, false, ◌<◌, ◌+◌, ℕ, List, [], ◌∷◌, length, map, get_or}
 use Rattle.std.proofs.Common.{Bor, IsTrue, sym, ap, subst, inl, inr, arith}
-use Rattle.std.proofs.lemmas.Bool.{false≢true}
-use Rattle.std.proofs.lemmas.Cmp.{nat_list_cmp_total}
-use Rattle.std.proofs.lemmas.List.{get_or-map, length-map}
-use Rattle.std.proofs.lemmas.Map.Keys.{sorted_from_all_adjacent}
-use Rattle.std.specs.Cmp.Lexicographic.{slice_cmp}
-use Rattle.std.specs.List.{IsAllAdjacentAnswer}
-use Rattle.std.specs.Ordering.{nat_cmp, is_lt}
-use Rattle.std.specs.declared.cmp.Ordering.TheVariants.{Less}
-use Rattle.cargo_toml_graph.specs.Action.{Text}
-use Rattle.cargo_toml_graph.specs.Admitted.{is_below}
-use Rattle.cargo_toml_graph.specs.Reach.{Among}
-use Rattle.cargo_toml_graph.specs.Ascending.{Ascend}
+use Rattle.std.proofs.lemmas.{Bool.false≢true, Cmp.nat_list_cmp_total, List.get_or-map, List.length-map, Map.Keys.sorted_from_all_adjacent}
+use Rattle.std.specs.{Cmp.Lexicographic.slice_cmp, List.IsAllAdjacentAnswer, Ordering.nat_cmp, Ordering.is_lt, declared.cmp.Ordering.TheVariants.Less}
+use Rattle.cargo_toml_graph.specs.{Action.Text, Admitted.is_below, Reach.Among, Ascending.Ascend}
 use Rattle.cargo_toml_graph.proofs.SortedTexts.{first_below, less_from}
 
 abbrev pub Below : Text → Text → Type 0

@@ -1,6 +1,6 @@
 -- The feature `default` put where none is.
-use Rattle.std.proofs.Common.{◌≡◌, false, cond, [], Option, Some, None, MatchOption, bytes_eq, codes, refl, sym, ap, subst, ◌∙◌}
-use Rattle.std.proofs.lemmas.Slice.Eq.{bytes_eq-Decides}
+use Rattle.std.proofs.Common.{◌≡◌, false, cond, [], Option, Some, None, MatchOption, bytes_eq, codes, refl, ap, ◌∙◌, arith}
+use Rattle.std.proofs.lemmas.{Slice.Eq.bytes_eq-Decides, Grind.common_steps}
 use Rattle.std.specs.Option.{IsSomeAnd, option_or}
 use Rattle.cargo_toml_dependencies.specs.Details.{plain_detail}
 use Rattle.cargo_toml_features.specs.declared.features.Feature.{Feature}
@@ -18,8 +18,4 @@ others_stay f key v old new off put = put ∙ ap (λ t. option_or old (cond t (S
 -- and under its own it stands where nothing stood
 pub default_put : (v : Feature) (old new : Option Feature) → IsReadFeature (codes "default") plain_detail [] v → new ≡ option_or old (cond (bytes_eq (codes "default") v.key.now) (Some v) None)
     → MatchOption old (IsSomeAnd new (IsReadFeature (codes "default") plain_detail [])) (λ w. new ≡ Some w)
-default_put v old new listed put = go old new (put ∙ ap (λ t. option_or old (cond t (Some v) None)) ((bytes_eq-Decides (codes "default") v.key.now).1 (sym listed.fresh.key)))
-  where
-    go : (old new : Option Feature) → new ≡ option_or old (Some v) → MatchOption old (IsSomeAnd new (IsReadFeature (codes "default") plain_detail [])) (λ w. new ≡ Some w)
-    go None new is = subst (λ o. IsSomeAnd o (IsReadFeature (codes "default") plain_detail [])) (sym is) listed
-    go (Some w) new is = is
+default_put v old new listed put = grind (arith, common_steps, bytes_eq-Decides)

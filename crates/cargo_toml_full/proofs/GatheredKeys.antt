@@ -1,19 +1,12 @@
 -- The keys of the entries that pass a test.
-use Rattle.std.proofs.Common.{◌≡◌, ◌↔◌, ◌⊎◌, ◌<◌, ◌+◌, ◌&&◌, ◌||◌, ℕ, Bool, true, false, List, [], ◌∷◌, ◌++◌, length, map, take, get_or, Bor, IsTrue, bytes_eq, refl, sym, ap, subst, inl, inr, ◌∙◌}
-use Rattle.std.proofs.lemmas.Bool.{false≢true}
-use Rattle.std.proofs.lemmas.List.{get_or-map, length-map, map-append}
-use Rattle.std.proofs.lemmas.List.Folds.{list_any-append}
-use Rattle.std.proofs.lemmas.Slice.Eq.{bytes_eq-Decides}
+use Rattle.std.proofs.Common.{◌≡◌, ◌↔◌, ◌⊎◌, ◌<◌, ◌+◌, ◌&&◌, ◌||◌, ℕ, Bool, true, false, List, [], ◌∷◌, ◌++◌, length, map, take, get_or, Bor, IsTrue, bytes_eq, refl, sym, ap, subst, inl, inr, ◌∙◌, arith}
+use Rattle.std.proofs.lemmas.{Bool.false≢true, List.get_or-map, List.length-map, List.map-append, List.Folds.list_any-append, Slice.Eq.bytes_eq-Decides, Grind.common_steps}
 use Rattle.std.specs.List.{list_any}
-use Rattle.cargo_toml_graph.specs.Action.{Text}
-use Rattle.cargo_toml_graph.specs.Reach.{Among}
+use Rattle.cargo_toml_graph.specs.{Action.Text, Reach.Among}
 use Rattle.cargo_toml_graph.proofs.BinLists.{among-first, among-second, among-either}
-use Rattle.cargo_toml_features.specs.declared.features.ParseDependency.{ParseDependency}
-use Rattle.cargo_toml_features.specs.Recorded.{Entry}
-use Rattle.cargo_toml_features.specs.Views.{entry_of}
+use Rattle.cargo_toml_features.specs.{declared.features.ParseDependency.ParseDependency, Recorded.Entry, Views.entry_of}
 use Rattle.cargo_toml_full.specs.Recording.{counts_alone}
-use Rattle.cargo_toml_full.proofs.Ascending.{texts}
-use Rattle.cargo_toml_full.proofs.TakenMore.{taken_more}
+use Rattle.cargo_toml_full.proofs.{Ascending.texts, TakenMore.taken_more}
 
 either : (a b : Bool) → IsTrue (a || (b || false)) → IsTrue a ⊎ IsTrue b
 either true b h = inl refl
@@ -42,29 +35,10 @@ module _ (test : Text → Entry → Bool) where
   Gathers ks es = (k : Text) → Among ks k ↔ IsTrue (list_any (passes_at k) es)
 
   put_last : (ks : List Text) (es : List Entry) (e : Entry) → IsTrue (test e.key e) → Gathers ks es → Gathers (ks ++ e.key ∷ []) (es ++ e ∷ [])
-  put_last ks es e on g k = subst (λ b. Among (ks ++ e.key ∷ []) k ↔ IsTrue b) (sym (list_any-append (passes_at k) es (e ∷ []))) (
-    λ there. elim (among-either ks (e.key ∷ []) k there) [
-      | inl i ↦ from_first (list_any (passes_at k) es) (passes_at k e) ((g k).0 i)
-      | inr i ↦ elim i [ inl is ↦ from_second (list_any (passes_at k) es) (passes_at k e) (subst (λ x. IsTrue (passes_at x e)) (sym is) itself) | inr none ↦ absurd none ]
-    ],
-    λ there. elim (either (list_any (passes_at k) es) (passes_at k e) there) [
-      | inl i ↦ among-first ks (e.key ∷ []) k ((g k).1 i)
-      | inr i ↦ among-second ks (e.key ∷ []) k (inl (sym ((bytes_eq-Decides e.key k).0 (both (bytes_eq e.key k) (test k e) i).0)))
-    ],
-  )
-    where
-      itself : IsTrue (passes_at e.key e)
-      itself = ap (λ b. b && test e.key e) ((bytes_eq-Decides e.key e.key).1 refl) ∙ on
+  put_last ks es e on g k = grind (arith, common_steps, list_any-append, among-either, from_first, from_second, either, among-first, among-second, bytes_eq-Decides, both)
 
   leave_last : (ks : List Text) (es : List Entry) (e : Entry) → test e.key e ≡ false → Gathers ks es → Gathers ks (es ++ e ∷ [])
-  leave_last ks es e off g k = subst (λ b. Among ks k ↔ IsTrue b) (sym (list_any-append (passes_at k) es (e ∷ []))) (
-    λ there. from_first (list_any (passes_at k) es) (passes_at k e) ((g k).0 there),
-    λ there. elim (either (list_any (passes_at k) es) (passes_at k e) there) [
-      | inl i ↦ (g k).1 i
-      | inr i ↦ let h = both (bytes_eq e.key k) (test k e) i in
-          absurd (false≢true (sym off ∙ subst (λ x. IsTrue (test x e)) (sym ((bytes_eq-Decides e.key k).0 h.0)) h.1))
-    ],
-  )
+  leave_last ks es e off g k = grind (arith, common_steps, list_any-append, from_first, either, both, false≢true, bytes_eq-Decides)
 
   -- the same of the entry at a place
   module _ (es : List ParseDependency) (keys : List (Bor Text)) (i : ℕ) (p : ParseDependency) (inside : i < length es) (is : p ≡ get_or es i p)

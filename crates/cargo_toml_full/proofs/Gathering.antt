@@ -1,25 +1,14 @@
 -- One more text of a feature's list, and sets of texts.
-use Rattle.std.proofs.Common.{◌≡◌, Bool, true, false, cond, ◌||◌, List, [], ◌∷◌, ◌++◌, map, is_some, Some, None, bytes_eq, Bor, take, length, get_or, ℕ, ◌+◌, ◌<◌, Result, Ok, Err, IfOk, refl, sym, ap, ap₂, ◌∙◌}
+use Rattle.std.proofs.Common.{◌≡◌, Bool, true, false, cond, ◌||◌, List, [], ◌∷◌, ◌++◌, map, is_some, Some, None, bytes_eq, Bor, take, length, get_or, ℕ, ◌+◌, ◌<◌, Result, Ok, Err, IfOk, refl, sym, ap, ap₂, ◌∙◌, arith}
 use Rattle.std.proofs.Math.Bool.{or-false}
-use Rattle.std.proofs.lemmas.List.Folds.{list_any-append}
-use Rattle.std.proofs.lemmas.List.Sums.{fold_push}
-use Rattle.std.proofs.lemmas.Map.Text.{is_eq-slice_cmp}
-use Rattle.std.specs.BTreeMap.{BTreeMap, is_at}
+use Rattle.std.proofs.lemmas.{List.Folds.list_any-append, List.Sums.fold_push, Map.Text.is_eq-slice_cmp, Grind.common_steps}
+use Rattle.std.specs.{BTreeMap.BTreeMap, BTreeMap.is_at, BTreeSet.BTreeSet, Cmp.Lexicographic.slice_cmp, Ordering.nat_cmp, List.list_any}
 use Rattle.std.specs.BTreeSet as sorted
-use Rattle.std.specs.BTreeSet.{BTreeSet}
-use Rattle.std.specs.Cmp.Lexicographic.{slice_cmp}
-use Rattle.std.specs.Ordering.{nat_cmp}
-use Rattle.std.specs.List.{list_any}
 use Rattle.cargo_toml_dependencies.specs.Details.{Detail}
-use Rattle.cargo_toml_features.specs.declared.action.ActionText.{ActionText}
-use Rattle.cargo_toml_features.specs.declared.features.DepAction.{DepAction}
-use Rattle.cargo_toml_features.specs.declared.features.Feature.{Feature}
-use Rattle.cargo_toml_graph.specs.Action.{Text, Action, Item, join_option}
-use Rattle.cargo_toml_graph.specs.Action.Item.{Name, On}
-use Rattle.cargo_toml_graph.specs.Admitted.{action_on, item_names}
-use Rattle.cargo_toml_graph.proofs.JoinLaws.{join_option_none}
-use Rattle.cargo_toml_features.specs.ActionText.{action_in, item_in}
+use Rattle.cargo_toml_features.specs.{declared.action.ActionText.ActionText, declared.features.DepAction.DepAction, declared.features.Feature.Feature, ActionText.action_in, ActionText.item_in}
 use Rattle.cargo_toml_features.specs.Views.{action_at, set_has}
+use Rattle.cargo_toml_graph.specs.{Action.Text, Action.Action, Action.Item, Action.join_option, Action.Item.Name, Action.Item.On, Admitted.action_on, Admitted.item_names}
+use Rattle.cargo_toml_graph.proofs.JoinLaws.{join_option_none}
 use Rattle.cargo_toml_full.specs.ReadFeature.{IsReadFeature, joined_in}
 use Rattle.cargo_toml_full.proofs.TakenMore.{taken_more}
 
@@ -39,20 +28,12 @@ module _ (f : Text) (d : Detail) (items : List Item) (v : Feature) (h : IsReadFe
   -- one more action
   pub read_on : (i : Item) (key : Text) (a : Action) → i ≡ On key a → (deps : BTreeMap (Bor Text) DepAction)
       → ((q : Text) → action_at deps q ≡ join_option (action_at v.enables_deps q) (cond (bytes_eq q key) (Some a) None)) → IsReadFeature f d (items ++ i ∷ []) (record v { enables_deps = deps })
-  read_on i key a is deps more = record {
-    fresh = record { key = h.fresh.key; marks = h.fresh.marks; enabled_by = h.fresh.enabled_by; bins = h.fresh.bins };
-    names = λ x. h.names x ∙ sym (named i x ∙ ap (λ j. list_any (item_names x) items || item_names x j) is ∙ or-false _);
-    action = λ k. more k ∙ ap (λ o. join_option o (cond (bytes_eq k key) (Some a) None)) (h.action k) ∙ sym (joined i k ∙ ap (λ j. join_option (joined_in items k) (action_on k j)) is);
-  }
+  read_on i key a is deps more = grind (arith, common_steps, named, or-false, joined)
 
   -- one more name
   pub read_name : (i : Item) (y : Text) → i ≡ Name y → (names : BTreeSet (Bor Text)) → ((x : Text) → set_has names x ≡ (set_has v.enables_features x || bytes_eq x y))
       → IsReadFeature f d (items ++ i ∷ []) (record v { enables_features = names })
-  read_name i y is names more = record {
-    fresh = record { key = h.fresh.key; marks = h.fresh.marks; enabled_by = h.fresh.enabled_by; bins = h.fresh.bins };
-    names = λ x. more x ∙ ap (λ b. b || bytes_eq x y) (h.names x) ∙ sym (named i x ∙ ap (λ j. list_any (item_names x) items || item_names x j) is);
-    action = λ k. h.action k ∙ sym (joined i k ∙ ap (λ j. join_option (joined_in items k) (action_on k j)) is ∙ join_option_none (joined_in items k));
-  }
+  read_name i y is names more = grind (arith, common_steps, named, joined, join_option_none)
 
 -- ---- sets of texts
 -- a key of the list is the text x

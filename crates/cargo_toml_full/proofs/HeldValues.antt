@@ -1,15 +1,9 @@
 -- Values under names that ascend.
-use Rattle.std.proofs.Common.{◌≡◌, ◌<◌, ℕ, zero, suc, Bool, true, false, cond, List, [], ◌∷◌, length, map, set, get_or, Option, None, Bor, IsTrue, bytes_eq, refl, sym, ap, subst, inl, inr, arith, ◌∙◌}
-use Rattle.std.proofs.lemmas.List.{length-map}
-use Rattle.std.proofs.lemmas.Slice.Eq.{bytes_eq-Decides}
-use Rattle.cargo_toml_graph.specs.Action.{Text}
-use Rattle.cargo_toml_graph.specs.Admitted.{is_below}
-use Rattle.cargo_toml_graph.specs.Reach.{Among}
-use Rattle.cargo_toml_graph.proofs.RedirectsInOrder.{below_one_way}
-use Rattle.cargo_toml_graph.proofs.SortedTexts.{first_below, others_ascend}
-use Rattle.cargo_toml_graph.specs.Ascending.{Ascend}
-use Rattle.cargo_toml_full.specs.Slots.{HaveSameNames, held_among, held_in, names_in}
-use Rattle.cargo_toml_full.specs.declared.slots.Slots.{Slots}
+use Rattle.std.proofs.Common.{◌≡◌, ◌<◌, ℕ, zero, suc, Bool, true, false, cond, List, [], ◌∷◌, length, map, set, get_or, Option, None, Bor, IsTrue, bytes_eq, refl, sym, ap, subst, arith, ◌∙◌}
+use Rattle.std.proofs.lemmas.{List.length-map, Slice.Eq.bytes_eq-Decides, Grind.common_steps}
+use Rattle.cargo_toml_graph.specs.{Action.Text, Admitted.is_below, Reach.Among, Ascending.Ascend}
+use Rattle.cargo_toml_graph.proofs.{RedirectsInOrder.below_one_way, SortedTexts.first_below, SortedTexts.others_ascend}
+use Rattle.cargo_toml_full.specs.{Slots.HaveSameNames, Slots.held_among, Slots.held_in, Slots.names_in, declared.slots.Slots.Slots}
 use Rattle.cargo_toml_features.specs.Places.{nth_text}
 use Rattle.cargo_toml_features.proofs.Places.{among_at}
 
@@ -18,11 +12,7 @@ module _ {V : Type 0} where
   pub held_missing : (ns : List Text) (vs : List (Option V)) (f : Text) → (¬ Among ns f) → held_among ns vs f ≡ None
   held_missing [] vs f gone = refl
   held_missing (n ∷ ns) [] f gone = refl
-  held_missing (n ∷ ns) (v ∷ vs) f gone = go (bytes_eq f n) refl (held_missing ns vs f (λ there. gone (inr there)))
-    where
-      go : (t : Bool) → bytes_eq f n ≡ t → held_among ns vs f ≡ None → cond t v (held_among ns vs f) ≡ None
-      go true on later = absurd (gone (inl ((bytes_eq-Decides f n).0 on)))
-      go false off later = later
+  held_missing (n ∷ ns) (v ∷ vs) f gone = grind (arith, common_steps, bytes_eq-Decides, held_missing ns vs f)
 
   -- under the name of a place stands its value
   pub held_at : (ns : List Text) (vs : List (Option V)) (i : ℕ) (d : Option V) → Ascend ns → length vs ≡ length ns → i < length ns → held_among ns vs (nth_text ns i) ≡ get_or vs i d
@@ -46,11 +36,7 @@ module _ {V : Type 0} where
       → (f : Text) → held_among ns (set vs i o) f ≡ cond (bytes_eq f (nth_text ns i)) o (held_among ns vs f)
   held_set [] vs i o up same below f = absurd (omega arith)
   held_set (n ∷ ns) [] i o up same below f = absurd (omega arith)
-  held_set (n ∷ ns) (v ∷ vs) zero o up same below f = go (bytes_eq f n)
-    where
-      go : (t : Bool) → cond t o (held_among ns vs f) ≡ cond t o (cond t v (held_among ns vs f))
-      go true = refl
-      go false = refl
+  held_set (n ∷ ns) (v ∷ vs) zero o up same below f = grind (arith, common_steps, others_ascend, below_one_way, bytes_eq-Decides, first_below, among_at)
   held_set (n ∷ ns) (v ∷ vs) (suc i) o up same below f = ap (cond (bytes_eq f n) v) (held_set ns vs i o (others_ascend n ns up) (omega arith) (omega arith) f) ∙ go (bytes_eq f n) refl (bytes_eq f (nth_text ns i)) refl
     where
       inside : i < length ns

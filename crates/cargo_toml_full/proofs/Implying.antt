@@ -1,35 +1,16 @@
 -- Features implied one after another.
-use Rattle.std.proofs.Common.{◌≡◌, ◌<◌, ◌&&◌, ◌||◌, not, ℕ, zero, suc, Bool, true, false, cond, List, [], ◌∷◌, ◌++◌, length, map, get_or, take, ◌+◌, Vec, Option, Some, None, is_some, option_map, bytes_eq, Bor, refl, sym, ap, subst, ◌∙◌}
-use Rattle.std.proofs.Math.Bool.{and-or_distrib_right}
-use Rattle.std.proofs.lemmas.Bool.{false≢true}
-use Rattle.std.proofs.lemmas.List.Folds.{list_any-append}
-use Rattle.std.proofs.Math.Bool.{or-false}
-use Rattle.std.proofs.lemmas.Slice.Eq.{bytes_eq-Decides}
-use Rattle.std.proofs.lemmas.Map.Text.{btree_map_updates_str}
+use Rattle.std.proofs.Common.{◌≡◌, ◌<◌, ◌&&◌, ◌||◌, not, ℕ, zero, suc, Bool, true, false, cond, List, [], ◌∷◌, ◌++◌, length, map, get_or, take, ◌+◌, Vec, Option, Some, None, is_some, option_map, bytes_eq, Bor, refl, sym, ap, subst, ◌∙◌, arith}
+use Rattle.std.proofs.Math.Bool.{and-or_distrib_right, or-false}
+use Rattle.std.proofs.lemmas.{Bool.false≢true, List.Folds.list_any-append, Slice.Eq.bytes_eq-Decides, Map.Text.btree_map_updates_str, Grind.common_steps}
 use Rattle.std.specs.BTreeMap as tree
-use Rattle.std.specs.BTreeMap.{BTreeMap}
-use Rattle.std.specs.BTreeSet.{BTreeSet}
-use Rattle.std.specs.Cmp.Lexicographic.{slice_cmp}
-use Rattle.std.specs.List.{list_any}
-use Rattle.std.specs.Map.{lookup}
-use Rattle.std.specs.Option.{IsSomeAnd, option_or}
-use Rattle.std.specs.Ordering.{nat_cmp}
-use Rattle.cargo_toml_dependencies.specs.Dependencies.{is_optional}
-use Rattle.cargo_toml_features.specs.declared.features.DepAction.{DepAction}
-use Rattle.cargo_toml_features.specs.declared.features.Feature.{Feature}
+use Rattle.std.specs.{BTreeMap.BTreeMap, BTreeSet.BTreeSet, Cmp.Lexicographic.slice_cmp, List.list_any, Map.lookup, Option.IsSomeAnd, Option.option_or, Ordering.nat_cmp, declared.alloc.Global.Global}
+use Rattle.cargo_toml_features.specs.{declared.features.DepAction.DepAction, declared.features.Feature.Feature, Recorded.Entry, Resolved.plain_action, Views.action_of, Views.action_at}
+use Rattle.cargo_toml_features.specs.InOrder.{feature_at}
 use Rattle.cargo_toml_graph.specs.Action.{Text}
 use Rattle.cargo_toml_full.specs.Implying.{AreFree, IsImplied, Becomes, ImpliesAll, is_optional_at, is_offered, is_offered_alone, is_one_of}
-use Rattle.cargo_toml_features.specs.Recorded.{Entry}
-use Rattle.cargo_toml_features.specs.Resolved.{plain_action}
-use Rattle.cargo_toml_features.specs.Views.{action_of, action_at}
-use Rattle.cargo_toml_features.specs.InOrder.{feature_at}
 use Rattle.cargo_toml_graph.proofs.Texts.{bytes_eq_sym}
 use Rattle.cargo_toml_features.proofs.TextKeys.{none_in}
-use Rattle.cargo_toml_full.specs.Searching.{has_key}
-use Rattle.cargo_toml_full.proofs.TakenMore.{taken_more}
-use Rattle.cargo_toml_full.proofs.Placed.{none_from}
-use Rattle.cargo_toml_full.proofs.ReadOne.{has_more}
-use Rattle.std.specs.declared.alloc.Global.{Global}
+use Rattle.cargo_toml_full.proofs.{TakenMore.taken_more, Placed.none_from, ReadOne.has_more}
 
 stays : (t : Bool) (q : Text) (o : Option Feature) → (t ≡ true → is_some o ≡ true) → Becomes t q o o
 stays true q None h = absurd (false≢true (h refl))
@@ -48,11 +29,7 @@ some-and q None o' i same = absurd i
 some-and q (Some v) o' i same = subst (λ o. IsSomeAnd o (IsImplied q)) (sym (same v refl)) i
 
 twice : (t s : Bool) (q : Text) (a b c : Option Feature) → Becomes t q a b → Becomes s q b c → Becomes (t || s) q a c
-twice true s q None b c h k = some-and q b c h (λ v e. kept s q b c v e k)
-twice false s q None b c h k = subst (λ o. Becomes s q o c) h k
-twice true s q (Some v) b c h k = kept s q b c v h k
-twice false true q (Some v) b c h k = kept true q b c v h k
-twice false false q (Some v) b c h k = kept false q b c v h k
+twice v0 v1 v2 v3 v4 v5 v6 v7 = grind (arith, common_steps, some-and, kept)
 
 -- what one more entry offers
 pub offered_more : (reserved : Text → Bool) (es : List Entry) (e : Entry) (q : Text) → is_offered reserved (es ++ e ∷ []) q ≡ (is_offered reserved es q || is_offered reserved (e ∷ []) q)
@@ -71,20 +48,7 @@ module _ where
   -- the feature of the key is put where none is
   pub implied_put : (key : Text) (m n : List Feature) (w : Feature) → feature_at m key ≡ None → IsImplied key w
       → ((q : Text) → feature_at n q ≡ cond (bytes_eq q key) (Some w) (feature_at m q)) → ImpliesAll (λ q. bytes_eq q key) m n
-  implied_put key m n w none is put = record { at = λ q. go q (bytes_eq q key) refl }
-    where
-      go : (q : Text) (t : Bool) → bytes_eq q key ≡ t → Becomes (bytes_eq q key) q (feature_at m q) (feature_at n q)
-      go q true on = subst (λ v. Becomes (bytes_eq v key) v (feature_at m v) (feature_at n v)) (sym ((bytes_eq-Decides q key).0 on)) at_key
-        where
-          self : bytes_eq key key ≡ true
-          self = (bytes_eq-Decides key key).1 refl
-
-          at_key : Becomes (bytes_eq key key) key (feature_at m key) (feature_at n key)
-          at_key = subst (λ t. Becomes t key (feature_at m key) (feature_at n key)) (sym self)
-              (subst (λ o. Becomes true key o (feature_at n key)) (sym none)
-              (subst (Becomes true key None) (sym (put key ∙ ap (λ t. cond t (Some w) (feature_at m key)) self)) is))
-      go q false off = subst (Becomes (bytes_eq q key) q (feature_at m q)) (sym (put q ∙ ap (λ t. cond t (Some w) (feature_at m q)) off))
-          (stays (bytes_eq q key) q (feature_at m q) (λ y. absurd (false≢true (sym off ∙ y))))
+  implied_put key m n w none is put = grind (arith, common_steps, bytes_eq-Decides, stays, false≢true)
 
   -- where the key has a feature, it stays
   pub implied_there : (key : Text) (m : List Feature) → is_some (feature_at m key) ≡ true → ImpliesAll (λ q. bytes_eq q key) m m
@@ -109,22 +73,7 @@ offers_nothing reserved vs = record { at = λ q. stays false q (feature_at vs q)
 
 -- one entry offers its key, if any
 pub offered_one : (reserved : Text → Bool) (e : Entry) (q : Text) → is_offered reserved (e ∷ []) q ≡ cond (is_offered_alone reserved e) (bytes_eq q e.key) false
-offered_one reserved e q = ap (λ b. ((b && is_optional e.dependency) || false) && not (reserved q)) (bytes_eq_sym e.key q) ∙ go (bytes_eq q e.key) refl
-  where
-    both : (o r : Bool) → (((true && o) || false) && not r) ≡ cond (o && not r) true false
-    both true true = refl
-    both true false = refl
-    both false true = refl
-    both false false = refl
-
-    neither : (o r : Bool) → false ≡ cond (o && not r) false false
-    neither true true = refl
-    neither true false = refl
-    neither false r = refl
-
-    go : (b : Bool) → bytes_eq q e.key ≡ b → (((b && is_optional e.dependency) || false) && not (reserved q)) ≡ cond (is_optional e.dependency && not (reserved e.key)) b false
-    go true on = ap (λ x. ((true && is_optional e.dependency) || false) && not (reserved x)) ((bytes_eq-Decides q e.key).0 on) ∙ both (is_optional e.dependency) (reserved e.key)
-    go false off = neither (is_optional e.dependency) (reserved e.key)
+offered_one reserved e q = grind (arith, common_steps, bytes_eq_sym, bytes_eq-Decides)
 
 -- one more key of a list
 pub implied_one_more : (ks : List (Bor Text)) (i : ℕ) (k d : Bor Text) (started a b : List Feature) → i < length ks → k ≡ get_or ks i d → ImpliesAll (is_one_of (map (λ t. t.now) (take i ks))) started a
@@ -170,12 +119,7 @@ implied_listed p done all new v free h put = record {
 
 -- one more key that has no feature
 pub free_more : (vs : List Feature) (new old : Vec (Bor Text) Global) (t : Bor Text) → new.items ≡ old.items ++ t ∷ [] → is_some (feature_at vs t.now) ≡ false → AreFree old vs → AreFree new vs
-free_more vs new old t put gone free q on = go (has_key old q) refl (bytes_eq q t.now) refl (sym (has_more new old t put q) ∙ on)
-  where
-    go : (a : Bool) → has_key old q ≡ a → (b : Bool) → bytes_eq q t.now ≡ b → (a || b) ≡ true → feature_at vs q ≡ None
-    go true there b same h = free q there
-    go false there true same h = subst (λ x. feature_at vs x ≡ None) (sym ((bytes_eq-Decides q t.now).0 same)) (none_from (feature_at vs t.now) gone)
-    go false there false same h = absurd (false≢true h)
+free_more vs new old t put gone free q on = grind (arith, common_steps, has_more, bytes_eq-Decides, none_from, false≢true)
 
 -- a feature that is there is none of those that are implied
 pub listed_free : (ks : List (Bor Text)) (i : ℕ) (done rest : List Feature) (v : Feature) → ((q : Text) → is_one_of (map (λ k. k.now) ks) q ≡ true → feature_at (done ++ v ∷ rest) q ≡ None)

@@ -1,8 +1,7 @@
 -- Features in places, of which one after another has its turn.
-use Rattle.std.proofs.Common.{◌≡◌, ◌<◌, ◌+◌, ℕ, zero, suc, Bool, true, false, cond, List, [], ◌∷◌, length, set, get_or, get_or-set_same, get_or-set_other, below_more, Some, bytes_eq, refl, sym, ap, subst, arith, ◌∙◌}
-use Rattle.std.proofs.lemmas.List.{length-set}
-use Rattle.cargo_toml_features.specs.declared.features.Feature.{Feature}
-use Rattle.cargo_toml_features.specs.InOrder.{feature_at, names_of}
+use Rattle.std.proofs.Common.{◌≡◌, ◌<◌, ◌+◌, ℕ, zero, suc, Bool, true, false, cond, List, [], ◌∷◌, length, set, get_or, get_or-set_same, get_or-set_other, below_more, Some, bytes_eq, refl, sym, ap, subst, arith}
+use Rattle.std.proofs.lemmas.{List.length-set, Grind.common_steps}
+use Rattle.cargo_toml_features.specs.{declared.features.Feature.Feature, InOrder.feature_at, InOrder.names_of}
 use Rattle.cargo_toml_graph.specs.Action.{Text}
 use Rattle.cargo_toml_full.specs.Slots.{Relates}
 
@@ -51,13 +50,7 @@ module _ (R : Feature → Feature → Type 0) where
   none_turned old = record { count = refl; turned = λ j d below inside. absurd (omega (arith, below)); rest = λ j d above. refl }
 
   pub one_turned : (i : ℕ) (old mid : List Feature) (e w : Feature) → TurnedUpTo R i old mid → i < length mid → R (get_or mid i e) w → TurnedUpTo R (i + 1) old (set mid i w)
-  one_turned i old mid e w h below is = record {
-    count = length-set mid i w ∙ h.count;
-    turned = λ j d under inside. below_more (λ k. k < length old → R (get_or old k d) (get_or (set mid i w) k d)) i
-        (λ k less within. subst (R (get_or old k d)) (sym (get_or-set_other mid i k w d (omega (arith, less)))) (h.turned k d less within))
-        (λ within. subst (λ a. R a (get_or (set mid i w) i d)) (read_alike mid i e d below ∙ h.rest i d (omega arith)) (subst (R (get_or mid i e)) (sym (get_or-set_same mid i w d below)) is)) j under inside;
-    rest = λ j d above. get_or-set_other mid i j w d (omega (arith, above)) ∙ h.rest j d (λ under. above (omega (arith, under)));
-  }
+  one_turned i old mid e w h below is = grind (arith, common_steps, length-set, below_more, get_or-set_other, read_alike, get_or-set_same)
 
   pub all_turned : (i : ℕ) (old new : List Feature) → names_of new ≡ names_of old → (¬ (i < length new)) → TurnedUpTo R i old new → (f : Text) → Relates R (feature_at old f) (feature_at new f)
   all_turned i old new names end h = features_related R old new names h.count (λ j d below. let count = h.count in h.turned j d (omega (arith, end, below, count)) below)

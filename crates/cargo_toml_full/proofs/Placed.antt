@@ -1,56 +1,28 @@
 -- Features in the order of their names, and one more that is put among them.
-use Rattle.std.proofs.Common.{◌≡◌, ◌⊎◌, ◌||◌, ◌+◌, ◌<◌, ◌≤◌, ℕ, zero, suc, Bool, true, false, cond, List, [], ◌∷◌, ◌++◌, length, set, get_or, Option, Some, None, is_some, bytes_eq, refl, sym, ap, ap₂, subst, inl, inr, arith, ◌∙◌}
-use Rattle.std.proofs.lemmas.Bool.{false≢true, cases_order}
-use Rattle.std.proofs.lemmas.Cmp.{nat_list_cmp_total}
-use Rattle.std.proofs.lemmas.List.{get_or-map, length-map}
-use Rattle.std.proofs.lemmas.List.Edits.{insert_end}
-use Rattle.std.proofs.lemmas.Map.Lookups.{exact_bytes}
-use Rattle.std.proofs.lemmas.Slice.Eq.{bytes_eq-Decides}
-use Rattle.std.specs.Cmp.Lexicographic.{slice_cmp}
-use Rattle.std.specs.List.{insert, list_any}
-use Rattle.std.specs.List.Sorted.{IsPartitionPoint, IsPartitionedBy}
-use Rattle.std.specs.Option.{option_or}
-use Rattle.std.specs.Ordering.{nat_cmp, is_lt, ordering_reverse}
-use Rattle.std.specs.declared.cmp.Ordering.{Ordering}
-use Rattle.std.specs.declared.cmp.Ordering.TheVariants.{Less, Equal, Greater}
-use Rattle.cargo_toml_features.specs.declared.features.Feature.{Feature}
-use Rattle.cargo_toml_features.specs.InOrder.{AreInOrder, feature_at, names_of}
-use Rattle.cargo_toml_graph.specs.Action.{Text}
-use Rattle.cargo_toml_graph.specs.Admitted.{is_below}
-use Rattle.cargo_toml_graph.specs.Reach.{Among}
-use Rattle.cargo_toml_graph.proofs.RedirectsInOrder.{below_one_way}
+use Rattle.std.proofs.Common.{◌≡◌, ◌⊎◌, ◌+◌, ◌<◌, ◌≤◌, ℕ, zero, suc, Bool, true, false, cond, List, [], ◌∷◌, ◌++◌, length, set, get_or, Option, Some, None, is_some, bytes_eq, refl, sym, ap, ap₂, subst, inl, inr, arith, ◌∙◌}
+use Rattle.std.proofs.lemmas.{Bool.false≢true, Bool.cases_order, Cmp.nat_list_cmp_total, List.get_or-map, List.length-map, List.Edits.insert_end, Map.Lookups.exact_bytes, Slice.Eq.bytes_eq-Decides}
+use Rattle.std.proofs.lemmas.Grind.{common_steps}
+use Rattle.std.specs.{List.insert, List.list_any, List.Sorted.IsPartitionPoint, List.Sorted.IsPartitionedBy, Option.option_or}
+use Rattle.cargo_toml_features.specs.{declared.features.Feature.Feature, InOrder.AreInOrder, InOrder.feature_at, InOrder.names_of, Places.nth_text}
+use Rattle.cargo_toml_graph.specs.{Action.Text, Admitted.is_below, Reach.Among}
+use Rattle.cargo_toml_graph.proofs.{RedirectsInOrder.below_one_way, SortedTexts.first_below, SortedTexts.one_ascends, SortedTexts.others_ascend, SortedTexts.put_first}
 use Rattle.cargo_toml_full.specs.Placing.{IsBoundOf, IsPlaceOf}
 use Rattle.cargo_toml_full.proofs.Ascending.{Below, below_then, lower}
-use Rattle.cargo_toml_graph.proofs.SortedTexts.{first_below, one_ascends, others_ascend, put_first}
-use Rattle.cargo_toml_features.specs.Places.{nth_text}
 use Rattle.cargo_toml_features.proofs.Places.{among_at, at_among, rises}
 
 -- a name is that of one of them, or of none
 pub found_any : (vs : List Feature) (f : Text) → list_any (λ v. bytes_eq f v.key.now) vs ≡ is_some (feature_at vs f)
 found_any [] f = refl
-found_any (v ∷ vs) f = go (bytes_eq f v.key.now) (found_any vs f)
-  where
-    go : (t : Bool) → list_any (λ v. bytes_eq f v.key.now) vs ≡ is_some (feature_at vs f) → (t || list_any (λ v. bytes_eq f v.key.now) vs) ≡ is_some (cond t (Some v) (feature_at vs f))
-    go true later = refl
-    go false later = later
+found_any (v ∷ vs) f = grind (arith, common_steps, found_any vs f)
 
 -- a name that isn't there has no feature
 pub feature_missing : (vs : List Feature) (f : Text) → (¬ Among (names_of vs) f) → feature_at vs f ≡ None
 feature_missing [] f gone = refl
-feature_missing (v ∷ vs) f gone = go (bytes_eq f v.key.now) refl (feature_missing vs f (λ there. gone (inr there)))
-  where
-    go : (t : Bool) → bytes_eq f v.key.now ≡ t → feature_at vs f ≡ None → cond t (Some v) (feature_at vs f) ≡ None
-    go true on later = absurd (gone (inl ((bytes_eq-Decides f v.key.now).0 on)))
-    go false off later = later
+feature_missing (v ∷ vs) f gone = grind (arith, common_steps, bytes_eq-Decides, feature_missing vs f (λ there. gone (inr there)))
 
 -- a text that is neither below nor the same is above
 pub strictly_above : (a f : Text) → is_below a f ≡ false → (a ≡ f → ⊥) → Below f a
-strictly_above a f off apart = go (slice_cmp nat_cmp a f) refl
-  where
-    go : (o : Ordering) → slice_cmp nat_cmp a f ≡ o → Below f a
-    go Less is = absurd (false≢true (sym off ∙ ap is_lt is))
-    go Equal is = absurd (apart (exact_bytes a f is))
-    go Greater is = ap is_lt (nat_list_cmp_total.antisymm f a ∙ ap ordering_reverse is)
+strictly_above a f off apart = grind (arith, common_steps, false≢true, exact_bytes, nat_list_cmp_total)
 
 -- where a name would stand and doesn't, it is nowhere
 pub place_free : (vs : List Feature) (i : ℕ) (f : Text) → AreInOrder vs → IsPlaceOf vs i f → ¬ Among (names_of vs) f
@@ -91,14 +63,7 @@ put_held : (vs : List Feature) (i : ℕ) (w : Feature) → i ≤ length vs → (
     → feature_at (insert vs i w) f ≡ cond (bytes_eq f w.key.now) (Some w) (feature_at vs f)
 put_held vs zero w within gone f = refl
 put_held [] (suc i) w within gone f = absurd (omega (arith, within))
-put_held (v ∷ vs) (suc i) w within gone f = ap (cond (bytes_eq f v.key.now) (Some v)) (put_held vs i w (omega (arith, within)) (λ there. gone (inr there)) f) ∙ go (bytes_eq f v.key.now) refl (bytes_eq f w.key.now) refl
-  where
-    go : (s : Bool) → bytes_eq f v.key.now ≡ s → (t : Bool) → bytes_eq f w.key.now ≡ t
-        → cond s (Some v) (cond t (Some w) (feature_at vs f)) ≡ cond t (Some w) (cond s (Some v) (feature_at vs f))
-    go true on true there = absurd (gone (inl (sym ((bytes_eq-Decides f w.key.now).0 there) ∙ (bytes_eq-Decides f v.key.now).0 on)))
-    go true on false there = refl
-    go false off true there = refl
-    go false off false there = refl
+put_held (v ∷ vs) (suc i) w within gone f = grind (arith, common_steps, bytes_eq-Decides, put_held vs i w (omega (arith, within)) (λ there. gone (inr there)) f)
 
 -- one more in its place
 module _ (vs : List Feature) (i : ℕ) (w : Feature) (up : AreInOrder vs) (place : IsPlaceOf vs i w.key.now) (new : List Feature) (put : new ≡ insert vs i w) where
@@ -165,11 +130,7 @@ bound_by_point vs f i up within point = record {
 pub feature_there : (vs : List Feature) (i : ℕ) (f : Text) → i < length vs → nth_text (names_of vs) i ≡ f → is_some (feature_at vs f) ≡ true
 feature_there [] i f below same = absurd (omega (arith, below))
 feature_there (v ∷ vs) zero f below same = ap (λ t. is_some (cond t (Some v) (feature_at vs f))) ((bytes_eq-Decides f v.key.now).1 (sym same))
-feature_there (v ∷ vs) (suc i) f below same = go (bytes_eq f v.key.now) (feature_there vs i f (omega (arith, below)) same)
-  where
-    go : (t : Bool) → is_some (feature_at vs f) ≡ true → is_some (cond t (Some v) (feature_at vs f)) ≡ true
-    go true later = refl
-    go false later = later
+feature_there (v ∷ vs) (suc i) f below same = grind (arith, common_steps, bytes_eq-Decides, feature_there vs i f (omega (arith, below)) same)
 
 pub none_from : (o : Option Feature) → is_some o ≡ false → o ≡ None
 none_from None off = refl
@@ -178,23 +139,11 @@ none_from (Some v) off = absurd (false≢true (sym off))
 -- what stands at a name once a feature came to a free place
 pub put_new : (vs : List Feature) (v : Feature) (o : Option Feature) (f : Text) → feature_at vs v.key.now ≡ None → o ≡ cond (bytes_eq f v.key.now) (Some v) (feature_at vs f)
     → o ≡ option_or (feature_at vs f) (cond (bytes_eq f v.key.now) (Some v) None)
-put_new vs v o f gone put = put ∙ go (bytes_eq f v.key.now) refl (feature_at vs f) refl
-  where
-    go : (t : Bool) → bytes_eq f v.key.now ≡ t → (w : Option Feature) → feature_at vs f ≡ w → cond t (Some v) w ≡ option_or w (cond t (Some v) None)
-    go true on None is = refl
-    go true on (Some w) is = absurd (false≢true (sym (ap is_some (sym is ∙ ap (feature_at vs) ((bytes_eq-Decides f v.key.now).0 on) ∙ gone))))
-    go false off None is = refl
-    go false off (Some w) is = refl
+put_new vs v o f gone put = grind (arith, common_steps, false≢true, bytes_eq-Decides)
 
 -- and where one was there already
 pub put_old : (vs : List Feature) (v : Feature) (f : Text) → is_some (feature_at vs v.key.now) ≡ true → feature_at vs f ≡ option_or (feature_at vs f) (cond (bytes_eq f v.key.now) (Some v) None)
-put_old vs v f there = go (bytes_eq f v.key.now) refl (feature_at vs f) refl
-  where
-    go : (t : Bool) → bytes_eq f v.key.now ≡ t → (w : Option Feature) → feature_at vs f ≡ w → w ≡ option_or w (cond t (Some v) None)
-    go true on None is = absurd (false≢true (sym (ap is_some is) ∙ ap (λ x. is_some (feature_at vs x)) ((bytes_eq-Decides f v.key.now).0 on) ∙ there))
-    go true on (Some w) is = refl
-    go false off None is = refl
-    go false off (Some w) is = refl
+put_old vs v f there = grind (arith, common_steps, false≢true, bytes_eq-Decides)
 
 -- a place that was found by a search of the same features
 module _ (vs us ws : List Feature) (place : ℕ) (f : Text) (same : us ≡ vs) (same' : ws ≡ vs) where
@@ -208,11 +157,7 @@ module _ (vs us ws : List Feature) (place : ℕ) (f : Text) (same : us ≡ vs) (
 pub feature_set : (vs : List Feature) (i : ℕ) (w : Feature) → AreInOrder vs → i < length vs → w.key.now ≡ nth_text (names_of vs) i
     → (f : Text) → feature_at (set vs i w) f ≡ cond (bytes_eq f (nth_text (names_of vs) i)) (Some w) (feature_at vs f)
 feature_set [] i w up below same f = absurd (omega (arith, below))
-feature_set (v ∷ vs) zero w up below same f = ap (λ n. cond (bytes_eq f n) (Some w) (feature_at vs f)) same ∙ go (bytes_eq f v.key.now)
-  where
-    go : (t : Bool) → cond t (Some w) (feature_at vs f) ≡ cond t (Some w) (cond t (Some v) (feature_at vs f))
-    go true = refl
-    go false = refl
+feature_set (v ∷ vs) zero w up below same f = grind (arith, common_steps, others_ascend, length-map, below_one_way, bytes_eq-Decides, first_below, among_at)
 feature_set (v ∷ vs) (suc i) w up below same f = ap (cond (bytes_eq f v.key.now) (Some v)) (feature_set vs i w (others_ascend v.key.now (names_of vs) up) (omega (arith, below)) same f) ∙ go (bytes_eq f v.key.now) refl (bytes_eq f (nth_text (names_of vs) i)) refl
   where
     inside : i < length (names_of vs)
@@ -285,9 +230,7 @@ module _ (vs : List Feature) (i : ℕ) (w : Feature) (new : List Feature) (f : T
 module _ (vs : List Feature) (i : ℕ) (v : Feature) (pushed : List Feature) (f : Text) (up : AreInOrder vs) (behind : IsBehind vs i f) (put : pushed ≡ vs ++ v ∷ []) where
   last : i ≡ length vs
   last =
-      let within = behind.bound.within in
-      let past = behind.past in
-      omega (arith, past, within)
+      omega (arith, behind.past, behind.bound.within)
 
   module _ (w : Feature) (key : w.key.now ≡ f) where
     filled : set pushed i w ≡ vs ++ w ∷ []

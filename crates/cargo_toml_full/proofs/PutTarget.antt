@@ -1,19 +1,12 @@
 -- The targets of a dependency once one more entry is recorded.
 use Rattle.std.proofs.Common.{◌≡◌, List, ap, ap₂, sym, refl, ◌∙◌, cond, Bor, Bool, Ordering, Less, Equal, Greater, true, false, Option, Some, None, option_map, unwrap_or}
-use Rattle.std.specs.Option.{option_or}
-use Rattle.std.specs.Ordering.{is_eq, ordering_reverse}
-use Rattle.std.specs.Map.{lookup}
+use Rattle.std.specs.{Option.option_or, Ordering.is_eq, Ordering.ordering_reverse, Map.lookup, BTreeMap.BTreeMap}
 use Rattle.std.specs.BTreeMap as tree
-use Rattle.std.specs.BTreeMap.{BTreeMap}
-use Rattle.cargo_toml_dependencies.specs.Dependencies.{dependency_meaning}
-use Rattle.cargo_toml_dependencies.specs.declared.dependency.Dependency.{Dependency}
+use Rattle.cargo_toml_dependencies.specs.{Dependencies.dependency_meaning, declared.dependency.Dependency.Dependency}
 use Rattle.cargo_toml_graph.specs.Action.{Text}
 use Rattle.cargo_toml_features.specs.contracts.features.TargetKeyOrd.TheImpl as key_order
 use Rattle.cargo_toml_features.specs.contracts.features.TargetKeyOrd.TheImpl.Laws as laws
-use Rattle.cargo_toml_features.specs.declared.features.ParseDependency.{ParseDependency}
-use Rattle.cargo_toml_features.specs.declared.features.TargetKey.{TargetKey}
-use Rattle.cargo_toml_features.specs.Recorded.{Target, target_cmp}
-use Rattle.cargo_toml_features.specs.Views.{entry_of, target_in}
+use Rattle.cargo_toml_features.specs.{declared.features.ParseDependency.ParseDependency, declared.features.TargetKey.TargetKey, Recorded.Target, Recorded.target_cmp, Views.entry_of, Views.target_in}
 use Rattle.cargo_toml_features.proofs.Targets.{at, cmp_is, key_of, target_of-key_of, target_same}
 use Rattle.cargo_toml_full.specs.Recording.{recorded_next}
 

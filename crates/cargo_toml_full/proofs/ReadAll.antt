@@ -1,25 +1,13 @@
 -- The lists of all features, read one after another.
-use Rattle.std.proofs.Common.{◌≡◌, ◌≢◌, ◌+◌, ◌<◌, ℕ, Bool, true, false, cond, ◌||◌, List, [], ◌∷◌, ◌++◌, map, take, drop, length, get_or, is_some, MatchOption, Option, Some, None, unwrap_or, codes, bytes_eq, string_bytes, refl, sym, ap, subst, ◌∙◌, inl, inr, suc, add-one, ap₂}
-use Rattle.std.specs.List.{list_any, AllByRecursion}
-use Rattle.std.specs.Map.{lookup}
-use Rattle.std.specs.Option.{option_map_or, option_or, IsSomeAnd}
-use Rattle.std.proofs.lemmas.Bool.{false≢true, false_from_ne_true}
-use Rattle.std.proofs.lemmas.List.{map-append, take-append-drop}
-use Rattle.std.proofs.lemmas.List.Folds.{list_any-append}
-use Rattle.std.proofs.lemmas.Slice.Eq.{bytes_eq-Decides}
-use Rattle.std.proofs.Math.Seq.{drop-cons}
-use Rattle.std.proofs.Math.Bool.{or-false}
-use Rattle.cargo_toml_features.specs.declared.features.Feature.{Feature}
-use Rattle.cargo_toml_features.specs.declared.admit.Listing.{Listing}
-use Rattle.cargo_toml_graph.specs.Action.{Text, Action, item_of}
-use Rattle.cargo_toml_graph.specs.Admitted.{Listed, items, item_names, joined_action}
-use Rattle.cargo_toml_graph.specs.Reach.{Among, IsOnce}
-use Rattle.cargo_toml_full.specs.ReadFeature.{joined_in, IsReadFeature}
+use Rattle.std.proofs.Common.{◌≡◌, ◌≢◌, ◌+◌, ◌<◌, ℕ, Bool, true, false, cond, ◌||◌, List, [], ◌∷◌, ◌++◌, map, take, drop, length, get_or, is_some, MatchOption, Option, Some, None, unwrap_or, codes, bytes_eq, string_bytes, refl, sym, ap, subst, ◌∙◌, inl, inr, suc, add-one, ap₂, arith}
+use Rattle.std.specs.{List.list_any, List.AllByRecursion, Map.lookup, Option.option_map_or, Option.option_or, Option.IsSomeAnd}
+use Rattle.std.proofs.lemmas.{Bool.false≢true, Bool.false_from_ne_true, List.map-append, List.take-append-drop, List.Folds.list_any-append, Slice.Eq.bytes_eq-Decides, Grind.common_steps}
+use Rattle.std.proofs.Math.{Seq.drop-cons, Bool.or-false}
+use Rattle.cargo_toml_features.specs.{declared.features.Feature.Feature, declared.admit.Listing.Listing, Marks.NamedDetails, Marks.detail_named, Marks.detail_in, Marks.detail_listed}
+use Rattle.cargo_toml_features.specs.{Marks.named_details, Views.listed_of, Views.set_has, Views.action_at, InOrder.feature_at, InOrder.table_among}
+use Rattle.cargo_toml_graph.specs.{Action.Text, Action.Action, Action.item_of, Admitted.Listed, Admitted.items, Admitted.item_names, Admitted.joined_action, Reach.Among, Reach.IsOnce}
+use Rattle.cargo_toml_full.specs.{ReadFeature.joined_in, ReadFeature.IsReadFeature, Reading.AreFresh, Reading.IsFresh, Reading.IsRead}
 use Rattle.cargo_toml_dependencies.specs.Details.{Detail, plain_detail}
-use Rattle.cargo_toml_features.specs.Marks.{NamedDetails, detail_named, detail_in, detail_listed, named_details}
-use Rattle.cargo_toml_features.specs.Views.{listed_of, set_has, action_at}
-use Rattle.cargo_toml_full.specs.Reading.{AreFresh, IsFresh, IsRead}
-use Rattle.cargo_toml_features.specs.InOrder.{feature_at, table_among}
 use Rattle.cargo_toml_features.proofs.Listings.{listed_one, names_listed}
 use Rattle.cargo_toml_graph.proofs.Texts.{bytes_eq_refl}
 use Rattle.cargo_toml_full.proofs.TakenMore.{taken_more}
@@ -51,12 +39,7 @@ none_read details m none = record { at = λ f. subst (λ vs. Holds f (detail_nam
 
 lookup_push : (f : Text) (es : Listed) (e : Text × List Text) → lookup (bytes_eq f) (es ++ e ∷ []) ≡ option_or (lookup (bytes_eq f) es) (cond (bytes_eq f e.0) (Some e.1) None)
 lookup_push f [] e = refl
-lookup_push f (x ∷ xs) e = go (bytes_eq f x.0) (lookup_push f xs e)
-  where
-    go : (b : Bool) → lookup (bytes_eq f) (xs ++ e ∷ []) ≡ option_or (lookup (bytes_eq f) xs) (cond (bytes_eq f e.0) (Some e.1) None)
-        → cond b (Some x.1) (lookup (bytes_eq f) (xs ++ e ∷ [])) ≡ option_or (cond b (Some x.1) (lookup (bytes_eq f) xs)) (cond (bytes_eq f e.0) (Some e.1) None)
-    go true h = refl
-    go false h = h
+lookup_push f (x ∷ xs) e = grind (arith, common_steps, lookup_push f xs e)
 
 among_later : (xs ys : List Text) (y : Text) → Among (xs ++ y ∷ ys) y
 among_later [] ys y = inl refl
@@ -101,31 +84,7 @@ module _ (ls : List Listing) (i : ℕ) (l : Listing) (below : i < length ls) (is
   pub read_more : (m m' : List Feature) (v : Feature) → HasRead (listed_of (take i ls)) (named_details ls) m
       → IsReadFeature l.name.now (detail_in l.detail) (map item_of (map string_bytes l.actions.now)) v
       → ((f : Text) → feature_at m' f ≡ option_or (feature_at m f) (cond (bytes_eq f v.key.now) (Some v) None)) → HasRead (listed_of (take (i + 1) ls)) (named_details ls) m'
-  read_more m m' v before listed put = record {
-    at = λ f. subst (λ es. Holds f (detail_named (named_details ls) f) (lookup (bytes_eq f) es) (feature_at m' f)) (sym one_more) (subst (λ o. Holds f (detail_named (named_details ls) f) o (feature_at m' f)) (sym (lookup_push f (listed_of (take i ls)) (listed_one l)))
-        (subst (Holds f (detail_named (named_details ls) f) _) (sym (put f ∙ ap (λ n. option_or (feature_at m f) (cond (bytes_eq f n) (Some v) None)) listed.fresh.key)) (go f (bytes_eq f l.name.now) refl)));
-  }
-    where
-      or_none : {X : Type 0} (o : Option X) → option_or o None ≡ o
-      or_none None = refl
-      or_none (Some ts) = refl
-
-      gone : (o : Option (List Text)) (w : Option Feature) → o ≡ None → Holds l.name.now (detail_named (named_details ls) l.name.now) o w → w ≡ None
-      gone None None e h = refl
-      gone None (Some w) e h = absurd h
-      gone (Some ts) w e h = absurd (false≢true (sym (ap is_some e)))
-
-      none_before : feature_at m l.name.now ≡ None
-      none_before = gone (lookup (bytes_eq l.name.now) (listed_of (take i ls))) (feature_at m l.name.now) not_before (before.at l.name.now)
-
-      go : (f : Text) (b : Bool) → bytes_eq f l.name.now ≡ b
-          → Holds f (detail_named (named_details ls) f) (option_or (lookup (bytes_eq f) (listed_of (take i ls))) (cond b (Some (map string_bytes l.actions.now)) None)) (option_or (feature_at m f) (cond b (Some v) None))
-      go f true e = subst (λ n. Holds n (detail_named (named_details ls) n) (option_or (lookup (bytes_eq n) (listed_of (take i ls))) (Some (map string_bytes l.actions.now))) (option_or (feature_at m n) (Some v))) (sym ((bytes_eq-Decides f l.name.now).0 e))
-          (subst (λ o. Holds l.name.now (detail_named (named_details ls) l.name.now) (option_or o (Some (map string_bytes l.actions.now))) (option_or (feature_at m l.name.now) (Some v))) (sym not_before)
-          (subst (λ o. Holds l.name.now (detail_named (named_details ls) l.name.now) (Some (map string_bytes l.actions.now)) (option_or o (Some v))) (sym none_before)
-          (subst (λ d. IsReadFeature l.name.now d (map item_of (map string_bytes l.actions.now)) v) (sym said_here) listed)))
-      go f false e = subst (λ o. Holds f (detail_named (named_details ls) f) o (option_or (feature_at m f) None)) (sym (or_none (lookup (bytes_eq f) (listed_of (take i ls)))))
-          (subst (Holds f (detail_named (named_details ls) f) (lookup (bytes_eq f) (listed_of (take i ls)))) (sym (or_none (feature_at m f))) (before.at f))
+  read_more m m' v before listed put = grind (arith, common_steps, one_more, lookup_push, listed_one, false≢true, not_before, string_bytes, bytes_eq-Decides, said_here)
 
   pub told_next : (passes : Option Action → Bool) (k : Text) (before now : Bool) → before ≡ told_in passes (listed_of (take i ls)) k → now ≡ (before || passes (joined_in (map item_of (map string_bytes l.actions.now)) k)) → now ≡ told_in passes (listed_of (take (i + 1) ls)) k
   told_next passes k before now before_is now_is =
@@ -208,25 +167,7 @@ module _ (listed : Listed) (details : NamedDetails) (m m' : List Feature) (read 
     (others : (f : Text) → bytes_eq f (codes "default") ≡ false → feature_at m' f ≡ feature_at m f)
     (default : MatchOption (feature_at m (codes "default")) (IsSomeAnd (feature_at m' (codes "default")) (IsReadFeature (codes "default") plain_detail [])) (λ v. feature_at m' (codes "default") ≡ Some v)) where
   holds_all : (f : Text) → Holds f (detail_listed listed details f) (with_default listed f) (feature_at m' f)
-  holds_all f = go (bytes_eq f (codes "default")) refl
-    where
-      here : (d : Detail) (o : Option (List Text)) (v v' : Option Feature) → Holds (codes "default") d o v → MatchOption v (IsSomeAnd v' (IsReadFeature (codes "default") plain_detail [])) (λ w. v' ≡ Some w) → Holds (codes "default") (cond (is_some o) d plain_detail) (option_or o (Some [])) v'
-      here d None None None h a = absurd a
-      here d None None (Some v) h a = a
-      here d None (Some v) v' h a = absurd h
-      here d (Some ts) None v' h a = absurd h
-      here d (Some ts) (Some v) v' h a = subst (Holds (codes "default") d (Some ts)) (sym a) h
-
-      there : (d : Detail) (o : Option (List Text)) (v : Option Feature) → Holds f d o v → Holds f (cond (is_some o) d plain_detail) (option_or o None) v
-      there d None None h = tt
-      there d None (Some v) h = absurd h
-      there d (Some ts) None h = absurd h
-      there d (Some ts) (Some v) h = h
-
-      go : (b : Bool) → bytes_eq f (codes "default") ≡ b → Holds f (detail_listed listed details f) (option_or (lookup (bytes_eq f) listed) (cond b (Some []) None)) (feature_at m' f)
-      go true e = subst (λ q. Holds q (detail_listed listed details q) (option_or (lookup (bytes_eq q) listed) (Some [])) (feature_at m' q)) (sym ((bytes_eq-Decides f (codes "default")).0 e))
-          (here (detail_named details (codes "default")) (lookup (bytes_eq (codes "default")) listed) (feature_at m (codes "default")) (feature_at m' (codes "default")) (read.at (codes "default")) default)
-      go false e = there (detail_named details f) (lookup (bytes_eq f) listed) (feature_at m' f) (subst (Holds f (detail_named details f) (lookup (bytes_eq f) listed)) (sym (others f e)) (read.at f))
+  holds_all f = grind (arith, common_steps, bytes_eq-Decides)
 
   -- each feature that is held is as its list and its details say
   pub all_fresh : AreFresh listed details m'

@@ -1,14 +1,11 @@
 -- Entries recorded one after another.
-use Rattle.std.proofs.Common.{◌≡◌, ◌&&◌, ◌||◌, Bool, true, false, cond, Option, Some, None, is_some, option_map, unwrap_or, bytes_eq, refl, sym, ap, subst, ◌∙◌}
-use Rattle.std.proofs.lemmas.Slice.Eq.{bytes_eq-Decides}
-use Rattle.cargo_toml_features.specs.declared.features.FeatureDependency.{FeatureDependency}
+use Rattle.std.proofs.Common.{◌≡◌, ◌||◌, Bool, true, false, cond, Option, Some, None, is_some, option_map, unwrap_or, bytes_eq, refl, ap, subst, ◌∙◌, arith}
+use Rattle.std.proofs.lemmas.{Slice.Eq.bytes_eq-Decides, Grind.common_steps}
+use Rattle.cargo_toml_features.specs.{declared.features.FeatureDependency.FeatureDependency, Recorded.Entry, Views.recorded_in}
 use Rattle.cargo_toml_graph.specs.Action.{Text}
 use Rattle.cargo_toml_graph.proofs.Texts.{bytes_eq_sym}
-use Rattle.cargo_toml_features.specs.Recorded.{Entry}
 use Rattle.cargo_toml_dependencies.specs.Dependencies.{is_optional}
-use Rattle.cargo_toml_full.specs.Recording.{recorded_after, recorded_at, recorded_nowhere, recorded_next, recorded_with}
-use Rattle.cargo_toml_features.specs.Views.{recorded_in}
-use Rattle.cargo_toml_full.specs.Slots.{held_in}
+use Rattle.cargo_toml_full.specs.{Recording.recorded_after, Recording.recorded_at, Recording.recorded_nowhere, Recording.recorded_next, Recording.recorded_with, Slots.held_in}
 use Rattle.cargo_toml_full.specs.declared.slots.Slots.{Slots}
 
 module _ (e : Entry) where
@@ -33,29 +30,17 @@ module _ (e : Entry) (mentioned : Text → Bool) (s : Slots FeatureDependency) w
   counted q = is_some (recorded_at s q) || (is_optional e.dependency || mentioned q)
 
   counted_here : (o : Option FeatureDependency) → held_in s e.key ≡ o → counted e.key ≡ (is_some o || (is_optional e.dependency || mentioned e.key))
-  counted_here o is = ap (λ h. is_some (option_map recorded_in h) || (is_optional e.dependency || mentioned e.key)) is ∙ ap (λ b. b || (is_optional e.dependency || mentioned e.key)) (go o)
-    where
-      go : (o : Option FeatureDependency) → is_some (option_map recorded_in o) ≡ is_some o
-      go None = refl
-      go (Some d) = refl
+  counted_here o is = grind (arith, common_steps)
 
   counted_there : (b : Bool) → counted e.key ≡ b → (q : Text) → bytes_eq e.key q ≡ true → counted q ≡ b
   counted_there b here q same = subst (λ t. counted t ≡ b) ((bytes_eq-Decides e.key q).0 same) here
 
   -- where it doesn't count, nothing is recorded
   pub none_recorded : (o : Option FeatureDependency) → held_in s e.key ≡ o → (is_some o || (is_optional e.dependency || mentioned e.key)) ≡ false → (q : Text) → recorded_at s q ≡ recorded_after mentioned e q (recorded_at s q)
-  none_recorded o is off q = go (bytes_eq e.key q) refl
-    where
-      go : (b : Bool) → bytes_eq e.key q ≡ b → recorded_at s q ≡ cond (b && counted q) (Some (recorded_with (recorded_at s q) e)) (recorded_at s q)
-      go true same = sym (ap (λ t. cond t (Some (recorded_with (recorded_at s q) e)) (recorded_at s q)) (counted_there false (counted_here o is ∙ off) q same))
-      go false apart = refl
+  none_recorded o is off q = grind (arith, common_steps, counted_there, counted_here)
 
   -- where it counts, it is recorded
   pub one_recorded : (o : Option FeatureDependency) → held_in s e.key ≡ o → (is_some o || (is_optional e.dependency || mentioned e.key)) ≡ true
       → (n : Slots FeatureDependency) → ((q : Text) → recorded_at n q ≡ cond (bytes_eq e.key q) (Some (recorded_with (recorded_at s q) e)) (recorded_at s q))
       → (q : Text) → recorded_at n q ≡ recorded_after mentioned e q (recorded_at s q)
-  one_recorded o is on n put q = put q ∙ go (bytes_eq e.key q) refl
-    where
-      go : (b : Bool) → bytes_eq e.key q ≡ b → cond b (Some (recorded_with (recorded_at s q) e)) (recorded_at s q) ≡ cond (b && counted q) (Some (recorded_with (recorded_at s q) e)) (recorded_at s q)
-      go true same = sym (ap (λ t. cond t (Some (recorded_with (recorded_at s q) e)) (recorded_at s q)) (counted_there true (counted_here o is ∙ on) q same))
-      go false apart = refl
+  one_recorded o is on n put q = grind (arith, common_steps, counted_there, counted_here)

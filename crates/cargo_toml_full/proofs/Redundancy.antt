@@ -1,16 +1,12 @@
 -- What dependencies have anyway, by the places of their keys.
-use Rattle.std.proofs.Common.{◌≡◌, Bool, true, false, cond, List, [], ◌∷◌, ◌++◌}
-use Rattle.std.proofs.Common.{◌<◌, ◌+◌, ℕ, Option, None, bytes_eq, length, get_or, take}
+use Rattle.std.proofs.Common.{◌≡◌, List, [], ◌∷◌, ◌++◌}
+use Rattle.std.proofs.Common.{◌<◌, ◌+◌, ℕ, Option, None, length, get_or, take}
 use Rattle.std.proofs.Common.{option_map, refl, sym}
 use Rattle.std.proofs.Common.{ap, subst, arith, ◌∙◌}
-use Rattle.std.proofs.lemmas.List.{take_more}
-use Rattle.cargo_toml_features.specs.declared.features.FeatureDependency.{FeatureDependency}
-use Rattle.cargo_toml_features.specs.Recorded.{Entry, first_target, is_redundant, recorded_of}
-use Rattle.cargo_toml_features.specs.Views.{recorded_in}
+use Rattle.std.proofs.lemmas.{List.take_more, Grind.common_steps}
+use Rattle.cargo_toml_features.specs.{declared.features.FeatureDependency.FeatureDependency, Recorded.Entry, Recorded.first_target, Recorded.is_redundant, Recorded.recorded_of, Views.recorded_in}
 use Rattle.cargo_toml_graph.specs.Action.{Text}
-use Rattle.cargo_toml_full.specs.declared.redundant_features.RedundantFeatures.{RedundantFeatures}
-use Rattle.cargo_toml_full.specs.Redundant.{has_redundant}
-use Rattle.cargo_toml_full.specs.Slots.{held_among}
+use Rattle.cargo_toml_full.specs.{declared.redundant_features.RedundantFeatures.RedundantFeatures, Redundant.has_redundant, Slots.held_among}
 
 -- of no record there is no target
 pub no_target : (es : List Entry) → None ≡ recorded_of es → None ≡ first_target es
@@ -65,9 +61,4 @@ under_names [] ds rs h k = none_anyway
 under_names (n ∷ ns) [] [] h k = none_anyway
 under_names (n ∷ ns) [] (r ∷ rs) h k = absurd h
 under_names (n ∷ ns) (d ∷ ds) [] h k = absurd h
-under_names (n ∷ ns) (d ∷ ds) (r ∷ rs) h k = go (bytes_eq k n) (under_names ns ds rs h.1 k)
-  where
-    go : (b : Bool) → HasAnyway (held_among ns ds k) (held_among ns rs k)
-        → HasAnyway (cond b d (held_among ns ds k)) (cond b r (held_among ns rs k))
-    go true later = h.0
-    go false later = later
+under_names (n ∷ ns) (d ∷ ds) (r ∷ rs) h k = grind (arith, common_steps, none_anyway, under_names ns ds rs h.1 k)

@@ -1,36 +1,18 @@
 -- Binaries gained one after another.
-use Rattle.std.proofs.Common.{◌≡◌, ◌++◌, ◌+◌, ◌<◌, ℕ, length, take, get_or, Bool, true, false, cond, List, [], ◌∷◌, map, Option, Some, None, bytes_eq, Bor, refl, sym, ap, subst, ◌∙◌}
-use Rattle.std.proofs.lemmas.List.{append_assoc, append-nil, map-append}
-use Rattle.std.proofs.lemmas.List.Elements.{filter-append}
-use Rattle.std.proofs.lemmas.Slice.Eq.{bytes_eq-Decides}
+use Rattle.std.proofs.Common.{◌≡◌, ◌++◌, ◌+◌, ◌<◌, ℕ, length, take, get_or, Bool, cond, List, [], ◌∷◌, map, Option, Some, None, bytes_eq, refl, ap, ◌∙◌, arith}
+use Rattle.std.proofs.lemmas.{List.append_assoc, List.append-nil, List.map-append, List.Elements.filter-append, Slice.Eq.bytes_eq-Decides, Grind.common_steps}
 use Rattle.std.specs.List.{filter}
-use Rattle.cargo_toml_full.specs.declared.required.Requirement.{Requirement}
-use Rattle.cargo_toml_features.specs.declared.features.Feature.{Feature}
+use Rattle.cargo_toml_full.specs.{declared.required.Requirement.Requirement, Slots.Relates, OwnBins.own_of, OwnBins.bin_requirement, Requiring.Required, Requiring.RequiredAll}
+use Rattle.cargo_toml_features.specs.{declared.features.Feature.Feature, InOrder.feature_at}
 use Rattle.cargo_toml_graph.specs.Action.{Text}
 use Rattle.cargo_toml_graph.proofs.Texts.{bytes_eq_sym}
-use Rattle.cargo_toml_features.specs.InOrder.{feature_at}
-use Rattle.cargo_toml_full.specs.Slots.{Relates}
-use Rattle.cargo_toml_full.specs.OwnBins.{own_of, bin_requirement}
-use Rattle.cargo_toml_full.specs.Requiring.{Required, RequiredAll}
 use Rattle.cargo_toml_full.proofs.TakenMore.{taken_more}
 
 nothing : (own : List Text) → own ≡ [] → (o : Option Feature) → Relates (Required own) o o
-nothing own none None = tt
-nothing own none (Some a) = record {
-  same = refl;
-  bins = sym (ap (λ xs. map (λ (b : Bor Text). b.now) a.required_by_bins.items ++ xs) none ∙ append-nil _);
-}
+nothing v0 v1 v2 = grind (arith, common_steps, append-nil)
 
 both : (p q r : List Text) → r ≡ p ++ q → (a b c : Option Feature) → Relates (Required p) a b → Relates (Required q) b c → Relates (Required r) a c
-both p q r same None None None h k = tt
-both p q r same None None (Some c) h k = absurd k
-both p q r same None (Some b) c h k = absurd h
-both p q r same (Some a) None c h k = absurd h
-both p q r same (Some a) (Some b) None h k = absurd k
-both p q r same (Some a) (Some b) (Some c) h k = record {
-  same = k.same ∙ ap (λ (v : Feature). record v { required_by_bins = c.required_by_bins }) h.same;
-  bins = k.bins ∙ ap (λ xs. xs ++ q) h.bins ∙ append_assoc (map (λ (t : Bor Text). t.now) a.required_by_bins.items) p q ∙ ap (λ xs. map (λ (t : Bor Text). t.now) a.required_by_bins.items ++ xs) (sym same);
-}
+both v0 v1 v2 v3 v4 v5 v6 v7 v8 = grind (arith, common_steps, append_assoc)
 
 module _ where
   pub required_more : (p q r : Text → List Text) (a b c : List Feature) → ((x : Text) → r x ≡ p x ++ q x) → RequiredAll p a b → RequiredAll q b c → RequiredAll r a c
@@ -39,32 +21,14 @@ module _ where
   -- one binary at one feature
   module _ (key by : Text) (m : List Feature) where
     one : (q : Text) (t : Bool) → bytes_eq q key ≡ t → own_of ((key, by) ∷ []) q ≡ cond t (by ∷ []) []
-    one q t is = ap (λ b. map (λ (r : Text × Text). r.1) (cond b ((key, by) ∷ []) [])) is ∙ pick t
-      where
-        pick : (t : Bool) → map (λ (r : Text × Text). r.1) (cond t ((key, by) ∷ []) []) ≡ cond t (by ∷ []) []
-        pick true = refl
-        pick false = refl
+    one q t is = grind (arith, common_steps)
 
     pub required_nowhere : feature_at m key ≡ None → RequiredAll (own_of ((key, by) ∷ [])) m m
-    required_nowhere gone = record { at = λ q. go q (bytes_eq q key) refl }
-      where
-        go : (q : Text) (t : Bool) → bytes_eq q key ≡ t → Relates (Required (own_of ((key, by) ∷ []) q)) (feature_at m q) (feature_at m q)
-        go q true on = subst (λ o. Relates (Required (own_of ((key, by) ∷ []) q)) o o) (sym (ap (feature_at m) ((bytes_eq-Decides q key).0 on) ∙ gone)) tt
-        go q false off = nothing (own_of ((key, by) ∷ []) q) (one q false off) (feature_at m q)
+    required_nowhere gone = grind (arith, common_steps, bytes_eq-Decides, nothing, one)
 
     pub required_at : (n : List Feature) (old w : Feature) → feature_at m key ≡ Some old → ((q : Text) → feature_at n q ≡ cond (bytes_eq key q) (Some w) (feature_at m q))
         → Required (by ∷ []) old w → RequiredAll (own_of ((key, by) ∷ [])) m n
-    required_at n old w was after is = record { at = λ q. go q (bytes_eq q key) refl }
-      where
-        go : (q : Text) (t : Bool) → bytes_eq q key ≡ t → Relates (Required (own_of ((key, by) ∷ []) q)) (feature_at m q) (feature_at n q)
-        go q true on =
-            subst (λ own. Relates (Required own) (feature_at m q) (feature_at n q)) (sym (one q true on))
-            (subst (λ o. Relates (Required (by ∷ [])) (feature_at m q) o) (sym (after q ∙ ap (λ t. cond t (Some w) (feature_at m q)) (bytes_eq_sym key q ∙ on)))
-            (subst (λ o. Relates (Required (by ∷ [])) o (Some w)) (sym (ap (feature_at m) ((bytes_eq-Decides q key).0 on) ∙ was)) is))
-        go q false off =
-            subst (λ own. Relates (Required own) (feature_at m q) (feature_at n q)) (sym (one q false off))
-            (subst (λ o. Relates (Required []) (feature_at m q) o) (sym (after q ∙ ap (λ t. cond t (Some w) (feature_at m q)) (bytes_eq_sym key q ∙ off)))
-            (nothing [] refl (feature_at m q)))
+    required_at n old w was after is = grind (arith, common_steps, one, bytes_eq_sym, bytes_eq-Decides, nothing)
 
 -- one requirement more
 pub own_more : (r s : List (Text × Text)) (q : Text) → own_of (r ++ s) q ≡ own_of r q ++ own_of s q

@@ -1,11 +1,9 @@
 -- A text among others, by equality and by its place.
 use Rattle.std.proofs.Common.{◌≡◌, ◌<◌, ◌||◌, ℕ, Bool, true, false, List, [], ◌∷◌, length, map, Option}
 use Rattle.std.proofs.Common.{Some, None, IfSome, is_some, Bor, bytes_eq, refl, sym, ap, subst, arith}
-use Rattle.std.proofs.lemmas.Bool.{false≢true}
-use Rattle.std.proofs.lemmas.List.{length-map}
+use Rattle.std.proofs.lemmas.{Bool.false≢true, List.length-map}
 use Rattle.std.specs.List.{list_any}
-use Rattle.cargo_toml_graph.specs.Action.{Text}
-use Rattle.cargo_toml_graph.specs.Reach.{Among}
+use Rattle.cargo_toml_graph.specs.{Action.Text, Reach.Among}
 use Rattle.cargo_toml_graph.proofs.BinLists.{among-true, is_among-true}
 use Rattle.cargo_toml_features.specs.Places.{nth_text}
 use Rattle.cargo_toml_features.proofs.Places.{among_at}

@@ -1,17 +1,9 @@
 -- A resolution beside one of the same table that removes nothing.
-use Rattle.std.proofs.Common.{Bool, IsTrue, IsFalse, sym, ◌∙◌}
-use Rattle.std.proofs.lemmas.Bool.{false≢true}
-use Rattle.cargo_toml_graph.specs.Action.{Text}
-use Rattle.cargo_toml_graph.specs.Reach.Reaches.{edge, through}
-use Rattle.cargo_toml_graph.specs.Graph.{Table, Resolution, IsResolved, IsUnremoved, EnablesAtLast}
-use Rattle.cargo_toml_graph.specs.Kept.{KeepsEnabling, LosesNothing}
-use Rattle.cargo_toml_graph.specs.Recursive.{Enables}
-use Rattle.cargo_toml_graph.specs.Recursive.Enables.{itself, further}
-use Rattle.cargo_toml_graph.specs.Removal.{SameKept, unremoved}
-use Rattle.cargo_toml_graph.proofs.Closure.{at_last_before, at_last_after}
-use Rattle.cargo_toml_graph.proofs.Edges.{unremoved_is}
-use Rattle.cargo_toml_graph.proofs.NothingLost.{keeps_enabled, keeps_dependency}
-use Rattle.cargo_toml_graph.proofs.Settled.{resolution_settled}
+use Rattle.std.proofs.Common.{Bool, IsTrue, IsFalse, sym, ◌∙◌, arith, rules}
+use Rattle.std.proofs.lemmas.{Bool.false≢true, Grind.common_steps}
+use Rattle.cargo_toml_graph.specs.{Action.Text, Reach.Reaches.edge, Reach.Reaches.through, Graph.Table, Graph.Resolution, Graph.IsResolved, Graph.IsUnremoved, Graph.EnablesAtLast, Kept.KeepsEnabling}
+use Rattle.cargo_toml_graph.specs.{Kept.LosesNothing, Recursive.Enables, Recursive.Enables.itself, Recursive.Enables.further, Removal.SameKept, Removal.unremoved}
+use Rattle.cargo_toml_graph.proofs.{Closure.at_last_before, Closure.at_last_after, Edges.unremoved_is, NothingLost.keeps_enabled, NothingLost.keeps_dependency, Settled.resolution_settled}
 use Rattle.cargo_toml_graph.proofs.Unremoved.{resolved_unremoved}
 
 -- features that hold the same enable the same transitively
@@ -23,12 +15,7 @@ there_too : (m n : Resolution) → SameKept m n → (f : Text) → IsTrue (m.tab
 there_too m n s f h = sym (s.has f) ∙ h
 
 same_back : (m n : Resolution) → SameKept m n → SameKept n m
-same_back m n s = record {
-  has = λ f. sym (s.has f);
-  names = λ f x h. sym (s.names f x (s.has f ∙ h));
-  action = λ f k h. sym (s.action f k (s.has f ∙ h));
-  enabled_by = λ f e h. sym (s.enabled_by f e (s.has f ∙ h));
-}
+same_back m n s = grind (arith, common_steps)
 
 -- what f enables is there
 enabled_is_there : (m : Resolution) {f g : Text} → IsTrue (m.table.has f) → Enables m.table f g → IsTrue (m.table.has g)
@@ -54,11 +41,7 @@ module _ (t : Table) (removed nothing : Text → Bool) (full m : Resolution) (no
   in_full f y = (all.kept f).1 (((h.kept f).0 y).0, no_one f)
 
   pub keeps_enabling : KeepsEnabling full m
-  keeps_enabling a b there-a there-b = (
-    λ p. same_at_last (unremoved t) full (same_back full (unremoved t) same) (there_too full (unremoved t) same b (in_full b there-b))
-        (at_last_before t removed (unremoved t) m start h ((h.kept b).0 there-b) p),
-    λ p. at_last_after t removed (unremoved t) m start h ((h.kept a).0 there-a) ((h.kept b).0 there-b) (same_at_last full (unremoved t) same (in_full b there-b) p),
-  )
+  keeps_enabling a b there-a there-b = search (rules, same_at_last, same_back, same, there_too, in_full, at_last_before, start, at_last_after)
 
   pub loses_nothing : LosesNothing full m
   loses_nothing = record {

@@ -1,11 +1,7 @@
 -- Lists of binaries.
-use Rattle.std.proofs.Common.{◌≡◌, ◌≢◌, ◌⊎◌, ◌≤◌, ◌+◌, ℕ, zero, suc, Bool, true, false, cond, List, [], ◌∷◌, ◌++◌, take, length, bytes_eq, refl, sym, ap, subst, inl, inr, ◌∙◌, arith, append_assoc, length-append}
-use Rattle.std.proofs.lemmas.Bool.{false≢true, or_cases, or_left, or_right}
-use Rattle.std.proofs.lemmas.Slice.Eq.{bytes_eq-Decides}
-use Rattle.cargo_toml_graph.specs.Action.{Text}
-use Rattle.cargo_toml_graph.specs.Reach.{Among, IsOnce}
-use Rattle.cargo_toml_graph.specs.Removal.{lists_text, put_each}
-use Rattle.cargo_toml_graph.specs.Bins.{mentions, Grown}
+use Rattle.std.proofs.Common.{◌≡◌, ◌≢◌, ◌⊎◌, ◌≤◌, ◌+◌, ℕ, zero, suc, Bool, true, false, cond, List, [], ◌∷◌, ◌++◌, take, length, bytes_eq, refl, sym, ap, subst, inl, inr, ◌∙◌, arith, append_assoc, length-append, rules}
+use Rattle.std.proofs.lemmas.{Bool.false≢true, Bool.or_cases, Bool.or_left, Bool.or_right, Slice.Eq.bytes_eq-Decides}
+use Rattle.cargo_toml_graph.specs.{Action.Text, Reach.Among, Reach.IsOnce, Removal.lists_text, Removal.put_each, Bins.mentions, Bins.Grown}
 
 pub is_among-true : (xs : List Text) (x : Text) → lists_text xs x ≡ true → Among xs x
 is_among-true [] x e = absurd (false≢true e)
@@ -44,10 +40,7 @@ among-taken (suc n) (z ∷ xs) x (inr i) = inr (among-taken n xs x i)
 
 pub once-push : {K : Type 0} (xs : List K) (y : K) → IsOnce xs → ¬ Among xs y → IsOnce (xs ++ y ∷ [])
 once-push [] y o n = ((λ i. i), tt)
-once-push (x ∷ xs) y o n = (
-  λ i. elim (among-either xs (y ∷ []) x i) [ inl i ↦ o.0 i | inr i ↦ elim i [ inl e ↦ n (inl (sym e)) | inr i ↦ i ] ],
-  once-push xs y o.1 (λ i. n (inr i)),
-)
+once-push (x ∷ xs) y o n = search (rules, among-either, once-push xs y o.1)
 
 -- what is put is there, and what was there stays
 pub put_keeps : (xs ys : List Text) (x : Text) → Among xs x → Among (put_each xs ys) x
@@ -61,11 +54,7 @@ put_keeps xs (y ∷ ys) x i = put_keeps (cond (lists_text xs y) xs (xs ++ y ∷ 
 pub put_puts : (xs ys : List Text) (x : Text) → Among ys x → Among (put_each xs ys) x
 put_puts xs [] x i = absurd i
 put_puts xs (y ∷ ys) x (inr i) = put_puts (cond (lists_text xs y) xs (xs ++ y ∷ [])) ys x i
-put_puts xs (y ∷ ys) x (inl e) = put_keeps (cond (lists_text xs y) xs (xs ++ y ∷ [])) ys x (go (lists_text xs y) refl)
-  where
-    go : (b : Bool) → lists_text xs y ≡ b → Among (cond b xs (xs ++ y ∷ [])) x
-    go true t = subst (Among xs) (sym e) (is_among-true xs y t)
-    go false t = among-second xs (y ∷ []) x (inl e)
+put_puts xs (y ∷ ys) x (inl e) = search (rules, put_keeps, is_among-true, among-second)
 
 pub put_grows : (own : List Text) (P : Text → Type 0) (xs ys : List Text) → Grown own P xs → ((y : Text) → Among ys y → P y) → Grown own P (put_each xs ys)
 put_grows own P xs [] g p = g
@@ -114,41 +103,23 @@ others_own own r (s ∷ rs) = cond (bytes_eq s r) (others_own own r rs) (own s +
 others_hold : (own : Text → List Text) (r : Text) (rs : List Text) (s x : Text) → s ≢ r → Among rs s → Among (own s) x → Among (others_own own r rs) x
 unfolding others_own
 others_hold own r [] s x n i j = absurd i
-others_hold own r (q ∷ rs) s x n (inl e) j = go (bytes_eq q r) refl
-  where
-    go : (b : Bool) → bytes_eq q r ≡ b → Among (cond b (others_own own r rs) (own q ++ others_own own r rs)) x
-    go true t = absurd (n (e ∙ (bytes_eq-Decides q r).0 t))
-    go false t = among-first (own q) _ x (subst (λ v. Among (own v) x) e j)
-others_hold own r (q ∷ rs) s x n (inr i) j = go (bytes_eq q r) (others_hold own r rs s x n i j)
-  where
-    go : (b : Bool) → Among (others_own own r rs) x → Among (cond b (others_own own r rs) (own q ++ others_own own r rs)) x
-    go true h = h
-    go false h = among-second (own q) _ x h
+others_hold own r (q ∷ rs) s x n (inl e) j = search (rules, others_own, bytes_eq-Decides, among-first, among-second)
+others_hold own r (q ∷ rs) s x n (inr i) j = search (rules, others_own, bytes_eq-Decides, among-first, among-second, others_hold own r rs s x n i j)
 
 others_below : (own : Text → List Text) (r : Text) (rs : List Text) → length (others_own own r rs) ≤ mentions own rs
 unfolding others_own
 others_below own r [] = omega arith
-others_below own r (q ∷ rs) = go (bytes_eq q r) (others_below own r rs)
-  where
-    go : (b : Bool) → length (others_own own r rs) ≤ mentions own rs → length (cond b (others_own own r rs) (own q ++ others_own own r rs)) ≤ length (own q) + mentions own rs
-    go true h = omega (arith, h)
-    go false h = omega (arith, h, length-append (own q) (others_own own r rs))
+others_below own r (q ∷ rs) = search (rules, others_own, length-append, others_below own r rs)
 
 own_and_others : (own : Text → List Text) (r : Text) (rs : List Text) → Among rs r → length (own r) + length (others_own own r rs) ≤ mentions own rs
 unfolding others_own
 own_and_others own r [] i = absurd i
-own_and_others own r (q ∷ rs) i = go (own_and_others own r rs) (bytes_eq q r) refl i
-  where
-    go : (Among rs r → length (own r) + length (others_own own r rs) ≤ mentions own rs) → (b : Bool) → bytes_eq q r ≡ b → Among (q ∷ rs) r → length (own r) + length (cond b (others_own own r rs) (own q ++ others_own own r rs)) ≤ length (own q) + mentions own rs
-    go below true t i = subst (λ v. length (own r) + length (others_own own r rs) ≤ length (own v) + mentions own rs) (sym ((bytes_eq-Decides q r).0 t)) (let h = others_below own r rs in omega (arith, h))
-    go below false t (inl e) = absurd (false≢true (sym t ∙ (bytes_eq-Decides q r).1 (sym e)))
-    go below false t (inr i) = let h = below i in omega (arith, h, length-append (own q) (others_own own r rs))
+own_and_others own r (q ∷ rs) i = search (rules, others_own, bytes_eq-Decides, others_below, false≢true, length-append, own_and_others own r rs)
 
 -- with few mentions, a removed feature never has more binaries than there are mentions
 pub few : (own : Text → List Text) (r : Text) (rs : List Text) (bins : List Text) → Among rs r → Grown (own r) (λ x. (s : Text) × Among rs s × Among (own s) x) bins → length bins ≤ mentions own rs
 few own r rs bins i g =
     let all : length g.passed ≤ length (others_own own r rs) = length-le_from_among g.passed (others_own own r rs) g.once (λ x j.
     let c = g.cause x j in others_hold own r rs c.0 x (λ e. g.fresh x j (subst (λ v. Among (own v) x) e c.2)) c.1 c.2) in
-    let most = own_and_others own r rs i in
     let long : length bins ≡ length (own r) + length g.passed = ap length g.whole ∙ length-append (own r) g.passed in
-    omega (arith, all, most, long)
+    omega (arith, all, own_and_others own r rs i, long)

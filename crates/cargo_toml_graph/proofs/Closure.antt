@@ -1,11 +1,8 @@
 -- Between kept features, what enables what transitively is as it was before anything was removed.
-use Rattle.std.proofs.Common.{◌≡◌, ◌⊎◌, Bool, false, IsTrue, refl, sym, subst, inl, inr, ◌∙◌}
+use Rattle.std.proofs.Common.{◌≡◌, ◌⊎◌, Bool, false, IsTrue, refl, sym, subst, inl, inr, ◌∙◌, rules}
 use Rattle.std.proofs.lemmas.Bool.{false≢true, cases_Bool, false_from_ne_true}
-use Rattle.cargo_toml_graph.specs.Action.{Text}
-use Rattle.cargo_toml_graph.specs.Reach.{Reaches}
-use Rattle.cargo_toml_graph.specs.Reach.Reaches.{edge, through}
-use Rattle.cargo_toml_graph.specs.Graph.{Table, Edge, Resolution, IsKept, IsResolved, IsUnremoved, EnablesAtLast}
-use Rattle.cargo_toml_graph.specs.Kept.{NoneIsLeft}
+use Rattle.cargo_toml_graph.specs.{Action.Text, Reach.Reaches, Reach.Reaches.edge, Reach.Reaches.through, Graph.Table, Graph.Edge, Graph.Resolution, Graph.IsKept, Graph.IsResolved, Graph.IsUnremoved}
+use Rattle.cargo_toml_graph.specs.{Graph.EnablesAtLast, Kept.NoneIsLeft}
 
 pub chained : {K : Type 0} {E : K → K → Type 0} (S : K → Type 0) {a b c : K} → Reaches E S a b → S b → Reaches E S b c → Reaches E S a c
 chained S (edge e) s q = through e s q
@@ -60,8 +57,4 @@ module _ (t : Table) (removed : Text → Bool) (full m : Resolution) (u : IsUnre
 
 -- no removed name is left
 pub none_left : (t : Table) (removed : Text → Bool) (m : Resolution) → IsResolved t (λ v. IsTrue (removed v)) m → NoneIsLeft (λ v. IsTrue (removed v)) m
-none_left t removed m h = record {
-  features = λ r gone. false_from_ne_true _ (λ y. ((h.kept r).0 y).1 gone);
-  names = λ f r there gone. false_from_ne_true _ (λ y. ((h.names f r ((h.kept f).0 there)).0 y).1 gone);
-  enabled_by = λ f r there gone. false_from_ne_true _ (λ y. ((h.enabled_by f r ((h.kept f).0 there)).0 y).0.1 gone);
-}
+none_left t removed m h = search (rules, false_from_ne_true)

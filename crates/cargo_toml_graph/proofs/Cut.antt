@@ -1,14 +1,8 @@
 -- A table in the byte order of its names, cut to a limit.
-use Rattle.std.proofs.Common.{◌≡◌, ◌⊎◌, ◌+◌, ◌≤◌, ℕ, Bool, true, false, cond, ◌||◌, List, [], ◌∷◌, ◌++◌, map, filter, fold, take, length, length-append, nat_lt, codes, bytes_eq, count_by, append_assoc, arith, IsTrue, refl, sym, ap, subst, inl, inr, ◌∙◌}
-use Rattle.std.proofs.lemmas.Bool.{false≢true, le-ltb, ltb-false}
-use Rattle.std.proofs.lemmas.List.{append-nil}
-use Rattle.std.proofs.lemmas.List.Sums.{sum_by-cons}
-use Rattle.cargo_toml_graph.specs.Action.{Text}
-use Rattle.cargo_toml_graph.specs.Admitted.{Listed, is_below, is_admitted, admitted}
-use Rattle.cargo_toml_graph.specs.Reach.{Among, IsOnce}
-use Rattle.cargo_toml_graph.specs.Ascending.{Ascend}
-use Rattle.cargo_toml_graph.proofs.RedirectsInOrder.{below_one_way}
-use Rattle.cargo_toml_graph.proofs.SortedTexts.{first_below, others_ascend}
+use Rattle.std.proofs.Common.{◌≡◌, ◌⊎◌, ◌+◌, ◌≤◌, ℕ, Bool, true, false, cond, ◌||◌, List, [], ◌∷◌, ◌++◌, map, filter, fold, take, length, length-append, nat_lt, codes, bytes_eq, count_by, append_assoc, arith, IsTrue, refl, sym, ap, inl, inr, ◌∙◌, rules}
+use Rattle.std.proofs.lemmas.{Bool.false≢true, Bool.le-ltb, Bool.ltb-false, List.append-nil, List.Sums.sum_by-cons, Grind.common_steps}
+use Rattle.cargo_toml_graph.specs.{Action.Text, Admitted.Listed, Admitted.is_below, Admitted.is_admitted, Admitted.admitted, Reach.Among, Reach.IsOnce, Ascending.Ascend}
+use Rattle.cargo_toml_graph.proofs.{RedirectsInOrder.below_one_way, SortedTexts.first_below, SortedTexts.others_ascend}
 
 -- a name counts while there is room, and `default` always
 abbrev pub is_counted : ℕ → Listed → Text → Bool
@@ -52,11 +46,7 @@ not_itself a = false_from _ (λ i. below_one_way a a i i)
 -- no name is below n, where n is below each
 none_below : (n : Text) (es : Listed) → ((y : Text) → Among (names_of es) y → Below n y) → count_by (λ d. is_below d.0 n) es ≡ 0
 none_below n [] h = refl
-none_below n (e ∷ es) h =
-    let off : one (is_below e.0 n) ≡ 0 = ap one (not_below e.0 n (h e.0 (inl refl))) in
-    let rest : count_by (λ d. is_below d.0 n) es ≡ 0 = none_below n es (λ y i. h y (inr i)) in
-    let first : count_by (λ d. is_below d.0 n) (e ∷ es) ≡ one (is_below e.0 n) + count_by (λ d. is_below d.0 n) es = counted n e es in
-    omega (arith, first, off, rest)
+none_below n (e ∷ es) h = search (rules, not_below, counted, none_below n es)
 
 among_here : (ys : Listed) (e : Text × List Text) (es : Listed) → Among (names_of (ys ++ e ∷ es)) e.0
 among_here [] e es = inl refl
@@ -69,11 +59,7 @@ place [] e es a =
     let rest : count_by (λ d. is_below d.0 e.0) es ≡ 0 = none_below e.0 es (first_below e.0 (names_of es) a) in
     let first : count_by (λ d. is_below d.0 e.0) (e ∷ es) ≡ one (is_below e.0 e.0) + count_by (λ d. is_below d.0 e.0) es = counted e.0 e es in
     omega (arith, first, off, rest)
-place (y ∷ ys) e es a =
-    let on : one (is_below y.0 e.0) ≡ 1 = ap one (first_below y.0 (names_of (ys ++ e ∷ es)) a e.0 (among_here ys e es)) in
-    let rest : count_by (λ d. is_below d.0 e.0) (ys ++ e ∷ es) ≡ length ys = place ys e es (others_ascend y.0 (names_of (ys ++ e ∷ es)) a) in
-    let first : count_by (λ d. is_below d.0 e.0) (y ∷ ys ++ e ∷ es) ≡ one (is_below y.0 e.0) + count_by (λ d. is_below d.0 e.0) (ys ++ e ∷ es) = counted e.0 y (ys ++ e ∷ es) in
-    omega (arith, first, on, rest)
+place (y ∷ ys) e es a = grind (arith, common_steps, not_itself, none_below, first_below, counted, among_here, others_ascend, place ys e es)
 
 -- there is room among those that are taken as long as there is among those that were looked at
 abbrev Room : ℕ → Listed → Listed → Type 0
@@ -84,10 +70,7 @@ same_room limit taken ys (inl e) = ap (λ n. nat_lt n limit) e
 same_room limit taken ys (inr f) = le-ltb _ _ f.0 ∙ sym (le-ltb _ _ f.1)
 
 or_comm : (a b : Bool) → (a || b) ≡ (b || a)
-or_comm true true = refl
-or_comm true false = refl
-or_comm false true = refl
-or_comm false false = refl
+or_comm v0 v1 = grind (arith, common_steps)
 
 one_longer : (xs : Listed) (x : Text × List Text) → length (xs ++ x ∷ []) ≡ length xs + 1
 one_longer xs x = length-append xs (x ∷ [])
@@ -105,29 +88,11 @@ module _ (limit : ℕ) (all : Listed) (ascends : Ascends all) where
   kept es = map (first_of limit) (filter (λ e. is_admitted limit all e.0) es)
 
   same_test : (ys : Listed) (e : Text × List Text) (es taken : Listed) → ys ++ e ∷ es ≡ all → Room limit taken ys → is_admitted limit all e.0 ≡ is_counted limit taken e.0
-  same_test ys e es taken is r =
-      ap (λ n. bytes_eq e.0 (codes "default") || nat_lt n limit) (subst (λ l. count_by (λ d. is_below d.0 e.0) l ≡ length ys) is (place ys e es (subst Ascends (sym is) ascends)))
-      ∙ or_comm (bytes_eq e.0 (codes "default")) (nat_lt (length ys) limit) ∙ ap (λ b. b || bytes_eq e.0 (codes "default")) (sym (same_room limit taken ys r))
+  same_test ys e es taken is r = search (rules, place, or_comm, same_room)
 
   cut_from : (ys es taken : Listed) → ys ++ es ≡ all → Room limit taken ys → cut limit taken es ≡ taken ++ kept es
   cut_from ys [] taken is r = sym (append-nil taken)
-  cut_from ys (e ∷ es) taken is r = go (λ more room. cut_from (ys ++ e ∷ []) es more (next is) room) (is_counted limit taken e.0) refl
-    where
-      next : ys ++ e ∷ es ≡ all → (ys ++ e ∷ []) ++ es ≡ all
-      next h = append_assoc ys (e ∷ []) es ∙ h
-
-      full : (b : Bool) (d : Bool) → (b || d) ≡ false → b ≡ false
-      full true d h = absurd (false≢true (sym h))
-      full false d h = refl
-
-      go : ((more : Listed) → Room limit more (ys ++ e ∷ []) → cut limit more es ≡ more ++ kept es) → (b : Bool) → is_counted limit taken e.0 ≡ b → cut limit (cond b (taken ++ first_of limit e ∷ []) taken) es ≡ taken ++ map (first_of limit) (cond (is_admitted limit all e.0) (e ∷ filter (λ d. is_admitted limit all d.0) es) (filter (λ d. is_admitted limit all d.0) es))
-      go later true t =
-          later (taken ++ first_of limit e ∷ []) (room_taken limit taken ys (first_of limit e) e r)
-          ∙ append_assoc taken (first_of limit e ∷ []) (kept es)
-          ∙ sym (ap (λ b. taken ++ map (first_of limit) (cond b (e ∷ filter (λ d. is_admitted limit all d.0) es) (filter (λ d. is_admitted limit all d.0) es))) (same_test ys e es taken is r ∙ t))
-      go later false t =
-          later taken (room_left limit taken ys e (ltb-false _ _ (full (nat_lt (length taken) limit) _ t)) r)
-          ∙ sym (ap (λ b. taken ++ map (first_of limit) (cond b (e ∷ filter (λ d. is_admitted limit all d.0) es) (filter (λ d. is_admitted limit all d.0) es))) (same_test ys e es taken is r ∙ t))
+  cut_from ys (e ∷ es) taken is r = grind (arith, common_steps, append-nil, append_assoc, false≢true, room_taken, same_test, room_left, ltb-false, cut_from (ys ++ e ∷ []) es)
 
   -- what is taken one after another is what is admitted
   pub cut_is_admitted : cut limit [] all ≡ admitted limit all
@@ -136,12 +101,7 @@ module _ (limit : ℕ) (all : Listed) (ascends : Ascends all) where
 -- a name that is admitted is listed, and once
 kept_among : (limit : ℕ) (p : Text × List Text → Bool) (es : Listed) (n : Text) → Among (names_of (map (first_of limit) (filter p es))) n → Among (names_of es) n
 kept_among limit p [] n i = i
-kept_among limit p (e ∷ es) n i = go (λ h. kept_among limit p es n h) (p e) i
-  where
-    go : (Among (names_of (map (first_of limit) (filter p es))) n → Among (names_of es) n) → (b : Bool) → Among (names_of (map (first_of limit) (cond b (e ∷ filter p es) (filter p es)))) n → (n ≡ e.0) ⊎ Among (names_of es) n
-    go later true (inl s) = inl s
-    go later true (inr i) = inr (later i)
-    go later false i = inr (later i)
+kept_among limit p (e ∷ es) n i = search (rules, kept_among limit p es n)
 
 kept_once : (limit : ℕ) (p : Text × List Text → Bool) (es : Listed) → Ascends es → IsOnce (names_of (map (first_of limit) (filter p es)))
 kept_once limit p [] a = tt

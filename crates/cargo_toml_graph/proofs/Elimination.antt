@@ -1,12 +1,8 @@
 -- Features taken out one after another.
-use Rattle.std.proofs.Common.{◌⊎◌, ◌↔◌, IsTrue, List, [], ◌∷◌, refl, subst, inl, inr}
-use Rattle.cargo_toml_graph.specs.Action.{Text}
-use Rattle.cargo_toml_graph.specs.Reach.{With, Among, IsOnce}
-use Rattle.cargo_toml_graph.specs.Graph.{Table, Resolution, IsResolved, IsUnremoved}
-use Rattle.cargo_toml_graph.specs.Removal.{without_one, without_all}
-use Rattle.cargo_toml_graph.proofs.Unremoved.{resolved_unremoved}
-use Rattle.cargo_toml_graph.proofs.Members.{resolved_alike}
-use Rattle.cargo_toml_graph.proofs.OneRemoval.{step}
+use Rattle.std.proofs.Common.{◌⊎◌, ◌↔◌, IsTrue, List, [], ◌∷◌, refl, subst, inl, inr, arith, rules}
+use Rattle.std.proofs.lemmas.Grind.{common_steps}
+use Rattle.cargo_toml_graph.specs.{Action.Text, Reach.With, Reach.Among, Reach.IsOnce, Graph.Table, Graph.Resolution, Graph.IsResolved, Graph.IsUnremoved, Removal.without_one, Removal.without_all}
+use Rattle.cargo_toml_graph.proofs.{Unremoved.resolved_unremoved, Members.resolved_alike, OneRemoval.step}
 
 -- after the features of a list, those in S removed before
 abbrev pub After : (Text → Type 0) → List Text → Text → Type 0
@@ -15,18 +11,11 @@ After S (r ∷ rs) v = After (With S r) rs v
 
 pub steps : (t : Table) (rs : List Text) (S : Text → Type 0) (m : Resolution) → ((v : Text) → Among rs v → IsTrue (t.has v) × ¬ S v) → IsOnce rs → IsResolved t S m → IsResolved t (After S rs) (without_all rs m)
 steps t [] S m there once h = h
-steps t (r ∷ rs) S m there once h =
-    steps t rs (With S r) (without_one r m)
-    (λ v i. ((there v (inr i)).0, elim [ inl s ↦ (there v (inr i)).1 s | inr e ↦ once.0 (subst (Among rs) e i) ]))
-    once.1
-    (step t S m h r (there r (inl refl)).0 (there r (inl refl)).1)
+steps t (r ∷ rs) S m there once h = grind (arith, common_steps, step, steps t rs (With S r) (without_one r m) (λ v i. ((there v (inr i)).0, elim [ inl s ↦ (there v (inr i)).1 s | inr e ↦ once.0 (subst (Among rs) e i) ])) once.1 (step t S m h r (there r (inl refl)).0 (there r (inl refl)).1))
 
 pub after-among : (rs : List Text) (S : Text → Type 0) (v : Text) → After S rs v ↔ (S v ⊎ Among rs v)
 after-among [] S v = (inl, elim [ inl s ↦ s | inr i ↦ absurd i ])
-after-among (r ∷ rs) S v = (
-  λ a. elim ((after-among rs (With S r) v).0 a) [ inl w ↦ elim w [ inl s ↦ inl s | inr e ↦ inr (inl e) ] | inr i ↦ inr (inr i) ],
-  λ a. (after-among rs (With S r) v).1 (elim a [ inl s ↦ inl (inl s) | inr i ↦ elim i [ inl e ↦ inl (inr e) | inr i ↦ inr i ] ]),
-)
+after-among (r ∷ rs) S v = search (rules, after-among rs (With S r) v)
 
 -- features taken out one after another, in any order
 pub all_taken_out : (t : Table) (rs : List Text) (m : Resolution) → IsUnremoved t m → ((v : Text) → Among rs v → IsTrue (t.has v)) → IsOnce rs → IsResolved t (Among rs) (without_all rs m)

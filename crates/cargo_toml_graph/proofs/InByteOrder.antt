@@ -1,20 +1,10 @@
 -- Removed features in byte order, and what they pass on in that order.
-use Rattle.std.proofs.Common.{◌≡◌, ◌⊎◌, ◌↔◌, ◌≤◌, ◌&&◌, ◌||◌, not, Bool, true, false, IsTrue, cond, List, [], ◌∷◌, ◌++◌, take, bytes_eq, nat_eq, codes, refl, sym, ap, ap₂, subst, inl, inr, ◌∙◌}
-use Rattle.std.proofs.lemmas.Bool.{false≢true}
-use Rattle.std.specs.List.{starts_with}
-use Rattle.cargo_toml_graph.specs.Ascending.{Ascend}
-use Rattle.cargo_toml_graph.specs.Action.{Text}
-use Rattle.cargo_toml_graph.specs.Admitted.{is_below}
-use Rattle.cargo_toml_graph.specs.Reach.{Among, IsOnce}
-use Rattle.cargo_toml_graph.specs.Graph.{Table, Resolution, IsKept, IsUnremoved}
-use Rattle.cargo_toml_graph.specs.Removal.{is_removed, put_each, pass_bins, pass_all, unremoved, without_one, without_all}
-use Rattle.cargo_toml_graph.specs.Bins.{ArePassedOn, HasBins, IsComplete, mentions}
-use Rattle.cargo_toml_graph.proofs.Edges.{unremoved_is}
-use Rattle.cargo_toml_graph.proofs.Members.{reaches_within}
-use Rattle.cargo_toml_graph.proofs.PassedBins.{bins_are, bins_complete, grown_weaker, passed_alike}
-use Rattle.cargo_toml_graph.proofs.RedirectsInOrder.{below_one_way}
-use Rattle.cargo_toml_graph.proofs.SortedTexts.{first_below, one_ascends, others_ascend, put_first}
-use Rattle.cargo_toml_graph.proofs.Texts.{by_true}
+use Rattle.std.proofs.Common.{◌≡◌, ◌⊎◌, ◌↔◌, ◌≤◌, Bool, IsTrue, List, [], ◌∷◌, ◌++◌, refl, sym, ap₂, subst, inl, inr, ◌∙◌, arith, rules}
+use Rattle.std.proofs.lemmas.{Bool.false≢true, Grind.common_steps}
+use Rattle.cargo_toml_graph.specs.{Ascending.Ascend, Action.Text, Admitted.is_below, Reach.Among, Reach.IsOnce, Graph.Table, Graph.Resolution, Graph.IsKept, Graph.IsUnremoved, Removal.is_removed}
+use Rattle.cargo_toml_graph.specs.{Removal.pass_bins, Removal.pass_all, Removal.unremoved, Removal.without_one, Removal.without_all, Bins.ArePassedOn, Bins.HasBins, Bins.IsComplete, Bins.mentions}
+use Rattle.cargo_toml_graph.proofs.{Edges.unremoved_is, Members.reaches_within, PassedBins.bins_are, PassedBins.bins_complete, PassedBins.grown_weaker, PassedBins.passed_alike}
+use Rattle.cargo_toml_graph.proofs.{RedirectsInOrder.below_one_way, SortedTexts.first_below, SortedTexts.one_ascends, SortedTexts.others_ascend, SortedTexts.put_first, Texts.by_true}
 
 abbrev Below : Text → Text → Type 0
 Below a b = IsTrue (is_below a b)
@@ -62,45 +52,25 @@ pub record Alike (m n : Resolution) : Type 0 where
   pub enabled_by : (f e : Text) → m.enabled_by f e ≡ n.enabled_by f e
 
 alike_without : (r : Text) (m n : Resolution) → Alike m n → Alike (without_one r m) (without_one r n)
-alike_without r m n h = record {
-  names = λ f x. ap₂ (λ b c. cond b c (m.table.names f x)) (h.enabled_by r f) (ap₂ (λ b c. (b || c) && not (bytes_eq x r)) (h.names f x) (h.names r x))
-      ∙ ap (λ c. cond (n.enabled_by r f) ((n.table.names f x || n.table.names r x) && not (bytes_eq x r)) c) (h.names f x);
-  enabled_by = λ f e. ap₂ (λ b c. cond b c (m.enabled_by f e)) (h.enabled_by f r) (ap₂ (λ b c. (b || c) && not (bytes_eq e r)) (h.enabled_by f e) (h.enabled_by r e))
-      ∙ ap (λ c. cond (n.enabled_by f r) ((n.enabled_by f e || n.enabled_by r e) && not (bytes_eq e r)) c) (h.enabled_by f e);
-}
+alike_without r m n h = grind (arith, common_steps)
 
 -- they pass on the same, where own lists agree on the features of a set
 module _ (T : Text → Type 0) where
   pub passed_all_alike : (rs : List Text) (m n : Resolution) (own own' : Text → List Text) → Alike m n → ((v : Text) → Among rs v → T v) → ((v : Text) → T v → own v ≡ own' v) →
       (f : Text) → T f → pass_all rs m own f ≡ pass_all rs n own' f
   passed_all_alike [] m n own own' h inside same f k = same f k
-  passed_all_alike (r ∷ rs) m n own own' h inside same f k =
-      passed_all_alike rs (without_one r m) (without_one r n) (pass_bins m r own) (pass_bins n r own') (alike_without r m n h) (λ v i. inside v (inr i)) step f k
-    where
-      step : (v : Text) → T v → pass_bins m r own v ≡ pass_bins n r own' v
-      step v k =
-          ap (λ b. cond b (put_each (own v) (take 10 (own r))) (own v)) (h.names r v)
-          ∙ ap₂ (λ xs ys. cond (n.table.names r v) (put_each xs (take 10 ys)) xs) (same v k) (same r (inside r (inl refl)))
+  passed_all_alike (r ∷ rs) m n own own' h inside same f k = search (rules, alike_without, passed_all_alike rs (without_one r m) (without_one r n) (pass_bins m r own) (pass_bins n r own') (alike_without r m n h) (λ v i. inside v (inr i)))
 
 -- a resolution with nothing removed is the table's own
 pub unremoved_alike : (t : Table) (m : Resolution) → IsUnremoved t m → Alike m (unremoved t)
-unremoved_alike t m h =
-    let u = unremoved_is t in
-    record {
-      names = λ f x. h.names f x;
-      enabled_by = λ f e. by_true (m.enabled_by f e) ((unremoved t).enabled_by f e) (λ y. (u.enabled_by f e).1 ((h.enabled_by f e).0 y), λ y. (h.enabled_by f e).1 ((u.enabled_by f e).0 y));
-    }
+unremoved_alike t m h = search (rules, unremoved_is, by_true)
 
 pub alike_itself : (m : Resolution) → Alike m m
 alike_itself m = record { names = λ f x. refl; enabled_by = λ f e. refl }
 
 -- what is removed is there
 pub removed_there : (t : Table) (keep : Text → Bool) (f : Text) → IsTrue (is_removed t keep f) → IsTrue (t.has f)
-removed_there t keep f = go (t.has f) (starts_with nat_eq f (codes "_")) (not (keep f))
-  where
-    go : (h s k : Bool) → ((h && s) && k) ≡ true → h ≡ true
-    go true s k e = refl
-    go false s k e = absurd (false≢true e)
+removed_there t keep f = search (rules, false≢true)
 
 -- the last of a list passes on what the others have left it
 pub last_passes : (xs : List Text) (r : Text) (m : Resolution) (bins : Text → List Text) (f : Text) → pass_all (xs ++ r ∷ []) m bins f ≡ pass_bins (without_all xs m) r (pass_all xs m bins) f
@@ -110,10 +80,7 @@ last_passes (x ∷ xs) r m bins f = last_passes xs r (without_one x m) (pass_bin
 module _ (t : Table) (R : Text → Type 0) (own : Text → List Text) where
   -- what is passed on is one function of the table, what is removed and what binaries mention
   pub passed_once : (a b : Text → List Text) → ArePassedOn t R own a → ArePassedOn t R own b → (f : Text) → IsKept t R f → a f ≡ b f
-  passed_once a b p q f k =
-      let same : p.order ≡ q.order = one_order p.order q.order p.in_order.ascending q.in_order.ascending
-      (λ v. (λ i. (q.in_order.members v).1 ((p.in_order.members v).0 i), λ i. (p.in_order.members v).1 ((q.in_order.members v).0 i))) in
-      p.lists f k ∙ ap (λ order. pass_all order (unremoved t) own f) same ∙ sym (q.lists f k)
+  passed_once a b p q f k = search (rules, one_order)
 
   module _ (there : (v : Text) → R v → IsTrue (t.has v)) (bins : Text → List Text) (p : ArePassedOn t R own bins) (f : Text) (k : IsKept t R f) where
     into : (v : Text) → Among p.order v → R v

@@ -1,14 +1,10 @@
 -- What the items of a feature's list say together.
-use Rattle.std.proofs.Common.{ap, ◌≡◌, ◌⊎◌, ◌↔◌, IsTrue, List, [], ◌∷◌, Option, Some, None, bytes_eq, fold, refl, subst, inl, inr}
-use Rattle.std.proofs.lemmas.Bool.{false≢true, or_cases, or_left, or_right}
+use Rattle.std.proofs.Common.{◌≡◌, ◌⊎◌, ◌↔◌, IsTrue, List, [], ◌∷◌, Option, Some, None, fold, refl, subst, inl, inr, rules}
+use Rattle.std.proofs.lemmas.{Bool.false≢true, Bool.or_cases, Bool.or_left, Bool.or_right, Slice.Eq.bytes_eq-Decides}
 use Rattle.std.specs.List.{list_any}
-use Rattle.std.proofs.lemmas.Slice.Eq.{bytes_eq-Decides}
-use Rattle.cargo_toml_graph.specs.Action.{Text, Action, Item, IsJoin, join_option}
-use Rattle.cargo_toml_graph.specs.Action.Item.{Name, On}
-use Rattle.cargo_toml_graph.specs.Admitted.{Listed, items, item_names, action_on, names, joined_action}
-use Rattle.cargo_toml_graph.specs.Reach.{Among}
-use Rattle.cargo_toml_graph.proofs.Joins.{join_alike, join_halves, join_one}
-use Rattle.cargo_toml_graph.proofs.Texts.{same}
+use Rattle.cargo_toml_graph.specs.{Action.Text, Action.Action, Action.Item, Action.IsJoin, Action.join_option, Action.Item.Name, Action.Item.On, Admitted.Listed, Admitted.items, Admitted.item_names}
+use Rattle.cargo_toml_graph.specs.{Admitted.action_on, Admitted.names, Admitted.joined_action, Reach.Among}
+use Rattle.cargo_toml_graph.proofs.{Joins.join_alike, Joins.join_halves, Joins.join_one, Texts.same}
 
 module _ (listed : Listed) where
   -- some item of the list acts so on k
@@ -37,20 +33,8 @@ module _ (listed : Listed) where
 
   named : (x : Text) (is : List Item) → IsTrue (list_any (item_names x) is) ↔ Among is (Name x)
   named x [] = (λ e. false≢true e, λ i. absurd i)
-  named x (Name y ∷ is) = (
-    λ e. elim (or_cases (bytes_eq x y) _ e) [ inl s ↦ inl (ap Name (same s)) | inr l ↦ inr ((named x is).0 l) ],
-    elim [ inl s ↦ or_left (bytes_eq x y) _ ((bytes_eq-Decides x y).1 (inner s)) | inr i ↦ or_right (bytes_eq x y) _ ((named x is).1 i) ],
-  )
-    where
-      inner : Name x ≡ Name y → x ≡ y
-      inner e = cc
-  named x (On k a ∷ is) = (
-    λ e. inr ((named x is).0 e),
-    elim [ inl s ↦ absurd (other s) | inr i ↦ (named x is).1 i ],
-  )
-    where
-      other : Name x ≡ On k a → ⊥
-      other e = cc
+  named x (Name y ∷ is) = search (rules, false≢true, or_cases, same, or_left, bytes_eq-Decides, or_right, named x is)
+  named x (On k a ∷ is) = search (rules, false≢true, or_cases, same, or_left, bytes_eq-Decides, or_right, named x is)
 
   pub names_are_named : (f x : Text) → IsTrue (names listed f x) ↔ Among (items listed f) (Name x)
   names_are_named f x = named x (items listed f)

@@ -1,9 +1,6 @@
 -- Sets with the same members give the same paths.
 use Rattle.std.proofs.Common.{◌≡◌, IsTrue, Some, inl, inr}
-use Rattle.cargo_toml_graph.specs.Action.{Text}
-use Rattle.cargo_toml_graph.specs.Reach.{Reaches, GathersLabel}
-use Rattle.cargo_toml_graph.specs.Reach.Reaches.{edge, through}
-use Rattle.cargo_toml_graph.specs.Graph.{Table, Resolution, IsKept, IsResolved}
+use Rattle.cargo_toml_graph.specs.{Action.Text, Reach.Reaches, Reach.GathersLabel, Reach.Reaches.edge, Reach.Reaches.through, Graph.Table, Graph.Resolution, Graph.IsKept, Graph.IsResolved}
 use Rattle.cargo_toml_graph.proofs.Joins.{join_alike}
 
 pub reaches_within : {K : Type 0} {E : K → K → Type 0} (S S' : K → Type 0) → ((v : K) → S v → S' v) → {a b : K} → Reaches E S a b → Reaches E S' a b

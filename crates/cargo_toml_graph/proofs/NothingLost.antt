@@ -1,12 +1,8 @@
 -- What a kept feature enables recursively loses no kept feature and no dependency.
-use Rattle.std.proofs.Common.{◌≡◌, Bool, false, IsTrue, IsFalse, Option, Some, None, refl, sym, subst, inl, inr, ◌∙◌}
+use Rattle.std.proofs.Common.{◌≡◌, Bool, false, IsTrue, IsFalse, Option, Some, refl, sym, subst, inl, inr, ◌∙◌, rules}
 use Rattle.std.proofs.lemmas.Bool.{false≢true, cases_Bool}
-use Rattle.cargo_toml_graph.specs.Action.{Text, Action, IsJoin}
-use Rattle.cargo_toml_graph.specs.Reach.{Reaches, Gathers}
-use Rattle.cargo_toml_graph.specs.Reach.Reaches.{edge}
-use Rattle.cargo_toml_graph.specs.Graph.{Table, Edge, Resolution, IsKept, IsResolved, IsUnremoved}
-use Rattle.cargo_toml_graph.specs.Recursive.{Enables, EnablesDependency}
-use Rattle.cargo_toml_graph.specs.Recursive.Enables.{itself, further}
+use Rattle.cargo_toml_graph.specs.{Action.Text, Action.Action, Action.IsJoin, Reach.Reaches, Reach.Gathers, Reach.Reaches.edge, Graph.Table, Graph.Edge, Graph.Resolution, Graph.IsKept}
+use Rattle.cargo_toml_graph.specs.{Graph.IsResolved, Graph.IsUnremoved, Recursive.Enables, Recursive.EnablesDependency, Recursive.Enables.itself, Recursive.Enables.further}
 use Rattle.cargo_toml_graph.proofs.Texts.{decided_text}
 use Rattle.cargo_toml_graph.proofs.OneRemoval as removal
 
@@ -46,16 +42,12 @@ module _ (t : Table) (removed : Text → Bool) (full m : Resolution) (u : IsUnre
       ]
 
   pub keeps_enabled : {f g : Text} → IsKept t (λ v. IsTrue (removed v)) f → IsKept t (λ v. IsTrue (removed v)) g → Enables full.table f g → Enables m.table f g
-  keeps_enabled {f} {g} k k' e =
-      let w : StillUnder f g = still_under k e in
-      elim (w.3) [ inl i ↦ subst (λ v. Enables m.table f v) (sym i) w.2 | inr q ↦ absurd (k'.1 q.0) ]
+  keeps_enabled {f} {g} k k' e = search (rules, still_under)
 
   joined_plain : {P : Action → Type 0} (o : Option Action) → IsJoin P o → (a : Action) → P a
       → IsFalse a.is_conditional → (j : Action) × (o ≡ Some j) × IsFalse j.is_conditional
       × ((x : Text) → IsTrue (a.features x) → IsTrue (j.features x))
-  joined_plain None j a p e = absurd (false≢true (j.there.1 (a, p)))
-  joined_plain (Some i) j a p e =
-      (i, refl, j.plain.1 (a, p, e), λ x asked. (j.features x).1 (a, p, asked))
+  joined_plain v0 v1 v2 v3 v4 = search (rules, false≢true)
 
   pub keeps_dependency : {f k g : Text} {a : Action} → IsKept t (λ v. IsTrue (removed v)) f
       → EnablesDependency full.table f k g a

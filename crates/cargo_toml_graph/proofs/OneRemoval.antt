@@ -1,14 +1,9 @@
 -- Taking one more feature out of a resolution with S removed leaves one with S and that feature removed.
-use Rattle.std.proofs.Common.{◌≡◌, ◌≢◌, ◌↔◌, Bool, true, false, not, cond, ◌&&◌, ◌||◌, IsTrue, Some, bytes_eq, refl, sym, subst, inl, inr, ◌∙◌}
+use Rattle.std.proofs.Common.{◌≡◌, ◌≢◌, ◌↔◌, Bool, true, false, not, cond, ◌&&◌, ◌||◌, IsTrue, Some, bytes_eq, refl, sym, subst, inl, inr, ◌∙◌, rules}
 use Rattle.std.proofs.lemmas.Bool.{false≢true, or_cases, or_left, or_right, and_parts, and_from}
-use Rattle.cargo_toml_graph.specs.Action.{Text, join_option, IsJoin}
-use Rattle.cargo_toml_graph.specs.Reach.{With, Reaches, Gathers, GathersLabel}
-use Rattle.cargo_toml_graph.specs.Reach.Reaches.{edge, through}
-use Rattle.cargo_toml_graph.specs.Graph.{Table, Edge, Resolution, IsKept, KeepsName, IsEnabledBy, Says, IsResolved}
-use Rattle.cargo_toml_graph.specs.Removal.{without_one}
-use Rattle.cargo_toml_graph.proofs.Texts.{apart_false, apart_from}
-use Rattle.cargo_toml_graph.proofs.Split.{widen, joined, split, label_split}
-use Rattle.cargo_toml_graph.proofs.Joins.{join_alike, join_halves}
+use Rattle.cargo_toml_graph.specs.{Action.Text, Action.join_option, Action.IsJoin, Reach.With, Reach.Reaches, Reach.Gathers, Reach.GathersLabel, Reach.Reaches.edge, Reach.Reaches.through, Graph.Table}
+use Rattle.cargo_toml_graph.specs.{Graph.Edge, Graph.Resolution, Graph.IsKept, Graph.KeepsName, Graph.IsEnabledBy, Graph.Says, Graph.IsResolved, Removal.without_one}
+use Rattle.cargo_toml_graph.proofs.{Texts.apart_false, Texts.apart_from, Split.widen, Split.joined, Split.split, Split.label_split, Joins.join_alike, Joins.join_halves}
 
 -- the end of a path is there
 pub target : {t : Table} {S : Text → Type 0} {a b : Text} → Reaches (Edge t) S a b → IsTrue (t.has b)
@@ -48,10 +43,7 @@ module _ (t : Table) (S : Text → Type 0) (m : Resolution) (h : IsResolved t S 
   newer f k ne = (k.0, elim [ inl s ↦ k.1 s | inr i ↦ ne i ])
 
   has_step : (f : Text) → IsTrue ((without_one r m).table.has f) ↔ IsKept t (With S r) f
-  has_step f = (
-    λ e. let p = and_parts (m.table.has f) _ e in newer f ((h.kept f).0 p.0) (apart_from f r p.1),
-    λ k. let o = older f k in and_from _ _ ((h.kept f).1 o.0) (apart_false f r o.1),
-  )
+  has_step f = search (rules, and_parts, newer, apart_from, older, and_from, apart_false)
 
   names_step : (f x : Text) → IsKept t (With S r) f → IsTrue ((without_one r m).table.names f x) ↔ KeepsName t (With S r) f x
   names_step f x k' = go (m.enabled_by r f) refl
@@ -110,34 +102,7 @@ module _ (t : Table) (S : Text → Type 0) (m : Resolution) (h : IsResolved t S 
           _ (h.action f d k)
 
   enabled_step : (f e : Text) → IsKept t (With S r) f → IsTrue ((without_one r m).enabled_by f e) ↔ IsEnabledBy t (With S r) f e
-  enabled_step f e k' = go (m.enabled_by f r) refl
-    where
-      k : IsKept t S f
-      k = (older f k').0
-
-      go : (b : Bool) → m.enabled_by f r ≡ b → IsTrue (cond b ((m.enabled_by f e || m.enabled_by r e) && not (bytes_eq e r)) (m.enabled_by f e)) ↔ IsEnabledBy t (With S r) f e
-      go true c = (
-        λ y. let p = and_parts (m.enabled_by f e || m.enabled_by r e) _ y in
-            let ne = apart_from e r p.1 in
-            elim (or_cases (m.enabled_by f e) _ p.0) [
-              | inl y ↦ let n = (h.enabled_by f e k).0 y in (newer e n.0 ne, widen _ S r n.1)
-              | inr y ↦ let n = (h.enabled_by r e kept_r).0 y in (newer e n.0 ne, joined _ S r n.1 ((h.enabled_by f r k).0 c).1)
-            ],
-        λ n. let o = older e n.0 in and_from _ _
-            (elim (split _ S r n.1) [
-              | inl p ↦ or_left _ _ ((h.enabled_by f e k).1 (o.0, p))
-              | inr pq ↦ or_right _ _ ((h.enabled_by r e kept_r).1 (o.0, pq.0))
-            ])
-            (apart_false e r o.1),
-      )
-      go false c = (
-        λ y. let n = (h.enabled_by f e k).0 y in
-            (newer e n.0 (λ i. false≢true (sym c ∙ subst (λ v. IsTrue (m.enabled_by f v)) i y)), widen _ S r n.1),
-        λ n. elim (split _ S r n.1) [
-          | inl p ↦ (h.enabled_by f e k).1 ((older e n.0).0, p)
-          | inr pq ↦ absurd (false≢true (sym c ∙ child_true f k pq.1))
-        ],
-      )
+  enabled_step f e k' = search (rules, older, and_parts, apart_from, or_cases, newer, widen, kept_r, joined, and_from, split, or_left, or_right, apart_false, false≢true, child_true)
 
   pub step : IsResolved t (With S r) (without_one r m)
   step = record { kept = has_step; names = names_step; enabled_by = enabled_step; action = action_step }

@@ -1,19 +1,13 @@
 -- What removed features pass on.
-use Rattle.std.proofs.Common.{◌≡◌, ◌⊎◌, ◌≤◌, Bool, true, false, IsTrue, cond, List, [], ◌∷◌, take, length, refl, sym, subst, inl, inr, ◌∙◌, take_all, le_trans, append-nil}
-use Rattle.std.proofs.lemmas.Bool.{false≢true}
-use Rattle.cargo_toml_graph.specs.Action.{Text}
-use Rattle.cargo_toml_graph.specs.Reach.{With, Among, IsOnce, Reaches, Gathers, GathersLabel}
-use Rattle.cargo_toml_graph.specs.Reach.Reaches.{edge, through}
-use Rattle.cargo_toml_graph.specs.Graph.{Table, Edge, Resolution, IsKept, IsResolved, IsUnremoved}
-use Rattle.cargo_toml_graph.specs.Removal.{without_one, put_each, pass_bins, pass_all}
+use Rattle.std.proofs.Common.{◌≡◌, ◌≤◌, Bool, true, false, IsTrue, cond, List, [], ◌∷◌, take, length, refl, sym, subst, inl, inr, ◌∙◌, take_all, le_trans, append-nil, arith, rules}
+use Rattle.std.proofs.lemmas.{Bool.false≢true, Grind.common_steps}
+use Rattle.cargo_toml_graph.specs.{Action.Text, Reach.With, Reach.Among, Reach.IsOnce, Reach.Reaches, Reach.Gathers, Reach.GathersLabel, Reach.Reaches.edge, Reach.Reaches.through, Graph.Table}
+use Rattle.cargo_toml_graph.specs.{Graph.Edge, Graph.Resolution, Graph.IsKept, Graph.IsResolved, Graph.IsUnremoved, Removal.without_one, Removal.put_each, Removal.pass_bins, Removal.pass_all}
 use Rattle.cargo_toml_graph.specs.Bins.{mentions, Grown, IsPassed, HasBins, IsComplete}
-use Rattle.cargo_toml_graph.proofs.Split.{split, label_split}
+use Rattle.cargo_toml_graph.proofs.{Split.split, Split.label_split, Unremoved.resolved_unremoved, Members.label_within, Members.reaches_within, Elimination.After, Elimination.after-among}
+use Rattle.cargo_toml_graph.proofs.{Texts.decided_text, BinLists.among-first, BinLists.among-either, BinLists.among-take, BinLists.among-taken, BinLists.put_keeps, BinLists.put_puts}
+use Rattle.cargo_toml_graph.proofs.BinLists.{put_grows, few}
 use Rattle.cargo_toml_graph.proofs.OneRemoval as removal
-use Rattle.cargo_toml_graph.proofs.Unremoved.{resolved_unremoved}
-use Rattle.cargo_toml_graph.proofs.Members.{label_within, reaches_within}
-use Rattle.cargo_toml_graph.proofs.Elimination.{After, after-among}
-use Rattle.cargo_toml_graph.proofs.Texts.{decided_text}
-use Rattle.cargo_toml_graph.proofs.BinLists.{among-first, among-either, among-take, among-taken, put_keeps, put_puts, put_grows, few}
 
 abbrev Names : Table → Text → Text → Type 0
 Names t b y = IsTrue (t.names b y)
@@ -95,31 +89,7 @@ module _ (t : Table) (own : Text → List Text) (S : Text → Type 0) (inside : 
 
     -- the step of complete bins: all of r's binaries are passed on
     complete_step : length (bins r) ≤ 10 → ((f : Text) → IsKept t S f → IsComplete t S own f (bins f)) → (f : Text) → IsKept t (With S r) f → IsComplete t (With S r) own f (pass_bins m r bins f)
-    complete_step small hc f k' s x i p j = go (split (Names t) S r p) i
-      where
-        k : IsKept t S f
-        k = older f k'
-
-        old : Among (bins f) x → Among (pass_bins m r bins f) x
-        old a = pick (m.table.names r f)
-          where
-            pick : (b : Bool) → Among (cond b (put_each (bins f) (take 10 (bins r))) (bins f)) x
-            pick true = put_keeps (bins f) (take 10 (bins r)) x a
-            pick false = a
-
-        given : Reaches (Names t) S r f → Among (bins r) x → Among (pass_bins m r bins f) x
-        given q a = subst (λ b. Among (cond b (put_each (bins f) (take 10 (bins r))) (bins f)) x)
-            (sym ((h.names r f (there, new)).1 (naming_gathers t S inside there q, k.1)))
-            (put_puts (bins f) (take 10 (bins r)) x (subst (λ xs. Among xs x) (sym (take_all 10 (bins r) small)) a))
-
-        own_r : s ≡ r → Among (bins r) x
-        own_r e = let g = (hb r (there, new)).lists in subst (λ xs. Among xs x) (sym g.whole) (among-first (own r) g.passed x (subst (λ v. Among (own v) x) e j))
-
-        go : Reaches (Names t) S s f ⊎ (Reaches (Names t) S s r × Reaches (Names t) S r f) → With S r s → Among (pass_bins m r bins f) x
-        go (inl q) (inl i) = old (hc f k s x i q j)
-        go (inl q) (inr e) = given (subst (λ v. Reaches (Names t) S v f) e q) (own_r e)
-        go (inr pq) (inl i) = given pq.1 (hc r (there, new) s x i pq.0 j)
-        go (inr pq) (inr e) = given pq.1 (own_r e)
+    complete_step small hc f k' s x i p j = grind (arith, common_steps, split, older, put_keeps, naming_gathers, put_puts, take_all, among-first)
 
 -- all of them, one after another
 module _ (t : Table) (own : Text → List Text) (all : List Text) where
@@ -157,10 +127,7 @@ passed_alike t own S S' into f x p = (p.0, into p.0 p.1, p.2, label_within (Name
 
 -- nothing is passed on before anything is removed
 at_first : (t : Table) (own : Text → List Text) (f : Text) → HasBins t (λ _. ⊥) own f (own f)
-at_first t own f = record {
-  lists = record { passed = []; whole = sym (append-nil (own f)); once = tt; fresh = λ x i. absurd i; cause = λ x i. absurd i };
-  direct = λ r x i n j. absurd i;
-}
+at_first t own f = search (rules, append-nil)
 
 module _ (t : Table) (own : Text → List Text) (rs : List Text) (m : Resolution) (start : IsUnremoved t m) (there : (v : Text) → Among rs v → IsTrue (t.has v)) (once : IsOnce rs) where
   into : (v : Text) → After (λ _. ⊥) rs v → Among rs v

@@ -1,31 +1,14 @@
 -- What a removed feature names at its turn, where they are taken in ascending order.
-use Rattle.std.proofs.Common.{◌↔◌, IsTrue, List, [], ◌∷◌, ◌++◌, refl, sym, ap, subst, inl, inr, ◌∙◌, ◌≡◌}
-use Rattle.std.proofs.lemmas.Bool.{false≢true}
-use Rattle.std.proofs.lemmas.Cmp.{nat_list_cmp_total}
-use Rattle.std.specs.Cmp.Lexicographic.{slice_cmp}
-use Rattle.std.specs.Ordering.{nat_cmp, is_lt, ordering_reverse}
-use Rattle.std.specs.declared.cmp.Ordering.{Ordering}
-use Rattle.std.specs.declared.cmp.Ordering.TheVariants.{Less, Equal, Greater}
-use Rattle.cargo_toml_graph.specs.Ascending.{Ascend}
-use Rattle.cargo_toml_graph.specs.Action.{Text}
-use Rattle.cargo_toml_graph.specs.Admitted.{is_below}
-use Rattle.cargo_toml_graph.specs.Reach.{Among, IsOnce}
-use Rattle.cargo_toml_graph.specs.Graph.{Table, Resolution, IsKept, IsUnremoved}
-use Rattle.cargo_toml_graph.specs.Removal.{without_all}
+use Rattle.std.proofs.Common.{◌↔◌, IsTrue, List, [], ◌∷◌, ◌++◌, refl, sym, subst, inl, inr, rules}
+use Rattle.std.proofs.lemmas.{Bool.false≢true, Cmp.nat_list_cmp_total}
+use Rattle.cargo_toml_graph.specs.{Ascending.Ascend, Action.Text, Admitted.is_below, Reach.Among, Reach.IsOnce, Graph.Table, Graph.Resolution, Graph.IsKept, Graph.IsUnremoved, Removal.without_all}
 use Rattle.cargo_toml_graph.specs.Redirects.{RedirectsTo}
-use Rattle.cargo_toml_graph.proofs.Members.{label_within}
-use Rattle.cargo_toml_graph.proofs.Elimination.{all_taken_out}
-use Rattle.cargo_toml_graph.proofs.BinLists.{among-first, among-second, among-either}
-use Rattle.cargo_toml_graph.proofs.SortedTexts.{first_below, others_ascend}
+use Rattle.cargo_toml_graph.proofs.{Members.label_within, Elimination.all_taken_out, BinLists.among-first, BinLists.among-second, BinLists.among-either, SortedTexts.first_below}
+use Rattle.cargo_toml_graph.proofs.SortedTexts.{others_ascend}
 
 -- no text is below one that is below it
 pub below_one_way : (a b : Text) → IsTrue (is_below a b) → IsTrue (is_below b a) → ⊥
-below_one_way a b = go (slice_cmp nat_cmp a b) (slice_cmp nat_cmp b a) (nat_list_cmp_total.antisymm a b)
-  where
-    go : (o p : Ordering) → o ≡ ordering_reverse p → IsTrue (is_lt o) → IsTrue (is_lt p) → ⊥
-    go o Less e x y = false≢true (ap is_lt (sym e) ∙ x)
-    go o Equal e x y = false≢true y
-    go o Greater e x y = false≢true y
+below_one_way a b = search (rules, nat_list_cmp_total, false≢true)
 
 abbrev Below : Text → Text → Type 0
 Below a b = IsTrue (is_below a b)
@@ -52,13 +35,7 @@ module _ (t : Table) (before : List Text) (r : Text) (after : List Text) (m : Re
   into v i = (among-first before (r ∷ after) v i, earlier_below before (r ∷ after) ascending v r i (inl refl))
 
   back : (v : Text) → Earlier v → Among before v
-  back v e = elim (among-either before (r ∷ after) v e.0) [
-    | inl i ↦ i
-    | inr i ↦ elim i [
-      | inl same ↦ let b : Below r r = subst (λ u. Below u r) same e.1 in absurd (below_one_way r r b b)
-      | inr i ↦ absurd (below_one_way v r e.1 (first_below r after (rest_ascends before (r ∷ after) ascending) v i))
-    ]
-  ]
+  back v e = search (rules, among-either, below_one_way, first_below, rest_ascends)
 
   pub redirect_by_bytes : (x : Text) → IsTrue ((without_all before m).table.names r x) ↔ RedirectsTo t (Among (before ++ r ∷ after)) Below r x
   redirect_by_bytes x =

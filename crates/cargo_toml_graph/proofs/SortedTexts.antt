@@ -1,22 +1,12 @@
 -- Texts in byte order, taken apart and put together.
-use Rattle.std.proofs.Common.{◌≡◌, IsTrue, List, [], ◌∷◌, map, refl, sym, ap, subst, inl, inr}
-use Rattle.std.proofs.lemmas.Bool.{false≢true}
-use Rattle.std.proofs.lemmas.Map.Keys.{sorted_head, sorted_tail}
-use Rattle.std.specs.Cmp.Lexicographic.{slice_cmp}
-use Rattle.std.specs.List.{AllByRecursion}
-use Rattle.std.specs.List.Sorted.{IsStrictlySortedBy}
-use Rattle.std.specs.Ordering.{nat_cmp, is_lt}
-use Rattle.std.specs.declared.cmp.Ordering.{Ordering}
-use Rattle.std.specs.declared.cmp.Ordering.TheVariants.{Less, Equal, Greater}
-use Rattle.cargo_toml_graph.specs.Ascending.{Ascend}
-use Rattle.cargo_toml_graph.specs.Action.{Text}
-use Rattle.cargo_toml_graph.specs.Admitted.{is_below}
-use Rattle.cargo_toml_graph.specs.Reach.{Among}
+use Rattle.std.proofs.Common.{◌≡◌, IsTrue, List, [], ◌∷◌, map, refl, sym, ap, subst, inl, inr, rules}
+use Rattle.std.proofs.lemmas.{Bool.false≢true, Map.Keys.sorted_head, Map.Keys.sorted_tail}
+use Rattle.std.specs.{Cmp.Lexicographic.slice_cmp, List.AllByRecursion, List.Sorted.IsStrictlySortedBy, Ordering.nat_cmp, Ordering.is_lt, declared.cmp.Ordering.Ordering}
+use Rattle.std.specs.declared.cmp.Ordering.TheVariants.{Less}
+use Rattle.cargo_toml_graph.specs.{Ascending.Ascend, Action.Text, Admitted.is_below, Reach.Among}
 
 pub less_from : (o : Ordering) → IsTrue (is_lt o) → o ≡ Less
-less_from Less below = refl
-less_from Equal below = absurd (false≢true below)
-less_from Greater below = absurd (false≢true below)
+less_from v0 v1 = search (rules, false≢true)
 
 -- the first is below each after it
 pub first_below : (x : Text) (xs : List Text) → Ascend (x ∷ xs) → (y : Text) → Among xs y → IsTrue (is_below x y)

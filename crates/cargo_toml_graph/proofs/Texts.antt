@@ -1,8 +1,6 @@
 -- Texts are equal or not, as their bytes tell.
-use Rattle.std.proofs.Common.{◌≡◌, ◌≢◌, ◌⊎◌, Bool, true, false, not, IsTrue, bytes_eq, refl, sym, inl, inr, ◌∙◌, ◌↔◌}
-use Rattle.std.proofs.lemmas.Bool.{false≢true, cases_Bool, not-true, not_from_false, false_from_ne_true}
-use Rattle.std.proofs.lemmas.Slice.Eq.{bytes_eq-Decides}
-use Rattle.std.proofs.lemmas.Cmp.{nat_list_eq_equiv}
+use Rattle.std.proofs.Common.{◌≡◌, ◌≢◌, ◌⊎◌, Bool, true, not, IsTrue, bytes_eq, refl, sym, inl, inr, ◌∙◌, ◌↔◌, rules}
+use Rattle.std.proofs.lemmas.{Bool.false≢true, Bool.cases_Bool, Bool.not-true, Bool.not_from_false, Bool.false_from_ne_true, Slice.Eq.bytes_eq-Decides}
 use Rattle.cargo_toml_graph.specs.Action.{Text}
 
 pub same : {a b : Text} → IsTrue (bytes_eq a b) → a ≡ b
@@ -21,11 +19,8 @@ pub bytes_eq_refl : (a : Text) → bytes_eq a a ≡ true
 bytes_eq_refl a = (bytes_eq-Decides a a).1 refl
 
 pub bytes_eq_sym : (a b : Text) → bytes_eq a b ≡ bytes_eq b a
-bytes_eq_sym a b = nat_list_eq_equiv.symm a b
+bytes_eq_sym a b = search (rules, bytes_eq-Decides, false_from_ne_true, false≢true)
 
 -- tests that hold of the same are one
 pub by_true : (a b : Bool) → IsTrue a ↔ IsTrue b → a ≡ b
-by_true false false e = refl
-by_true false true e = absurd (false≢true (e.1 refl))
-by_true true false e = sym (e.0 refl)
-by_true true true e = refl
+by_true a b e = search (rules, false≢true)

@@ -1,9 +1,7 @@
 -- Where nothing is removed, the table itself is what a resolution holds.
 use Rattle.std.proofs.Common.{◌≡◌, IsTrue, Some, refl, sym, subst, inl, inr}
-use Rattle.cargo_toml_graph.specs.Action.{Text, IsJoin}
-use Rattle.cargo_toml_graph.specs.Reach.{Reaches, Gathers}
-use Rattle.cargo_toml_graph.specs.Reach.Reaches.{edge, through}
-use Rattle.cargo_toml_graph.specs.Graph.{Table, Edge, Resolution, Says, IsResolved, IsUnremoved}
+use Rattle.cargo_toml_graph.specs.{Action.Text, Action.IsJoin, Reach.Reaches, Reach.Gathers, Reach.Reaches.edge, Reach.Reaches.through, Graph.Table, Graph.Edge, Graph.Resolution, Graph.Says}
+use Rattle.cargo_toml_graph.specs.Graph.{IsResolved, IsUnremoved}
 use Rattle.cargo_toml_graph.proofs.Joins.{join_alike, join_one}
 
 pub resolved_unremoved : (t : Table) (m : Resolution) (Removed : Text → Type 0) → ((v : Text) → ¬ Removed v) → IsUnremoved t m → IsResolved t Removed m

@@ -1,38 +1,19 @@
 -- Worked examples of edges, removal and recursion.
-use Rattle.std.proofs.Common.{◌≡◌, ◌≢◌, ◌⊎◌, ◌↔◌, true, Some, Bool, false, ◌&&◌, ◌||◌, not, cond, IsTrue, List, [], ◌∷◌, map, is_some, codes, bytes_eq, refl, sym, subst, inl, inr, ◌∙◌}
-use Rattle.std.proofs.lemmas.Bool.{false≢true, or_cases, and_parts}
-use Rattle.std.proofs.lemmas.Slice.Eq.{bytes_eq-Decides}
+use Rattle.std.proofs.Common.{◌≡◌, ◌≢◌, ◌⊎◌, ◌↔◌, false, ◌&&◌, ◌||◌, not, IsTrue, List, [], ◌∷◌, map, is_some, codes, bytes_eq, refl, sym, subst, inl, inr, ◌∙◌, rules}
+use Rattle.std.proofs.lemmas.{Bool.false≢true, Bool.or_cases, Bool.and_parts, Slice.Eq.bytes_eq-Decides}
 use Rattle.std.specs.Map.{lookup}
-use Rattle.cargo_toml_graph.specs.Action.{Text}
-use Rattle.cargo_toml_graph.specs.Admitted.{Listed, is_explicit, is_below}
-use Rattle.cargo_toml_graph.specs.Examples.{features_alone, hidden_cycle, hidden_names_itself, left_of, ring}
-use Rattle.cargo_toml_graph.specs.Graph.{Table, KeepsName, IsEnabledBy, IsResolved, IsKept}
-use Rattle.cargo_toml_graph.specs.Reach.{Among, IsOnce}
-use Rattle.cargo_toml_graph.specs.Recursive.{Enables}
-use Rattle.cargo_toml_graph.specs.Recursive.Enables.{itself, further}
-use Rattle.cargo_toml_graph.specs.Redirects.{RedirectsTo}
-use Rattle.cargo_toml_graph.specs.Removal.{unremoved}
-use Rattle.cargo_toml_graph.proofs.Texts.{same, apart_from}
-use Rattle.cargo_toml_graph.proofs.Edges.{unremoved_is}
-use Rattle.cargo_toml_graph.proofs.Elimination.{all_taken_out}
-use Rattle.cargo_toml_graph.proofs.RedirectsInOrder.{redirect_by_bytes}
-use Rattle.cargo_toml_graph.proofs.SortedTexts.{one_ascends}
+use Rattle.cargo_toml_graph.specs.{Action.Text, Admitted.Listed, Admitted.is_explicit, Admitted.is_below, Examples.features_alone, Examples.hidden_cycle, Examples.hidden_names_itself}
+use Rattle.cargo_toml_graph.specs.{Examples.left_of, Examples.ring, Graph.Table, Graph.KeepsName, Graph.IsEnabledBy, Graph.IsResolved, Graph.IsKept, Reach.Among, Reach.IsOnce, Recursive.Enables}
+use Rattle.cargo_toml_graph.specs.{Recursive.Enables.itself, Recursive.Enables.further, Redirects.RedirectsTo, Removal.unremoved}
+use Rattle.cargo_toml_graph.proofs.{Texts.same, Texts.apart_from, Edges.unremoved_is, Elimination.all_taken_out, RedirectsInOrder.redirect_by_bytes, SortedTexts.one_ascends}
 
 -- an explicit name is `default` or listed
 looked_up : (listed : Listed) (f : Text) → IsTrue (is_some (lookup (bytes_eq f) listed)) → Among (map (λ e. e.0) listed) f
 looked_up [] f e = absurd (false≢true e)
-looked_up (l ∷ ls) f e = go (λ h. looked_up ls f h) (bytes_eq f l.0) refl e
-  where
-    go : (IsTrue (is_some (lookup (bytes_eq f) ls)) → Among (map (λ e. e.0) ls) f) → (b : Bool) → bytes_eq f l.0 ≡ b → IsTrue (is_some (cond b (Some l.1) (lookup (bytes_eq f) ls)))
-        → (f ≡ l.0) ⊎ Among (map (λ e. e.0) ls) f
-    go later true t e = inl (same t)
-    go later false t e = inr (later e)
+looked_up (l ∷ ls) f e = search (rules, false≢true, same, looked_up ls f)
 
 pub listed_explicit : (listed : Listed) (f : Text) → IsTrue (is_explicit listed f) → (f ≡ codes "default") ⊎ Among (map (λ e. e.0) listed) f
-listed_explicit listed f a = elim (or_cases (bytes_eq f (codes "default")) _ a) [
-  | inl i ↦ inl (same i)
-  | inr p ↦ inr (looked_up listed f p)
-]
+listed_explicit listed f a = search (rules, or_cases, same, looked_up)
 
 has_listed : (listed : Listed) (f : Text) → IsTrue ((features_alone listed).has f) → (f ≡ codes "default") ⊎ Among (map (λ e. e.0) listed) f
 has_listed listed f e = listed_explicit listed f e
@@ -153,11 +134,7 @@ enables_two t a b only named has x = (
 
 -- ---- a = ["b", "zz"], b = ["a"]
 ring_next : (g y : Text) → (g ≡ codes "a") ⊎ (g ≡ codes "b") → IsTrue (ring.names g y) → IsTrue (ring.has y) → (y ≡ codes "a") ⊎ (y ≡ codes "b")
-ring_next g y (inl a) n h = elim (or_cases (bytes_eq y (codes "b")) _ (subst (λ v. IsTrue (ring.names v y)) a n)) [
-  | inl i ↦ inr (same i)
-  | inr i ↦ let z : y ≡ codes "zz" = one i in absurd (false≢true (subst (λ v. IsTrue (ring.has v)) z h))
-]
-ring_next g y (inr b) n h = inl (one (subst (λ v. IsTrue (ring.names v y)) b n))
+ring_next v0 v1 v2 v3 v4 = search (rules, or_cases, same, one, false≢true)
 
 ring_only : {y : Text} → Enables ring (codes "a") y → (y ≡ codes "a") ⊎ (y ≡ codes "b")
 ring_only itself = inl refl

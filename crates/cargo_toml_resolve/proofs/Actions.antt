@@ -1,17 +1,10 @@
 -- Actions that a feature takes over, one after another.
 use Rattle.std.proofs.Common.{◌≡◌, Bool, true, false, cond, ◌||◌, List, [], ◌∷◌, ◌++◌, map, Option, Some, None, is_some, Bor, bytes_eq, option_map, refl, sym, ap, ap₂, ◌∙◌}
-use Rattle.std.proofs.lemmas.Bool.{false≢true}
-use Rattle.std.proofs.lemmas.List.{map_push}
-use Rattle.std.proofs.lemmas.Slice.Eq.{bytes_eq-Decides}
-use Rattle.std.specs.Cmp.Lexicographic.{slice_cmp}
-use Rattle.std.specs.Ordering.{nat_cmp}
-use Rattle.std.specs.BTreeMap.{BTreeMap, is_at}
-use Rattle.std.specs.Map.{lookup}
-use Rattle.std.specs.Map.Iter.{deref_pair}
+use Rattle.std.proofs.lemmas.{Bool.false≢true, List.map_push, Slice.Eq.bytes_eq-Decides}
+use Rattle.std.specs.{Cmp.Lexicographic.slice_cmp, Ordering.nat_cmp, BTreeMap.BTreeMap, BTreeMap.is_at, Map.lookup, Map.Iter.deref_pair}
 use Rattle.cargo_toml_graph.specs.Action.{Text, Action, join_option}
 use Rattle.cargo_toml_graph.proofs.JoinLaws.{join_option_assoc, join_option_self, join_option_none}
-use Rattle.cargo_toml_features.specs.declared.features.DepAction.{DepAction}
-use Rattle.cargo_toml_features.specs.Views.{action_of, action_at}
+use Rattle.cargo_toml_features.specs.{declared.features.DepAction.DepAction, Views.action_of, Views.action_at}
 use Rattle.cargo_toml_full.proofs.Gathering.{is_text_in}
 use Rattle.cargo_toml_resolve.proofs.Sets.{text_in_more}
 

@@ -2,20 +2,13 @@
 use Rattle.std.proofs.Common.{◌≡◌, ◌&&◌, not, Bool, true, false, List, Bor, Option, codes, nat_eq, IsFalse, IsSome, IsTrue, is_some, refl}
 use Rattle.std.proofs.lemmas.Bool.{false≢true}
 use Rattle.std.specs.List.{starts_with}
-use Rattle.cargo_toml_graph.specs.Action.{Text}
-use Rattle.cargo_toml_graph.specs.Admitted.{Listed}
-use Rattle.cargo_toml_graph.specs.Graph.{Table, IsResolved}
-use Rattle.cargo_toml_graph.specs.Kept.{KeepsEnabling, LosesNothing, NoneIsLeft}
-use Rattle.cargo_toml_graph.specs.Removal.{is_removed}
+use Rattle.cargo_toml_graph.specs.{Action.Text, Admitted.Listed, Graph.Table, Graph.IsResolved, Kept.KeepsEnabling, Kept.LosesNothing, Kept.NoneIsLeft, Removal.is_removed}
 use Rattle.cargo_toml_graph.proofs.AgainstAll as graph
 use Rattle.cargo_toml_graph.proofs.Closure as closure
 use Rattle.cargo_toml_graph.proofs.Members.{resolved_alike}
-use Rattle.cargo_toml_features.specs.Marks.{NamedDetails}
-use Rattle.cargo_toml_features.specs.Recorded.{Entry}
-use Rattle.cargo_toml_features.specs.Resolved.{Answer, IsAnswer, IsAnswerWithout, table_of}
+use Rattle.cargo_toml_features.specs.{Marks.NamedDetails, Recorded.Entry, Resolved.Answer, Resolved.IsAnswer, Resolved.IsAnswerWithout, Resolved.table_of}
 use Rattle.cargo_toml_features.proofs.Agreement.{settled}
-use Rattle.cargo_toml_resolve.specs.Filter.{Asked}
-use Rattle.cargo_toml_resolve.specs.Removed.{AgreesWithAll, IsAnswerBy, IsRemovedBy}
+use Rattle.cargo_toml_resolve.specs.{Filter.Asked, Removed.AgreesWithAll, Removed.IsAnswerBy, Removed.IsRemovedBy}
 use Rattle.cargo_toml_resolve.proofs.ByFilter.{answer_alike}
 
 -- where every name is kept, none is removed

@@ -1,24 +1,15 @@
 -- What the graph of numbers leaves to features is what removal leaves.
 use Rattle.std.proofs.Common.{◌≡◌, ◌↔◌, ◌<◌, ◌⊎◌, ℕ, Bool, true, false, List, length, Option, Some, None, Bor, IsTrue, is_some, refl, sym, ap, subst, inl, inr, ◌∙◌, arith}
 use Rattle.std.proofs.lemmas.Bool.{cases_Bool, false≢true}
-use Rattle.std.specs.HashMap.{HashMap}
-use Rattle.std.specs.List.{slice_get}
-use Rattle.std.specs.Option.{IsSomeAnd, option_and_then, option_map_or}
-use Rattle.cargo_toml_graph.specs.Action.{Text, Action, IsJoin}
-use Rattle.cargo_toml_graph.specs.Graph.{Table, IsKept, IsResolved, IsEnabledBy, KeepsName, ReachesThrough, Says}
-use Rattle.cargo_toml_graph.specs.Reach.{Reaches}
-use Rattle.cargo_toml_graph.specs.Reach.Reaches.{edge, through}
+use Rattle.std.specs.{HashMap.HashMap, List.slice_get, Option.IsSomeAnd, Option.option_and_then, Option.option_map_or}
+use Rattle.cargo_toml_graph.specs.{Action.Text, Action.Action, Action.IsJoin, Graph.Table, Graph.IsKept, Graph.IsResolved, Graph.IsEnabledBy, Graph.KeepsName, Graph.ReachesThrough, Graph.Says}
+use Rattle.cargo_toml_graph.specs.{Reach.Reaches, Reach.Reaches.edge, Reach.Reaches.through}
 use Rattle.cargo_toml_graph.proofs.Joins.{join_alike}
-use Rattle.cargo_toml_resolve.specs.Numbers.{IsPassed, IsWanted, PassesAny}
-use Rattle.cargo_toml_resolve.specs.Enabling.{EnablesThrough}
-use Rattle.cargo_toml_features.specs.Places.{nth_text}
-use Rattle.cargo_toml_resolve.specs.NumberedTables.{HasNumber, IsNaming, IsNumbered}
+use Rattle.cargo_toml_resolve.specs.{Numbers.IsPassed, Numbers.IsWanted, Numbers.PassesAny, Enabling.EnablesThrough, NumberedTables.HasNumber, NumberedTables.IsNaming, NumberedTables.IsNumbered}
+use Rattle.cargo_toml_resolve.specs.{KeptFeatures.IsKeptFeature, Holding.Holds, Holding.action_by}
+use Rattle.cargo_toml_features.specs.{Places.nth_text, declared.features.Feature.Feature, InOrder.AreInOrder, InOrder.AreTable, InOrder.feature_at, InOrder.names_of, Views.action_at, Views.set_has}
+use Rattle.cargo_toml_features.specs.Views.{resolution_of, value_at}
 use Rattle.cargo_toml_resolve.proofs.NumberedTables as numbered
-use Rattle.cargo_toml_features.specs.declared.features.Feature.{Feature}
-use Rattle.cargo_toml_features.specs.InOrder.{AreInOrder, AreTable, feature_at, names_of}
-use Rattle.cargo_toml_features.specs.Views.{action_at, set_has, resolution_of, value_at}
-use Rattle.cargo_toml_resolve.specs.KeptFeatures.{IsKeptFeature}
-use Rattle.cargo_toml_resolve.specs.Holding.{Holds, action_by}
 use Rattle.cargo_toml_resolve.proofs.InPlace.{name_in, stands_found, stands_in}
 
 -- a path to one of S begins by an edge to one

@@ -2,29 +2,14 @@
 use mathlib.Core.Bool.{beq}
 use Rattle.std.proofs.Common.{arith, ◌≡◌, ◌↔◌, ◌<◌, Bool, length, true, false, List, [], Bor, map, Option, Some, None, IsTrue, IfSome, is_some, option_map, refl, sym, ap, subst, ◌∙◌}
 use Rattle.std.proofs.lemmas.Bool.{false≢true}
-use Rattle.std.specs.BTreeSet.{BTreeSet}
-use Rattle.std.specs.List.{IsAnyAnswer, slice_index_or}
-use Rattle.std.specs.Option.{option_map_or}
-use Rattle.cargo_toml_graph.specs.Action.{Text}
-use Rattle.cargo_toml_graph.specs.Admitted.{Listed, is_below}
-use Rattle.cargo_toml_graph.specs.Bins.{ArePassedOn}
-use Rattle.cargo_toml_graph.specs.Graph.{Table}
-use Rattle.cargo_toml_graph.specs.Redirects.{RedirectsTo}
-use Rattle.cargo_toml_graph.specs.Removal.{unremoved}
+use Rattle.std.specs.{BTreeSet.BTreeSet, List.IsAnyAnswer, List.slice_index_or, Option.option_map_or}
+use Rattle.cargo_toml_graph.specs.{Action.Text, Admitted.Listed, Admitted.is_below, Bins.ArePassedOn, Graph.Table, Redirects.RedirectsTo, Removal.unremoved}
 use Rattle.cargo_toml_graph.proofs.InByteOrder.{alike_itself, passed_all_alike, passed_has}
-use Rattle.cargo_toml_features.specs.Places.{nth_text}
+use Rattle.cargo_toml_features.specs.{Places.nth_text, declared.features.Feature.Feature, declared.features.Features.Features, InOrder.AreTable, InOrder.feature_at, InOrder.names_of, Reached.IsKeyed}
+use Rattle.cargo_toml_features.specs.{Marks.NamedDetails, Marks.marked, Marks.marks_in, Marks.marks_of, Recorded.Entry, Recorded.entries_at, Recorded.recorded_of, Resolved.IsAnswerWithout}
+use Rattle.cargo_toml_features.specs.{Resolved.SameRecorded, Resolved.table_of, Views.answer_of, Views.set_has, Views.value_at}
 use Rattle.cargo_toml_dependencies.specs.Details.{plain_detail}
-use Rattle.cargo_toml_features.specs.declared.features.Feature.{Feature}
-use Rattle.cargo_toml_features.specs.declared.features.Features.{Features}
-use Rattle.cargo_toml_features.specs.InOrder.{AreTable, feature_at, names_of}
-use Rattle.cargo_toml_features.specs.Reached.{IsKeyed}
-use Rattle.cargo_toml_features.specs.Marks.{NamedDetails, marked, marks_in, marks_of}
-use Rattle.cargo_toml_features.specs.Recorded.{Entry, entries_at, recorded_of}
-use Rattle.cargo_toml_features.specs.Resolved.{IsAnswerWithout, SameRecorded, table_of}
-use Rattle.cargo_toml_features.specs.Views.{answer_of, set_has, value_at}
-use Rattle.cargo_toml_resolve.specs.KeptFeatures.{IsNamedAlike, own_bins}
-use Rattle.cargo_toml_resolve.specs.KeptByName.{AreKept}
-use Rattle.cargo_toml_resolve.specs.Numbering.{IsFlagged}
+use Rattle.cargo_toml_resolve.specs.{KeptFeatures.IsNamedAlike, KeptFeatures.own_bins, KeptByName.AreKept, Numbering.IsFlagged}
 use Rattle.cargo_toml_resolve.proofs.InPlace.{found_stands}
 
 -- the key of a feature that may be there

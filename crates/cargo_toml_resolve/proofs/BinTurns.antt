@@ -1,14 +1,10 @@
 -- Removed places pass binaries on, turn after turn.
 use Rattle.std.proofs.Common.{◌≡◌, ◌⊎◌, ◌<◌, ◌≤◌, ◌+◌, ◌&&◌, ◌||◌, ℕ, zero, suc, true, false, Bool, List, [], ◌∷◌, cond, length, map, nat_eq, not, take, Bor, refl, sym, ap, ap₂, subst, inl, inr, ◌∙◌, arith, eq-eqb, eqb-true}
-use Rattle.std.proofs.lemmas.Bool.{cases_Bool, false≢true, or_cases, or_left, or_right}
-use Rattle.std.proofs.lemmas.Bool.Decides.{nat_tests}
+use Rattle.std.proofs.lemmas.{Bool.cases_Bool, Bool.false≢true, Bool.or_cases, Bool.or_left, Bool.or_right, Bool.Decides.nat_tests}
 use Rattle.std.specs.List.{list_any, slice_index_or, zip}
-use Rattle.cargo_toml_graph.specs.Action.{Text}
-use Rattle.cargo_toml_graph.specs.Reach.{Among}
-use Rattle.cargo_toml_graph.specs.Removal.{put_each}
-use Rattle.cargo_toml_resolve.specs.Numbers.{IsWanted, Leads, row_items}
+use Rattle.cargo_toml_graph.specs.{Action.Text, Reach.Among, Removal.put_each}
+use Rattle.cargo_toml_resolve.specs.{Numbers.IsWanted, Numbers.Leads, Numbers.row_items, Passing.bins_of, Passing.passed_below, Passing.passed_from}
 use Rattle.cargo_toml_features.specs.declared.features.Feature.{Feature}
-use Rattle.cargo_toml_resolve.specs.Passing.{bins_of, passed_below, passed_from}
 
 -- a test tells whether a number stands in a list
 pub stands_true : (xs : List ℕ) (y : ℕ) → Among xs y → list_any (nat_eq y) xs ≡ true

@@ -1,25 +1,13 @@
 -- Features that the filter refuses, by their flags, and answers without them.
 use Rattle.std.proofs.Common.{◌≡◌, ◌↔◌, ◌&&◌, ◌||◌, ◌<◌, not, ℕ, zero, suc, Bool, true, false, List, [], ◌∷◌, length, Bor, Option, Some, None, IfSome, IsTrue, is_some, bytes_eq, codes, nat_eq, arith, refl, sym, subst, inl, inr, ◌∙◌}
-use Rattle.std.proofs.lemmas.Bool.{false≢true, and_from, and_parts, or_cases, or_left, or_right}
-use Rattle.std.proofs.lemmas.Slice.Eq.{bytes_eq-Decides}
+use Rattle.std.proofs.lemmas.{Bool.false≢true, Bool.and_from, Bool.and_parts, Bool.or_cases, Bool.or_left, Bool.or_right, Slice.Eq.bytes_eq-Decides}
 use Rattle.std.specs.List.{slice_index_or, starts_with}
-use Rattle.cargo_toml_graph.specs.Action.{Text}
-use Rattle.cargo_toml_graph.specs.Admitted.{Listed, is_below}
-use Rattle.cargo_toml_graph.specs.Graph.{Table, IsKept}
-use Rattle.cargo_toml_graph.specs.Redirects.{RedirectsTo}
-use Rattle.cargo_toml_graph.specs.Removal.{is_removed}
-use Rattle.cargo_toml_graph.proofs.Members.{label_within, resolved_alike}
-use Rattle.cargo_toml_graph.proofs.PassedBins.{grown_weaker, passed_alike}
-use Rattle.cargo_toml_features.specs.declared.features.Feature.{Feature}
-use Rattle.cargo_toml_features.specs.InOrder.{AreInOrder, AreTable, names_of}
-use Rattle.cargo_toml_features.specs.Marks.{NamedDetails, details_listed}
-use Rattle.cargo_toml_features.specs.Recorded.{Entry}
-use Rattle.cargo_toml_features.specs.Resolved.{Answer, IsAnswer, IsAnswerWithout, table_of}
-use Rattle.cargo_toml_features.specs.Places.{nth_text}
+use Rattle.cargo_toml_graph.specs.{Action.Text, Admitted.Listed, Admitted.is_below, Graph.Table, Graph.IsKept, Redirects.RedirectsTo, Removal.is_removed}
+use Rattle.cargo_toml_graph.proofs.{Members.label_within, Members.resolved_alike, PassedBins.grown_weaker, PassedBins.passed_alike}
+use Rattle.cargo_toml_features.specs.{declared.features.Feature.Feature, InOrder.AreInOrder, InOrder.AreTable, InOrder.names_of, Marks.NamedDetails, Marks.details_listed, Recorded.Entry}
+use Rattle.cargo_toml_features.specs.{Resolved.Answer, Resolved.IsAnswer, Resolved.IsAnswerWithout, Resolved.table_of, Places.nth_text}
 use Rattle.cargo_toml_features.proofs.Marked.{told_by_listed}
-use Rattle.cargo_toml_resolve.specs.Numbers.{IsWanted}
-use Rattle.cargo_toml_resolve.specs.Filter.{Answers, Asked, HasNameFilter, IsFlagOf, IsHiddenName, FilterTells}
-use Rattle.cargo_toml_resolve.specs.Numbering.{IsFlagged}
+use Rattle.cargo_toml_resolve.specs.{Numbers.IsWanted, Filter.Answers, Filter.Asked, Filter.HasNameFilter, Filter.IsFlagOf, Filter.IsHiddenName, Filter.FilterTells, Numbering.IsFlagged}
 use Rattle.cargo_toml_resolve.specs.Removed.{IsAnswerBy, IsRemovedBy}
 use Rattle.cargo_toml_resolve.proofs.InPlace.{has_place}
 

@@ -1,16 +1,10 @@
 -- Removed vertices are taken out one after another, and a table follows.
 use Rattle.std.proofs.Common.{◌≡◌, ◌↔◌, ◌⊎◌, ◌<◌, ◌≤◌, ◌+◌, ℕ, Bool, true, false, List, Vec, length, get_or, replicate, refl, sym, ap, subst, inl, inr, ◌∙◌, arith}
-use Rattle.std.proofs.lemmas.Bool.{cases_eq, cases_lt, cases_Bool, false≢true}
-use Rattle.std.proofs.lemmas.List.{get_or_past, get_or-replicate, length-replicate}
-use Rattle.cargo_toml_graph.specs.Reach.{Among, Reaches, GathersLabel, With}
-use Rattle.cargo_toml_graph.specs.Reach.Reaches.{edge, through}
-use Rattle.cargo_toml_graph.proofs.Members.{reaches_within, label_within}
-use Rattle.cargo_toml_graph.proofs.Split.{widen, joined, split, label_split}
-use Rattle.cargo_toml_resolve.specs.Bits.{Gains, Holds}
-use Rattle.cargo_toml_resolve.specs.Dense.{IsTable}
-use Rattle.cargo_toml_resolve.specs.Numbers.{IsRedirect, IsWanted, Leads}
-use Rattle.cargo_toml_resolve.proofs.Steps.{has_row}
-use Rattle.cargo_toml_resolve.proofs.Cuts.{IsBelow, IsFinished}
+use Rattle.std.proofs.lemmas.{Bool.cases_eq, Bool.cases_lt, Bool.cases_Bool, Bool.false≢true, List.get_or_past, List.get_or-replicate, List.length-replicate}
+use Rattle.cargo_toml_graph.specs.{Reach.Among, Reach.Reaches, Reach.GathersLabel, Reach.With, Reach.Reaches.edge, Reach.Reaches.through}
+use Rattle.cargo_toml_graph.proofs.{Members.reaches_within, Members.label_within, Split.widen, Split.joined, Split.split, Split.label_split}
+use Rattle.cargo_toml_resolve.specs.{Bits.Gains, Bits.Holds, Dense.IsTable, Numbers.IsRedirect, Numbers.IsWanted, Numbers.Leads}
+use Rattle.cargo_toml_resolve.proofs.{Steps.has_row, Cuts.IsBelow, Cuts.IsFinished}
 
 -- the table has what another says
 pub table_alike : {Z : Type 0} (P Q : ℕ → ℕ → Type 0) (width n : ℕ) (table : List (Vec ℕ Z)) → ((a x : ℕ) → P a x ↔ Q a x) → IsTable P width n table → IsTable Q width n table

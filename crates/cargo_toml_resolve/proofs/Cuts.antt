@@ -1,11 +1,8 @@
 -- Rows in ascending order: a path through the removed vertices below r is cut at the first vertex that is not below the one that it left.
 use Rattle.std.proofs.Common.{◌≡◌, ◌≢◌, ◌⊎◌, ◌↔◌, ◌<◌, ◌≤◌, ◌+◌, ℕ, Bool, true, false, List, [], ◌∷◌, length, get_or, set, refl, sym, ap, subst, inl, inr, ◌∙◌, arith}
-use Rattle.std.proofs.lemmas.Bool.{cases_lt, cases_eq, false≢true}
-use Rattle.std.proofs.lemmas.List.{get_or-set_same, get_or-set_other}
-use Rattle.cargo_toml_graph.specs.Reach.{Among, Reaches, Gathers, GathersLabel}
-use Rattle.cargo_toml_graph.specs.Reach.Reaches.{edge, through}
-use Rattle.cargo_toml_graph.proofs.Closure.{chained}
-use Rattle.cargo_toml_graph.proofs.Members.{reaches_within}
+use Rattle.std.proofs.lemmas.{Bool.cases_lt, Bool.cases_eq, Bool.false≢true, List.get_or-set_same, List.get_or-set_other}
+use Rattle.cargo_toml_graph.specs.{Reach.Among, Reach.Reaches, Reach.Gathers, Reach.GathersLabel, Reach.Reaches.edge, Reach.Reaches.through}
+use Rattle.cargo_toml_graph.proofs.{Closure.chained, Members.reaches_within}
 use Rattle.cargo_toml_resolve.specs.Numbers.{IsWanted}
 
 module _ (E : ℕ → ℕ → Type 0) (R : ℕ → Type 0) (L : ℕ → ℕ → Type 0) where

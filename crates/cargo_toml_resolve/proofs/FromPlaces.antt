@@ -1,34 +1,15 @@
 -- From what stands in places to what is kept by name.
 use Rattle.std.proofs.Common.{◌≡◌, ◌↔◌, ◌<◌, ℕ, Bool, true, false, List, [], length, map, Option, Some, None, Bor, IsTrue, IsSome, IfSome, is_some, slice_get, refl, sym, ap, subst, inl, ◌∙◌, arith}
-use Rattle.std.specs.BTreeSet.{BTreeSet}
-use Rattle.std.specs.HashMap.{HashMap}
-use Rattle.std.specs.Option.{IsSomeAnd, option_map_or}
-use Rattle.cargo_toml_graph.specs.Action.{Text}
-use Rattle.cargo_toml_graph.specs.Admitted.{is_below}
-use Rattle.cargo_toml_graph.specs.Graph.{Table, IsKept}
-use Rattle.cargo_toml_graph.specs.Redirects.{RedirectsTo}
-use Rattle.cargo_toml_graph.specs.Removal.{pass_all, unremoved}
+use Rattle.std.specs.{BTreeSet.BTreeSet, HashMap.HashMap, Option.IsSomeAnd, Option.option_map_or}
+use Rattle.cargo_toml_graph.specs.{Action.Text, Admitted.is_below, Graph.Table, Graph.IsKept, Redirects.RedirectsTo, Removal.pass_all, Removal.unremoved}
 use Rattle.cargo_toml_graph.proofs.Texts.{by_true}
-use Rattle.cargo_toml_resolve.specs.Numbers.{IsWanted, Leads, row_items}
-use Rattle.cargo_toml_features.specs.Places.{nth_text}
-use Rattle.cargo_toml_resolve.specs.NumberedTables.{HasNumber, IsNaming, IsNumbered}
-use Rattle.cargo_toml_resolve.proofs.NumberedTables as numbered
-use Rattle.cargo_toml_features.specs.declared.features.Feature.{Feature}
-use Rattle.cargo_toml_features.specs.InOrder.{AreInOrder, AreTable, feature_at, names_of, table_among}
+use Rattle.cargo_toml_resolve.specs.{Numbers.IsWanted, Numbers.Leads, Numbers.row_items, NumberedTables.HasNumber, NumberedTables.IsNaming, NumberedTables.IsNumbered, declared.graph.Graph.Graph}
+use Rattle.cargo_toml_resolve.specs.{declared.graph.Walked.Walked, KeptFeatures.ArePassedAt, KeptFeatures.IsKeptFeature, KeptFeatures.IsNamedAlike, KeptFeatures.StandFor, KeptFeatures.own_bins}
+use Rattle.cargo_toml_resolve.specs.{HandingOver.HaveOwnSets, Holding.HasTextsOf, Holding.IsTextOf, KeptByName.AreKept, Numbering.IsFlagged, Placed.ArePlaced, Placed.AreHashed, Texts.texts_now}
+use Rattle.cargo_toml_features.specs.{Places.nth_text, declared.features.Feature.Feature, InOrder.AreInOrder, InOrder.AreTable, InOrder.feature_at, InOrder.names_of, InOrder.table_among}
 use Rattle.cargo_toml_features.specs.Views.{set_has, value_at}
-use Rattle.cargo_toml_resolve.specs.declared.graph.Graph.{Graph}
-use Rattle.cargo_toml_resolve.specs.declared.graph.Walked.{Walked}
-use Rattle.cargo_toml_resolve.specs.KeptFeatures.{ArePassedAt, IsKeptFeature, IsNamedAlike, StandFor, own_bins}
-use Rattle.cargo_toml_resolve.specs.HandingOver.{HaveOwnSets}
-use Rattle.cargo_toml_resolve.specs.Holding.{HasTextsOf, IsTextOf}
-use Rattle.cargo_toml_resolve.specs.KeptByName.{AreKept}
-use Rattle.cargo_toml_resolve.specs.Numbering.{IsFlagged}
-use Rattle.cargo_toml_resolve.specs.Placed.{ArePlaced, AreHashed}
-use Rattle.cargo_toml_resolve.specs.Texts.{texts_now}
-use Rattle.cargo_toml_resolve.proofs.Answered.{resolved_is}
-use Rattle.cargo_toml_resolve.proofs.InPlace.{name_in, stands_found, stands_in}
-use Rattle.cargo_toml_resolve.proofs.NumberingGraph.{same_removed}
-use Rattle.cargo_toml_resolve.proofs.Placing.{place_inside, stood}
+use Rattle.cargo_toml_resolve.proofs.NumberedTables as numbered
+use Rattle.cargo_toml_resolve.proofs.{Answered.resolved_is, InPlace.name_in, InPlace.stands_found, InPlace.stands_in, NumberingGraph.same_removed, Placing.place_inside, Placing.stood}
 use Rattle.cargo_toml_resolve.proofs.Renumbered.{renumbered}
 
 none_unless : {X : Type 0} (o : Option X) → ¬ IsSome o → o ≡ None
@@ -229,5 +210,4 @@ one_name old new flagged texts edges names flags n len own i j v w at at' same =
     (subst (λ c. k < c) (sym n.count) below, ap (λ x. x.now) (own k o.0 u o.1 here).key ∙ sym (n.vertices k below ∙ name_in old k o.0 o.1)) in
     let a = name i v at in
     let b = name j w at' in
-    let c = n.numbered.count in
-    n.numbered.one i j a.0 (let lt = b.0 in omega (arith, c, lt)) (sym a.1 ∙ same ∙ b.1)
+    n.numbered.one i j a.0 (let lt = b.0 in omega (arith, n.numbered.count, lt)) (sym a.1 ∙ same ∙ b.1)

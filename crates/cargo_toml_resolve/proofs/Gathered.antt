@@ -2,8 +2,7 @@
 use Rattle.std.proofs.Common.{◌≡◌, ◌↔◌, ◌⊎◌, List, [], ◌∷◌, ◌++◌, map, IsTrue, Bor, sym, subst, inl, inr}
 use Rattle.std.proofs.lemmas.List.{map_push}
 use Rattle.std.specs.BTreeSet.{BTreeSet}
-use Rattle.cargo_toml_graph.specs.Action.{Text}
-use Rattle.cargo_toml_graph.specs.Reach.{Among}
+use Rattle.cargo_toml_graph.specs.{Action.Text, Reach.Among}
 use Rattle.cargo_toml_features.specs.Views.{set_has}
 use Rattle.cargo_toml_resolve.specs.Texts.{texts_now}
 use Rattle.cargo_toml_resolve.proofs.InOrder.{among_keys}

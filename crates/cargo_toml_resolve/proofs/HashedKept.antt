@@ -1,16 +1,11 @@
 -- A map gets one kept feature after another.
 use Rattle.std.proofs.Common.{◌≡◌, ◌<◌, ◌+◌, ℕ, zero, suc, Bool, true, false, cond, List, [], ◌∷◌, length, drop, Option, Some, None, Bor, IfSome, IsSome, bytes_eq, is_some, slice_get, refl, sym, ap, subst, inl, inr, ◌∙◌, arith}
-use Rattle.std.proofs.lemmas.Bool.{cases_Bool, cases_eq, false_from_ne_true, false≢true}
-use Rattle.std.proofs.lemmas.List.{length-drop}
-use Rattle.std.proofs.lemmas.Slice.Eq.{bytes_eq-Decides}
+use Rattle.std.proofs.lemmas.{Bool.cases_Bool, Bool.cases_eq, Bool.false_from_ne_true, Bool.false≢true, List.length-drop, Slice.Eq.bytes_eq-Decides}
 use Rattle.std.specs.HashMap.{HashMap}
 use Rattle.cargo_toml_graph.specs.Action.{Text}
 use Rattle.cargo_toml_resolve.specs.Numbers.{IsWanted}
-use Rattle.cargo_toml_features.specs.declared.features.Feature.{Feature}
-use Rattle.cargo_toml_features.specs.Reached.{IsKeyed}
-use Rattle.cargo_toml_features.specs.Views.{value_at}
-use Rattle.cargo_toml_resolve.proofs.Placing.{place_inside}
-use Rattle.cargo_toml_resolve.proofs.InPlace.{some_same}
+use Rattle.cargo_toml_features.specs.{declared.features.Feature.Feature, Reached.IsKeyed, Views.value_at}
+use Rattle.cargo_toml_resolve.proofs.{Placing.place_inside, InPlace.some_same}
 
 no_element : (v : Feature) (ws : List Feature) → v ∷ ws ≡ [] → ⊥
 no_element v ws same = false≢true (sym (ap is_cons same))
@@ -43,10 +38,8 @@ next_there (x ∷ vs) (suc n) v ws e = next_there vs n v ws e
 -- where nothing comes any more, each that stands there came before
 pub all_dropped : (vs : List Feature) (n : ℕ) → drop n vs ≡ [] → (i : ℕ) (v : Feature) → slice_get vs i ≡ Some v → i < n
 all_dropped vs n none i v at =
-    let lt = place_inside vs i v at in
     let none_left : length (drop n vs) ≡ 0 = ap length none in
-    let long = length-drop n vs in
-    omega (arith, lt, none_left, long)
+    omega (arith, place_inside vs i v at, none_left, length-drop n vs)
 
 module _ {S : Type 0} (vs : List Feature) (flags : List Bool) where
   -- the map has the features without a flag in the places below n, and nothing else

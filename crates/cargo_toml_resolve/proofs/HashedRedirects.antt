@@ -1,21 +1,11 @@
 -- A map gets one redirect after another.
 use Rattle.std.proofs.Common.{◌≡◌, ◌<◌, ◌+◌, if◌then◌else◌, ℕ, Bool, true, false, List, length, get_or, set, slice_get, Bor, IsSome, Some, bytes_eq, is_some, refl, sym, ap, subst, inl, inr, ◌∙◌, arith, length-set}
-use Rattle.std.proofs.lemmas.Bool.{cases_Bool, cases_eq, false_from_ne_true, false≢true}
-use Rattle.std.proofs.lemmas.Slice.Eq.{bytes_eq-Decides}
-use Rattle.std.proofs.lemmas.Option.{same_Some, slice_get_read}
-use Rattle.std.specs.BTreeSet.{BTreeSet}
-use Rattle.std.specs.HashMap.{HashMap}
-use Rattle.std.specs.Option.{IsSomeAnd}
+use Rattle.std.proofs.lemmas.{Bool.cases_Bool, Bool.cases_eq, Bool.false_from_ne_true, Bool.false≢true, Slice.Eq.bytes_eq-Decides, Option.same_Some, Option.slice_get_read}
+use Rattle.std.specs.{BTreeSet.BTreeSet, HashMap.HashMap, Option.IsSomeAnd}
 use Rattle.cargo_toml_graph.specs.Action.{Text}
-use Rattle.cargo_toml_features.specs.Views.{value_at}
-use Rattle.cargo_toml_resolve.specs.Numbers.{IsWanted, row_items}
-use Rattle.cargo_toml_features.specs.Places.{nth_text}
-use Rattle.cargo_toml_resolve.specs.Holding.{HasTextsOf}
-use Rattle.cargo_toml_resolve.specs.Texts.{texts_now}
-use Rattle.cargo_toml_features.specs.declared.features.Feature.{Feature}
-use Rattle.cargo_toml_resolve.specs.HandingOver.{HandsOver}
-use Rattle.cargo_toml_resolve.proofs.AlikePlaces.{there_too}
-use Rattle.cargo_toml_resolve.proofs.TakingOver.{set_here, set_others}
+use Rattle.cargo_toml_features.specs.{Views.value_at, Places.nth_text, declared.features.Feature.Feature}
+use Rattle.cargo_toml_resolve.specs.{Numbers.IsWanted, Numbers.row_items, Holding.HasTextsOf, Texts.texts_now, HandingOver.HandsOver}
+use Rattle.cargo_toml_resolve.proofs.{AlikePlaces.there_too, TakingOver.set_here, TakingOver.set_others}
 
 module _ {S : Type 0} (redirects : List (List ℕ)) (flags : List Bool) (texts : List (Bor Text)) where
   -- the map has the redirects of the flagged numbers below n, and nothing else

@@ -1,17 +1,11 @@
 -- A map gets one value after another, each under the name of its place.
 use Rattle.std.proofs.Common.{◌≡◌, ◌<◌, ℕ, zero, suc, Bool, true, false, if◌then◌else◌, List, [], ◌∷◌, length, drop, get_or, Option, None, Bor, IsTrue, bytes_eq, refl, sym, ap, subst, inl, inr, ◌∙◌, arith}
 use Rattle.std.proofs.Math.Seq.{drop-cons}
-use Rattle.std.proofs.lemmas.List.{length-drop}
-use Rattle.std.proofs.lemmas.Slice.Eq.{bytes_eq-Decides}
-use Rattle.std.specs.HashMap.{HashMap}
-use Rattle.std.specs.Option.{option_or}
-use Rattle.cargo_toml_graph.specs.Action.{Text}
-use Rattle.cargo_toml_graph.specs.Admitted.{is_below}
-use Rattle.cargo_toml_graph.specs.Reach.{Among}
-use Rattle.cargo_toml_graph.proofs.RedirectsInOrder.{below_one_way}
+use Rattle.std.proofs.lemmas.{List.length-drop, Slice.Eq.bytes_eq-Decides}
+use Rattle.std.specs.{HashMap.HashMap, Option.option_or}
+use Rattle.cargo_toml_graph.specs.{Action.Text, Admitted.is_below, Reach.Among, Ascending.Ascend}
+use Rattle.cargo_toml_graph.proofs.{RedirectsInOrder.below_one_way, SortedTexts.first_below, SortedTexts.others_ascend}
 use Rattle.cargo_toml_features.specs.Views.{value_at}
-use Rattle.cargo_toml_graph.specs.Ascending.{Ascend}
-use Rattle.cargo_toml_graph.proofs.SortedTexts.{first_below, others_ascend}
 use Rattle.cargo_toml_full.specs.Slots.{held_among}
 use Rattle.cargo_toml_resolve.specs.Texts.{texts_now}
 
@@ -51,8 +45,7 @@ tail_or d (y ∷ ys) = ys
 pub comes_next : {X : Type 0} (xs : List X) (n : ℕ) (v : X) (ws : List X) → v ∷ ws ≡ drop n xs → (n < length xs) × (ws ≡ drop (suc n) xs)
 comes_next xs n v ws e =
     let long : suc (length ws) ≡ length (drop n xs) = ap length e in
-    let left_over = length-drop n xs in
-    let below : n < length xs = omega (arith, long, left_over) in
+    let below : n < length xs = omega (arith, long, length-drop n xs) in
     (below, ap (tail_or ws) (e ∙ drop-cons xs n v below))
 
 module _ {V S : Type 0} (names : List (Bor Text)) (values : List (Option V)) where

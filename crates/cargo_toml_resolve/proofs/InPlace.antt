@@ -1,18 +1,10 @@
 -- Features in order, by their places.
 use Rattle.std.proofs.Common.{◌≡◌, ◌↔◌, ◌<◌, if◌then◌else◌, ℕ, zero, suc, Bool, true, false, List, [], ◌∷◌, length, Option, Some, None, IsTrue, bytes_eq, is_some, refl, sym, ap, subst, inl, inr, ◌∙◌, arith}
-use Rattle.std.proofs.lemmas.Bool.{false≢true}
-use Rattle.std.proofs.lemmas.Option.{slice_get_cases}
-use Rattle.std.proofs.lemmas.Slice.Eq.{bytes_eq-Decides}
+use Rattle.std.proofs.lemmas.{Bool.false≢true, Option.slice_get_cases, Slice.Eq.bytes_eq-Decides}
 use Rattle.std.specs.List.{slice_get}
-use Rattle.cargo_toml_graph.specs.Action.{Text}
-use Rattle.cargo_toml_graph.specs.Admitted.{is_below}
-use Rattle.cargo_toml_graph.specs.Graph.{Table}
-use Rattle.cargo_toml_graph.specs.Reach.{Among}
-use Rattle.cargo_toml_graph.proofs.RedirectsInOrder.{below_one_way}
-use Rattle.cargo_toml_graph.proofs.SortedTexts.{first_below, others_ascend}
-use Rattle.cargo_toml_features.specs.Places.{nth_text}
-use Rattle.cargo_toml_features.specs.declared.features.Feature.{Feature}
-use Rattle.cargo_toml_features.specs.InOrder.{AreInOrder, AreTable, feature_at, names_of}
+use Rattle.cargo_toml_graph.specs.{Action.Text, Admitted.is_below, Graph.Table, Reach.Among}
+use Rattle.cargo_toml_graph.proofs.{RedirectsInOrder.below_one_way, SortedTexts.first_below, SortedTexts.others_ascend}
+use Rattle.cargo_toml_features.specs.{Places.nth_text, declared.features.Feature.Feature, InOrder.AreInOrder, InOrder.AreTable, InOrder.feature_at, InOrder.names_of}
 
 pub some_same : {v w : Feature} → Some v ≡ Some w → v ≡ w
 some_same e = cc

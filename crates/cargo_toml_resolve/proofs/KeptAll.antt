@@ -1,20 +1,12 @@
 -- Where no feature is removed, all are kept.
 use Rattle.std.proofs.Common.{◌≡◌, ◌↔◌, ℕ, Bool, false, List, [], Option, Some, None, Bor, IfOk, IfSome, IsSome, IsTrue, Result, Ok, Err, is_some, map, slice_get, refl, sym, ap, subst, ◌∙◌}
 use Rattle.std.proofs.lemmas.Bool.{false≢true, false_from_ne_true}
-use Rattle.std.specs.BTreeSet.{BTreeSet}
-use Rattle.std.specs.HashMap.{HashMap}
-use Rattle.std.specs.Option.{option_map_or}
-use Rattle.cargo_toml_graph.specs.Action.{Text}
-use Rattle.cargo_toml_graph.specs.Admitted.{is_below}
-use Rattle.cargo_toml_graph.specs.Graph.{IsUnremoved, Table}
-use Rattle.cargo_toml_graph.specs.Redirects.{RedirectsTo}
-use Rattle.cargo_toml_graph.proofs.SortedTexts.{none_ascend}
-use Rattle.cargo_toml_graph.proofs.Unremoved.{resolved_unremoved}
-use Rattle.cargo_toml_features.specs.declared.features.Feature.{Feature}
-use Rattle.cargo_toml_features.specs.InOrder.{AreInOrder, feature_at, resolution_among}
-use Rattle.cargo_toml_features.specs.Views.{action_at, set_has, resolution_of, value_at}
-use Rattle.cargo_toml_resolve.specs.KeptFeatures.{IsNamedAlike}
-use Rattle.cargo_toml_resolve.specs.KeptByName.{AreKept}
+use Rattle.std.specs.{BTreeSet.BTreeSet, HashMap.HashMap, Option.option_map_or}
+use Rattle.cargo_toml_graph.specs.{Action.Text, Admitted.is_below, Graph.IsUnremoved, Graph.Table, Redirects.RedirectsTo}
+use Rattle.cargo_toml_graph.proofs.{SortedTexts.none_ascend, Unremoved.resolved_unremoved}
+use Rattle.cargo_toml_features.specs.{declared.features.Feature.Feature, InOrder.AreInOrder, InOrder.feature_at, InOrder.resolution_among, Views.action_at, Views.set_has, Views.resolution_of}
+use Rattle.cargo_toml_features.specs.Views.{value_at}
+use Rattle.cargo_toml_resolve.specs.{KeptFeatures.IsNamedAlike, KeptByName.AreKept}
 use Rattle.cargo_toml_resolve.proofs.InPlace.{found_stands, stands_found}
 
 -- a map that has under each name the feature of that name holds what they hold

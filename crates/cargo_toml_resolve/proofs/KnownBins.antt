@@ -1,11 +1,9 @@
 -- Sets that say which binaries stand in the lists of features.
 use Rattle.std.proofs.Common.{◌≡◌, ◌||◌, ℕ, Bool, true, false, cond, not, List, [], ◌∷◌, ◌++◌, length, slice_get, Some, Bor, bytes_eq, IsTrue, refl, sym, ap, subst, inl, inr, ◌↔◌, ◌∙◌}
-use Rattle.std.proofs.lemmas.Bool.{false≢true}
-use Rattle.std.proofs.lemmas.Slice.Eq.{bytes_eq-Decides}
+use Rattle.std.proofs.lemmas.{Bool.false≢true, Slice.Eq.bytes_eq-Decides}
 use Rattle.std.proofs.Math.Bool.{or-false}
 use Rattle.std.specs.BTreeSet.{BTreeSet, btree_set_len}
-use Rattle.cargo_toml_graph.specs.Action.{Text}
-use Rattle.cargo_toml_graph.specs.Removal.{lists_text, put_each}
+use Rattle.cargo_toml_graph.specs.{Action.Text, Removal.lists_text, Removal.put_each}
 use Rattle.cargo_toml_features.specs.Views.{set_has}
 use Rattle.cargo_toml_resolve.specs.KnownBins.{Knows, MayKnow}
 

@@ -2,8 +2,7 @@
 use Rattle.std.proofs.Common.{◌↔◌, ◌<◌, ◌≤◌, ◌+◌, ℕ, Bool, true, false, List, [], take, length, get_or, refl, subst, inl, inr}
 use Rattle.cargo_toml_graph.specs.Reach.{Among, GathersLabel, Reaches}
 use Rattle.cargo_toml_resolve.specs.Numbers.{HasLabel, IsPassed, Leads, AreMarked, FindsNamed, IsWanted}
-use Rattle.cargo_toml_resolve.proofs.Linking.{last_edge, with_last}
-use Rattle.cargo_toml_resolve.proofs.Steps.{among_more, among_all, among_taken, then_visit, alike, no_visit}
+use Rattle.cargo_toml_resolve.proofs.{Linking.last_edge, Linking.with_last, Steps.among_more, Steps.among_all, Steps.among_taken, Steps.then_visit, Steps.alike, Steps.no_visit}
 
 module _ (labels : List (List ℕ)) (flags : List Bool) (wanted : Bool) where
   abbrev pub Labelled : (ℕ → Type 0) → ℕ → Type 0

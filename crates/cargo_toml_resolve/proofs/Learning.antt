@@ -1,37 +1,18 @@
 -- Enablers that features learn, place by place.
 use Rattle.std.proofs.Common.{◌≡◌, ◌≢◌, ◌↔◌, ◌⊎◌, ◌<◌, ◌+◌, ◌||◌, ◌∷◌, ℕ, suc, Bool, true, false, cond, List, [], length, map, get_or, set, slice_get, Option, Some, None, Bor, IsTrue, IfSome, is_some, option_map, bytes_eq, refl, sym, ap, subst, inl, inr, ◌∙◌, arith}
-use Rattle.std.proofs.lemmas.Bool.{cases_eq, false≢true, or_cases, or_left, or_right}
-use Rattle.std.proofs.lemmas.List.{length-map}
-use Rattle.std.proofs.lemmas.Option.{same_Some, slice_get_read, slice_get_within}
+use Rattle.std.proofs.lemmas.{Bool.cases_eq, Bool.false≢true, Bool.or_cases, Bool.or_left, Bool.or_right, List.length-map, Option.same_Some, Option.slice_get_read, Option.slice_get_within}
 use Rattle.std.proofs.lemmas.Slice.Eq.{bytes_eq-Decides}
-use Rattle.std.specs.BTreeSet.{BTreeSet}
-use Rattle.std.specs.BTreeSet.{btree_set_len}
-use Rattle.std.specs.BTreeMap.{btree_map_len, is_at}
-use Rattle.std.specs.Cmp.Lexicographic.{slice_cmp}
-use Rattle.std.specs.Map.{lookup}
-use Rattle.std.specs.Ordering.{nat_cmp}
-use Rattle.std.specs.HashMap.{HashMap}
+use Rattle.std.specs.{BTreeSet.BTreeSet, BTreeSet.btree_set_len, BTreeMap.btree_map_len, BTreeMap.is_at, Cmp.Lexicographic.slice_cmp, Map.lookup, Ordering.nat_cmp, HashMap.HashMap}
 use Rattle.std.specs.Option.{option_map_or}
-use Rattle.cargo_toml_graph.specs.Bins.{ArePassedOn}
-use Rattle.cargo_toml_graph.specs.Ascending.{Ascend}
-use Rattle.cargo_toml_graph.specs.Action.{Text}
-use Rattle.cargo_toml_graph.specs.Graph.{Edge, IsPlain, IsUnremoved, Table}
-use Rattle.cargo_toml_graph.specs.Reach.{Among}
-use Rattle.cargo_toml_features.specs.Places.{nth_text}
-use Rattle.cargo_toml_features.specs.declared.features.DepAction.{DepAction}
-use Rattle.cargo_toml_features.specs.declared.features.Feature.{Feature}
-use Rattle.cargo_toml_features.specs.InOrder.{AreInOrder, AreTable, HaveNoEnablers, feature_at, names_of, resolution_among}
-use Rattle.cargo_toml_features.specs.Marks.{FeatureMarks, marks_of}
-use Rattle.cargo_toml_features.specs.Views.{action_at, action_of, set_has, value_at}
+use Rattle.cargo_toml_graph.specs.{Bins.ArePassedOn, Ascending.Ascend, Action.Text, Graph.Edge, Graph.IsPlain, Graph.IsUnremoved, Graph.Table, Reach.Among}
+use Rattle.cargo_toml_features.specs.{Places.nth_text, declared.features.DepAction.DepAction, declared.features.Feature.Feature, InOrder.AreInOrder, InOrder.AreTable, InOrder.HaveNoEnablers}
+use Rattle.cargo_toml_features.specs.{InOrder.feature_at, InOrder.names_of, InOrder.resolution_among, Marks.FeatureMarks, Marks.marks_of, Views.action_at, Views.action_of, Views.set_has}
+use Rattle.cargo_toml_features.specs.Views.{value_at}
 use Rattle.cargo_toml_features.proofs.TextKeys.{none_in}
-use Rattle.cargo_toml_resolve.specs.Enabling.{AreSameButEnablers, GainEnabler, IsSameButEnablers, Leader, LeaderBelow, LeadsTo, LearnBy, LearnEach, Learns}
-use Rattle.cargo_toml_resolve.specs.KeptFeatures.{IsNamedAlike, own_bins}
-use Rattle.cargo_toml_resolve.specs.KeptByName.{AreKept}
-use Rattle.cargo_toml_resolve.specs.TakingOver.{ChangesIn}
-use Rattle.cargo_toml_resolve.specs.Texts.{texts_now}
-use Rattle.cargo_toml_resolve.proofs.AlikePlaces.{does_itself, each_itself, then_does, then_each, there_too}
-use Rattle.cargo_toml_resolve.proofs.InPlace.{found_stands, name_in, one_place, stands_found, stands_in}
-use Rattle.cargo_toml_resolve.proofs.TakingOver.{then_set, unchanged}
+use Rattle.cargo_toml_resolve.specs.Enabling.{AreSameButEnablers, GainEnabler, IsSameButEnablers, Leader, LeaderBelow, LeadsTo, LearnBy}
+use Rattle.cargo_toml_resolve.specs.{Enabling.LearnEach, Enabling.Learns, KeptFeatures.IsNamedAlike, KeptFeatures.own_bins, KeptByName.AreKept, TakingOver.ChangesIn, Texts.texts_now}
+use Rattle.cargo_toml_resolve.proofs.{AlikePlaces.does_itself, AlikePlaces.each_itself, AlikePlaces.then_does, AlikePlaces.then_each, AlikePlaces.there_too, InPlace.found_stands, InPlace.name_in}
+use Rattle.cargo_toml_resolve.proofs.{InPlace.one_place, InPlace.stands_found, InPlace.stands_in, TakingOver.then_set, TakingOver.unchanged}
 
 itself : (v : Feature) → IsSameButEnablers v v
 itself v = record { does = does_itself v; bins = refl }

@@ -1,7 +1,6 @@
 -- A path by its last edge.
 use Rattle.std.proofs.Common.{refl, sym, subst, inl, inr}
-use Rattle.cargo_toml_graph.specs.Reach.{Reaches, Gathers}
-use Rattle.cargo_toml_graph.specs.Reach.Reaches.{edge, through}
+use Rattle.cargo_toml_graph.specs.{Reach.Reaches, Reach.Gathers, Reach.Reaches.edge, Reach.Reaches.through}
 use Rattle.cargo_toml_graph.proofs.Closure.{chained}
 
 module _ {K : Type 0} (E : K → K → Type 0) (S : K → Type 0) where

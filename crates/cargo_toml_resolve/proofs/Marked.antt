@@ -1,7 +1,6 @@
 -- Stamps as marks.
 use Rattle.std.proofs.Common.{◌≡◌, ◌<◌, ◌≤◌, ℕ, zero, suc, Bool, true, false, List, [], ◌∷◌, length, get_or, set, map, replicate, nat_eq, refl, ap, ◌∙◌, arith}
-use Rattle.std.proofs.lemmas.List.{map-set}
-use Rattle.std.proofs.lemmas.Bool.Decides.{nat_tests}
+use Rattle.std.proofs.lemmas.{List.map-set, Bool.Decides.nat_tests}
 
 -- what stands at an epoch
 abbrev pub marks_at : ℕ → List ℕ → List Bool

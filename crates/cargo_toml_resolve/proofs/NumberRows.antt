@@ -1,31 +1,12 @@
 -- Rows of numbers, number after number.
 use Rattle.std.proofs.Common.{◌≡◌, ◌≢◌, ◌↔◌, ◌⊎◌, ◌<◌, ◌≤◌, ◌+◌, ℕ, zero, suc, Bool, true, false, List, [], ◌∷◌, ◌++◌, length, map, take, get_or, replicate, slice_get, IsTrue, Option, Some, None, is_some, option_map, Bor, refl, sym, ap, subst, inl, inr, ◌∙◌, arith}
-use Rattle.std.proofs.lemmas.Bool.{false≢true}
-use Rattle.std.proofs.lemmas.List.{length-map, map_push, take_all}
-use Rattle.std.proofs.lemmas.Map.Made.{is_some-lookup}
-use Rattle.std.specs.BTreeMap.{BTreeMap, is_at}
-use Rattle.std.specs.BTreeSet.{BTreeSet}
-use Rattle.std.specs.Cmp.Lexicographic.{slice_cmp}
-use Rattle.std.specs.Map.{lookup}
-use Rattle.std.specs.Map.Iter.{deref_pair}
-use Rattle.std.specs.Option.{IsSomeAnd}
-use Rattle.std.specs.Ordering.{nat_cmp}
-use Rattle.cargo_toml_graph.specs.Ascending.{Ascend}
-use Rattle.cargo_toml_graph.specs.Action.{Text}
-use Rattle.cargo_toml_graph.specs.Graph.{IsPlain}
-use Rattle.cargo_toml_graph.specs.Reach.{Among}
-use Rattle.cargo_toml_resolve.specs.Numbers.{IsWanted}
-use Rattle.cargo_toml_features.specs.Places.{nth_text}
+use Rattle.std.proofs.lemmas.{Bool.false≢true, List.length-map, List.map_push, List.take_all, Map.Made.is_some-lookup}
+use Rattle.std.specs.{BTreeMap.BTreeMap, BTreeMap.is_at, BTreeSet.BTreeSet, Cmp.Lexicographic.slice_cmp, Map.lookup, Map.Iter.deref_pair, Option.IsSomeAnd, Ordering.nat_cmp}
+use Rattle.cargo_toml_graph.specs.{Ascending.Ascend, Action.Text, Graph.IsPlain, Reach.Among}
+use Rattle.cargo_toml_resolve.specs.{Numbers.IsWanted, Enabling.LeadsTo, Numbering.Gains, Numbering.HasNames, Numbering.IsTarget, Texts.texts_now}
+use Rattle.cargo_toml_features.specs.{Places.nth_text, declared.features.DepAction.DepAction, declared.features.Feature.Feature, Views.action_at, Views.action_of, Views.set_has}
 use Rattle.cargo_toml_features.proofs.Places.{among_at, once}
-use Rattle.cargo_toml_features.specs.declared.features.DepAction.{DepAction}
-use Rattle.cargo_toml_features.specs.declared.features.Feature.{Feature}
-use Rattle.cargo_toml_features.specs.Views.{action_at, action_of, set_has}
-use Rattle.cargo_toml_resolve.specs.Enabling.{LeadsTo}
-use Rattle.cargo_toml_resolve.specs.Numbering.{Gains, HasNames, IsTarget}
-use Rattle.cargo_toml_resolve.specs.Texts.{texts_now}
-use Rattle.cargo_toml_resolve.proofs.Gathered.{all_seen, among_push, seen, seen_push}
-use Rattle.cargo_toml_resolve.proofs.Steps.{among_all, among_more, among_taken}
-use Rattle.cargo_toml_resolve.proofs.InOrder.{among_keys}
+use Rattle.cargo_toml_resolve.proofs.{Gathered.all_seen, Gathered.among_push, Gathered.seen, Gathered.seen_push, Steps.among_all, Steps.among_more, Steps.among_taken, InOrder.among_keys}
 
 -- nothing is gained
 pub none_gained : (n own : ℕ) (P : ℕ → Type 0) (row : List ℕ) → ((x : ℕ) → ¬ P x) → Gains n own P row row

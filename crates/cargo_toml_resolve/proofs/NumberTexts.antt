@@ -3,19 +3,11 @@ use Rattle.std.proofs.Common.{◌≡◌, ◌↔◌, ◌<◌, ◌≤◌, ℕ, Lis
 use Rattle.std.proofs.lemmas.Bool.{cases_lt, false≢true}
 use Rattle.std.proofs.lemmas.List.{get_or-take, get_or_append_left, length-append, length-map, length-take-le, take-map, take-take, take_all, take_at}
 use Rattle.std.specs.BTreeSet.{BTreeSet, btree_set_len}
-use Rattle.cargo_toml_graph.specs.Action.{Text}
-use Rattle.cargo_toml_graph.specs.Ascending.{Ascend}
-use Rattle.cargo_toml_graph.specs.Reach.{Among}
-use Rattle.cargo_toml_features.specs.Places.{nth_text}
-use Rattle.cargo_toml_features.specs.declared.features.Feature.{Feature}
-use Rattle.cargo_toml_features.specs.InOrder.{names_of}
-use Rattle.cargo_toml_features.specs.Views.{set_has}
-use Rattle.cargo_toml_features.proofs.Places.{among_at, once}
-use Rattle.cargo_toml_features.proofs.TextKeys.{none_in}
-use Rattle.cargo_toml_resolve.specs.Numbering.{AreTextsOf, Extends, HasNames, IsNodeOf}
-use Rattle.cargo_toml_resolve.specs.Texts.{texts_now}
-use Rattle.cargo_toml_resolve.proofs.Learning.{no_keys}
-use Rattle.cargo_toml_resolve.proofs.Gathered.{all_seen, among_push, seen, seen_push}
+use Rattle.cargo_toml_graph.specs.{Action.Text, Ascending.Ascend, Reach.Among}
+use Rattle.cargo_toml_features.specs.{Places.nth_text, declared.features.Feature.Feature, InOrder.names_of, Views.set_has}
+use Rattle.cargo_toml_features.proofs.{Places.among_at, Places.once, TextKeys.none_in}
+use Rattle.cargo_toml_resolve.specs.{Numbering.AreTextsOf, Numbering.Extends, Numbering.HasNames, Numbering.IsNodeOf, Texts.texts_now}
+use Rattle.cargo_toml_resolve.proofs.{Learning.no_keys, Gathered.all_seen, Gathered.among_push, Gathered.seen, Gathered.seen_push}
 
 pub extends_none : (n : ℕ) (ts : List Text) → Extends n ts ts
 extends_none n ts = record { front = take_all (length ts) ts (omega arith); apart = λ j le lt. absurd (omega (arith, le, lt)) }
@@ -56,10 +48,7 @@ fits_now n ts fits = let long = length-map ts (λ (t : Bor Text). t.now) in omeg
 
 pub texts_longer : (n : ℕ) (old new : List (Bor Text)) → n ≤ length old → Extends n (texts_now old) (texts_now new) → n ≤ length new
 texts_longer n old new fits h =
-    let more = longer n (texts_now old) (texts_now new) h in
-    let was = length-map old (λ (t : Bor Text). t.now) in
-    let is = length-map new (λ (t : Bor Text). t.now) in
-    omega (arith, more, was, is, fits)
+    omega (arith, longer n (texts_now old) (texts_now new) h, length-map old (λ (t : Bor Text). t.now), length-map new (λ (t : Bor Text). t.now), fits)
 
 pub front_text : (n : ℕ) (old new : List (Bor Text)) → n ≤ length old → Extends n (texts_now old) (texts_now new) → (x : ℕ) → x < n → nth_text (texts_now (take n new)) x ≡ nth_text (texts_now old) x
 front_text n old new fits h x lt =
@@ -71,8 +60,7 @@ pub extends_push : (n : ℕ) (ts : List Text) (name : Text) → ¬ Among (take n
 extends_push n ts name other = record {
   front = take_at ts (name ∷ []) (length ts) refl;
   apart = λ j le lt.
-      let long = length-append ts (name ∷ []) in
-      let at : j ≡ length ts = omega (arith, long, le, lt) in
+      let at : j ≡ length ts = omega (arith, length-append ts (name ∷ []), le, lt) in
       subst (λ k. ¬ Among (take n ts) k) (sym (ap (nth_text (ts ++ name ∷ [])) at ∙ last ts)) other;
 }
   where
@@ -95,9 +83,8 @@ node_pushed n ts name fits other = record {
   inside = let long = length-append ts (name ∷ []) in omega (arith, long);
   text = last ts;
   key = λ i lt is.
-      let long = length-take-le n ts fits in
       let there = get_or-take n ts i [] lt ∙ sym (get_or_append_left ts (name ∷ []) [] i (omega (arith, lt, fits))) ∙ is in
-      absurd (other (subst (Among (take n ts)) there (among_at (take n ts) i [] (omega (arith, long, lt)))));
+      absurd (other (subst (Among (take n ts)) there (among_at (take n ts) i [] (omega (arith, length-take-le n ts fits, lt)))));
 }
   where
     last : (us : List Text) → nth_text (us ++ name ∷ []) (length us) ≡ name
@@ -145,9 +132,7 @@ module _ (vs : List Feature) (texts : List Text) (h : AreTextsOf vs texts) where
   pub keys_fit : length vs ≤ length texts
   keys_fit = elim (cases_lt (length texts) (length vs)) [
     | inl less ↦
-        let long = length-map vs (λ (v : Feature). v.key.now) in
-        let whole = ap length (sym (take_all (length vs) texts (omega (arith, less))) ∙ h.keys) in
-        absurd (omega (arith, less, long, whole))
+        absurd (omega (arith, less, length-map vs (λ (v : Feature). v.key.now), ap length (sym (take_all (length vs) texts (omega (arith, less))) ∙ h.keys)))
     | inr le ↦ le
   ]
 

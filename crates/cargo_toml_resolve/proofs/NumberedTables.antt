@@ -2,12 +2,8 @@
 use Rattle.std.proofs.Common.{◌≡◌, ◌⊎◌, ◌↔◌, ◌<◌, ℕ, Bool, true, false, List, length, IsTrue, Some, refl, sym, subst, inl, inr, ◌∙◌, arith}
 use Rattle.std.proofs.lemmas.Bool.{false≢true, cases_Bool}
 use Rattle.std.specs.List.{slice_index_or}
-use Rattle.cargo_toml_graph.specs.Action.{Text, Action}
-use Rattle.cargo_toml_graph.specs.Admitted.{is_below}
-use Rattle.cargo_toml_graph.specs.Graph.{Table, Edge, ReachesThrough, KeepsName, IsEnabledBy, Says}
-use Rattle.cargo_toml_graph.specs.Reach.{Reaches, Gathers, GathersLabel}
-use Rattle.cargo_toml_graph.specs.Reach.Reaches.{edge, through}
-use Rattle.cargo_toml_graph.specs.Redirects.{RedirectsTo}
+use Rattle.cargo_toml_graph.specs.{Action.Text, Action.Action, Admitted.is_below, Graph.Table, Graph.Edge, Graph.ReachesThrough, Graph.KeepsName, Graph.IsEnabledBy, Graph.Says, Reach.Reaches}
+use Rattle.cargo_toml_graph.specs.{Reach.Gathers, Reach.GathersLabel, Reach.Reaches.edge, Reach.Reaches.through, Redirects.RedirectsTo}
 use Rattle.cargo_toml_graph.proofs.OneRemoval.{target}
 use Rattle.cargo_toml_resolve.specs.Numbers.{Leads, IsWanted, IsPassed, IsUnder, IsRedirect, KeepsLabel}
 use Rattle.cargo_toml_features.specs.Places.{nth_text}

@@ -1,23 +1,13 @@
 -- The graph of numbers that stands for features in order.
 use Rattle.std.proofs.Common.{◌≡◌, ◌↔◌, ◌⊎◌, ◌<◌, ◌≤◌, ℕ, Bool, true, false, List, [], length, slice_get, IsTrue, Option, Some, None, refl, sym, ap, subst, inl, inr, ◌∙◌, arith}
-use Rattle.std.proofs.lemmas.Bool.{false≢true, cases_lt}
-use Rattle.std.proofs.lemmas.List.{length-map, get_or_past}
+use Rattle.std.proofs.lemmas.{Bool.false≢true, Bool.cases_lt, List.length-map, List.get_or_past}
 use Rattle.std.specs.Option.{IsSomeAnd, option_map_or}
-use Rattle.cargo_toml_graph.specs.Action.{Text}
-use Rattle.cargo_toml_graph.specs.Admitted.{is_below}
-use Rattle.cargo_toml_graph.specs.Graph.{Table, Edge, IsPlain}
-use Rattle.cargo_toml_graph.specs.Reach.{Among}
-use Rattle.cargo_toml_resolve.specs.Numbers.{IsWanted, Leads}
-use Rattle.cargo_toml_features.specs.Places.{nth_text}
-use Rattle.cargo_toml_resolve.specs.NumberedTables.{HasNumber, IsNaming, IsNumbered}
+use Rattle.cargo_toml_graph.specs.{Action.Text, Admitted.is_below, Graph.Table, Graph.Edge, Graph.IsPlain, Reach.Among}
+use Rattle.cargo_toml_resolve.specs.{Numbers.IsWanted, Numbers.Leads, NumberedTables.HasNumber, NumberedTables.IsNaming, NumberedTables.IsNumbered, Enabling.LeadsTo, Numbering.AreRead}
+use Rattle.cargo_toml_resolve.specs.Numbering.{AreTextsOf, IsFlagged, place_names}
+use Rattle.cargo_toml_features.specs.{Places.nth_text, declared.features.Feature.Feature, InOrder.AreInOrder, InOrder.feature_at, InOrder.names_of, InOrder.table_among, Views.action_at, Views.set_has}
 use Rattle.cargo_toml_features.proofs.Places.{among_at, once, rises}
-use Rattle.cargo_toml_features.specs.declared.features.Feature.{Feature}
-use Rattle.cargo_toml_features.specs.InOrder.{AreInOrder, feature_at, names_of, table_among}
-use Rattle.cargo_toml_features.specs.Views.{action_at, set_has}
-use Rattle.cargo_toml_resolve.specs.Enabling.{LeadsTo}
-use Rattle.cargo_toml_resolve.specs.Numbering.{AreRead, AreTextsOf, IsFlagged, place_names}
-use Rattle.cargo_toml_resolve.proofs.NumberTexts.{key_text, keys_fit}
-use Rattle.cargo_toml_resolve.proofs.InPlace.{has_place, name_in, stands_found, stands_in}
+use Rattle.cargo_toml_resolve.proofs.{NumberTexts.key_text, NumberTexts.keys_fit, InPlace.has_place, InPlace.name_in, InPlace.stands_found, InPlace.stands_in}
 
 -- the same vertices are removed
 pub same_removed : (t : Table) (vs : List Feature) (kept : List Bool) (Removed : Text → Type 0) (texts : List Text) (edges names : List (List ℕ)) (flags : List Bool)

@@ -2,28 +2,14 @@
 use Rattle.std.proofs.Common.{◌≡◌, ◌↔◌, ◌<◌, ◌≤◌, ◌++◌, ℕ, zero, suc, Bool, true, false, cond, List, [], ◌∷◌, length, map, nat_eq, take, Some, IsTrue, slice_get, refl, sym, ap, ap₂, subst, inl, inr, ◌∙◌, arith}
 use Rattle.std.proofs.lemmas.Bool.{cases_eq, false≢true}
 use Rattle.std.specs.List.{list_any, slice_index_or}
-use Rattle.cargo_toml_graph.specs.Action.{Text}
-use Rattle.cargo_toml_graph.specs.Admitted.{is_below}
-use Rattle.cargo_toml_graph.specs.Graph.{KeepsName, Table}
-use Rattle.cargo_toml_graph.specs.Reach.{Among}
-use Rattle.cargo_toml_graph.specs.Redirects.{RedirectsTo}
-use Rattle.cargo_toml_graph.specs.Removal.{pass_all, put_each, unremoved, without_all}
-use Rattle.cargo_toml_graph.proofs.BinLists.{among-either, among-first, among-second}
-use Rattle.cargo_toml_graph.proofs.Edges.{unremoved_is}
-use Rattle.cargo_toml_graph.proofs.Elimination.{all_taken_out}
-use Rattle.cargo_toml_graph.proofs.InByteOrder.{ascending_last, ascending_once, last_passes}
-use Rattle.cargo_toml_graph.proofs.Members.{label_within}
-use Rattle.cargo_toml_graph.proofs.RedirectsInOrder.{below_one_way}
-use Rattle.cargo_toml_features.specs.Places.{nth_text}
-use Rattle.cargo_toml_graph.specs.Ascending.{Ascend}
-use Rattle.cargo_toml_graph.proofs.SortedTexts.{none_ascend}
-use Rattle.cargo_toml_graph.proofs.Texts.{by_true}
-use Rattle.cargo_toml_resolve.specs.NumberedTables.{HasNumber}
-use Rattle.cargo_toml_resolve.specs.Numbers.{IsWanted, Leads, row_items}
+use Rattle.cargo_toml_graph.specs.{Action.Text, Admitted.is_below, Graph.KeepsName, Graph.Table, Reach.Among, Redirects.RedirectsTo, Removal.pass_all, Removal.put_each, Removal.unremoved}
+use Rattle.cargo_toml_graph.specs.{Removal.without_all, Ascending.Ascend}
+use Rattle.cargo_toml_graph.proofs.{BinLists.among-either, BinLists.among-first, BinLists.among-second, Edges.unremoved_is, Elimination.all_taken_out, InByteOrder.ascending_last}
+use Rattle.cargo_toml_graph.proofs.{InByteOrder.ascending_once, InByteOrder.last_passes, Members.label_within, RedirectsInOrder.below_one_way, SortedTexts.none_ascend, Texts.by_true}
+use Rattle.cargo_toml_features.specs.{Places.nth_text, declared.features.Feature.Feature}
+use Rattle.cargo_toml_resolve.specs.{NumberedTables.HasNumber, Numbers.IsWanted, Numbers.Leads, Numbers.row_items, KeptFeatures.ArePassedAt, KeptFeatures.StandFor, Passing.passed_below}
+use Rattle.cargo_toml_resolve.specs.Passing.{passed_from}
 use Rattle.cargo_toml_resolve.proofs.NumberedTables as numbered
-use Rattle.cargo_toml_features.specs.declared.features.Feature.{Feature}
-use Rattle.cargo_toml_resolve.specs.KeptFeatures.{ArePassedAt, StandFor}
-use Rattle.cargo_toml_resolve.specs.Passing.{passed_below, passed_from}
 use Rattle.cargo_toml_resolve.proofs.BinTurns.{stands_true, true_stands}
 
 -- the texts of the flagged numbers below n

@@ -1,12 +1,9 @@
 -- What a feature and those that it passes do to dependencies, joined one after another.
 use Rattle.std.proofs.Common.{◌≡◌, ◌↔◌, ◌<◌, ◌≤◌, ◌⊎◌, ◌+◌, ℕ, List, [], length, take, get_or, Option, Some, refl, sym, ap, subst, inl, inr, ◌∙◌}
-use Rattle.std.specs.List.{slice_get}
-use Rattle.std.specs.Option.{option_and_then}
-use Rattle.cargo_toml_graph.specs.Action.{Text, Action, IsJoin, join_option}
-use Rattle.cargo_toml_graph.specs.Reach.{Among}
+use Rattle.std.specs.{List.slice_get, Option.option_and_then}
+use Rattle.cargo_toml_graph.specs.{Action.Text, Action.Action, Action.IsJoin, Action.join_option, Reach.Among}
 use Rattle.cargo_toml_graph.proofs.Joins.{join_alike, join_halves, join_one}
-use Rattle.cargo_toml_features.specs.declared.features.Feature.{Feature}
-use Rattle.cargo_toml_features.specs.Views.{action_at}
+use Rattle.cargo_toml_features.specs.{declared.features.Feature.Feature, Views.action_at}
 use Rattle.cargo_toml_resolve.proofs.Steps.{among_all, among_more, among_taken}
 use Rattle.cargo_toml_resolve.specs.Holding.{DoesAt, action_by}
 

@@ -1,28 +1,14 @@
 -- What features hold in their places once walks have been made and binaries are passed on.
 use Rattle.std.proofs.Common.{◌≡◌, ◌⊎◌, ◌↔◌, ◌<◌, ℕ, Bool, true, false, List, [], length, map, Option, Some, IsTrue, is_some, slice_get, sym, ap, subst, inl, inr, ◌∙◌}
-use Rattle.std.proofs.lemmas.Bool.{cases_lt, false≢true}
-use Rattle.std.proofs.lemmas.Option.{slice_get_past}
+use Rattle.std.proofs.lemmas.{Bool.cases_lt, Bool.false≢true, Option.slice_get_past}
 use Rattle.std.specs.Option.{option_map_or}
-use Rattle.cargo_toml_graph.specs.Action.{Text}
-use Rattle.cargo_toml_graph.specs.Admitted.{is_below}
-use Rattle.cargo_toml_graph.specs.Graph.{Table}
-use Rattle.cargo_toml_graph.specs.Redirects.{RedirectsTo}
-use Rattle.cargo_toml_resolve.specs.Numbers.{IsPassed, IsWanted, KeepsLabel, Leads}
-use Rattle.cargo_toml_features.specs.Places.{nth_text}
-use Rattle.cargo_toml_resolve.specs.NumberedTables.{HasNumber}
+use Rattle.cargo_toml_graph.specs.{Action.Text, Admitted.is_below, Graph.Table, Redirects.RedirectsTo}
+use Rattle.cargo_toml_resolve.specs.{Numbers.IsPassed, Numbers.IsWanted, Numbers.KeepsLabel, Numbers.Leads, NumberedTables.HasNumber, Enabling.EnablesThrough, KeptFeatures.ArePassedAt}
+use Rattle.cargo_toml_resolve.specs.{KeptFeatures.IsKeptFeature, KeptFeatures.IsNamedAlike, KeptFeatures.StandFor, KeptFeatures.own_bins, Holding.HasActions, Holding.HoldsNames, Holding.AllTakeOver}
+use Rattle.cargo_toml_resolve.specs.{Passing.AreSameButBins, Passing.bins_of, Passing.passed_below, Walking.AreRedirects}
+use Rattle.cargo_toml_features.specs.{Places.nth_text, declared.features.Feature.Feature, InOrder.HaveNoEnablers, InOrder.feature_at, Views.set_has}
 use Rattle.cargo_toml_resolve.proofs.NumberedTables as numbered
-use Rattle.cargo_toml_features.specs.declared.features.Feature.{Feature}
-use Rattle.cargo_toml_features.specs.InOrder.{HaveNoEnablers, feature_at}
-use Rattle.cargo_toml_features.specs.Views.{set_has}
-use Rattle.cargo_toml_resolve.specs.Enabling.{EnablesThrough}
-use Rattle.cargo_toml_resolve.specs.KeptFeatures.{ArePassedAt, IsKeptFeature, IsNamedAlike, StandFor, own_bins}
-use Rattle.cargo_toml_resolve.specs.Holding.{HasActions, HoldsNames, AllTakeOver}
-use Rattle.cargo_toml_resolve.specs.Passing.{AreSameButBins, bins_of, passed_below}
-use Rattle.cargo_toml_resolve.specs.Walking.{AreRedirects}
-use Rattle.cargo_toml_resolve.proofs.Answered.{is_kept_feature}
-use Rattle.cargo_toml_resolve.proofs.InPlace.{name_in, stands_found, stands_in}
-use Rattle.cargo_toml_resolve.proofs.PassedPlaces.{passed_at}
-use Rattle.cargo_toml_resolve.proofs.TakenOver.{learnt_through}
+use Rattle.cargo_toml_resolve.proofs.{Answered.is_kept_feature, InPlace.name_in, InPlace.stands_found, InPlace.stands_in, PassedPlaces.passed_at, TakenOver.learnt_through}
 
 -- a place where something stands is below the end
 pub place_inside : (vs : List Feature) (i : ℕ) (v : Feature) → slice_get vs i ≡ Some v → i < length vs

@@ -2,8 +2,7 @@
 use Rattle.std.proofs.Common.{◌≡◌, ◌+◌, ◌<◌, ℕ, take, length, get_or, if◌then◌else◌, List, [], ◌∷◌, ◌++◌, refl, ap, ◌∙◌}
 use Rattle.std.proofs.lemmas.List.{map_more}
 use Rattle.std.specs.Borrow.{Bor}
-use Rattle.cargo_toml_graph.specs.Action.{Text}
-use Rattle.cargo_toml_graph.specs.Removal.{lists_text, put_each}
+use Rattle.cargo_toml_graph.specs.{Action.Text, Removal.lists_text, Removal.put_each}
 use Rattle.cargo_toml_resolve.specs.Texts.{texts_now}
 
 put_last : (xs ys : List Text) (y : Text) → put_each xs (ys ++ y ∷ []) ≡ put_each (put_each xs ys) (y ∷ [])

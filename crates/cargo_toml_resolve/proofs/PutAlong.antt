@@ -1,16 +1,11 @@
 -- Binaries that are put into the lists of features, place after place.
 use Rattle.std.proofs.Common.{◌≡◌, ◌⊎◌, ◌↔◌, ◌<◌, ◌≤◌, ℕ, cond, List, [], ◌∷◌, ◌++◌, length, get_or, Option, Bor, refl, sym, ap, subst, inl, inr, ◌∙◌, arith}
-use Rattle.std.proofs.lemmas.Bool.{cases_eq}
-use Rattle.std.proofs.lemmas.Option.{slice_get_read}
+use Rattle.std.proofs.lemmas.{Bool.cases_eq, Option.slice_get_read}
 use Rattle.std.specs.Option.{option_map_or}
-use Rattle.cargo_toml_graph.specs.Action.{Text}
-use Rattle.cargo_toml_graph.specs.Reach.{Among}
-use Rattle.cargo_toml_graph.specs.Removal.{put_each}
+use Rattle.cargo_toml_graph.specs.{Action.Text, Reach.Among, Removal.put_each}
 use Rattle.cargo_toml_graph.proofs.BinLists.{among-true, put_puts}
 use Rattle.cargo_toml_features.specs.declared.features.Feature.{Feature}
-use Rattle.cargo_toml_resolve.specs.Passing.{bins_of, IsSameButBins, AreSameButBins}
-use Rattle.cargo_toml_resolve.specs.Puts.{Puts}
-use Rattle.cargo_toml_resolve.specs.Texts.{texts_now}
+use Rattle.cargo_toml_resolve.specs.{Passing.bins_of, Passing.IsSameButBins, Passing.AreSameButBins, Puts.Puts, Texts.texts_now}
 use Rattle.cargo_toml_resolve.proofs.AlikePlaces.{does_itself, each_itself, then_does, then_each}
 
 -- what is there already isn't put

@@ -1,21 +1,13 @@
 -- Rows of features, one after another.
 use Rattle.std.proofs.Common.{◌≡◌, ◌↔◌, ◌⊎◌, ◌<◌, ◌≤◌, ◌+◌, ℕ, Bool, true, false, List, [], ◌∷◌, ◌++◌, length, slice_get, IsTrue, Some, if◌then◌else◌, refl, sym, ap, subst, inl, inr, ◌∙◌, arith}
-use Rattle.std.proofs.lemmas.Bool.{cases_eq, cases_lt}
-use Rattle.std.proofs.lemmas.List.{get_or_append_left, get_or_past, length-append, length-map, take_all}
+use Rattle.std.proofs.lemmas.{Bool.cases_eq, Bool.cases_lt, List.get_or_append_left, List.get_or_past, List.length-append, List.length-map, List.take_all}
 use Rattle.std.specs.Option.{option_map_or}
-use Rattle.cargo_toml_graph.specs.Action.{Text}
-use Rattle.cargo_toml_graph.specs.Reach.{Among}
-use Rattle.cargo_toml_features.specs.Places.{nth_text}
-use Rattle.cargo_toml_features.specs.declared.features.Feature.{Feature}
-use Rattle.cargo_toml_features.specs.InOrder.{names_of}
-use Rattle.cargo_toml_features.specs.Views.{set_has}
-use Rattle.cargo_toml_resolve.specs.Enabling.{LeadsTo}
-use Rattle.cargo_toml_resolve.specs.NumberedTables.{IsNaming}
-use Rattle.cargo_toml_resolve.specs.Numbering.{AreRead, AreTextsOf, Extends, Gains, HasNames, IsTarget, place_names}
-use Rattle.cargo_toml_resolve.specs.Numbers.{IsWanted, Leads, row_items}
-use Rattle.cargo_toml_resolve.proofs.Filling.{IsFilled, none_filled, one_more_filled}
-use Rattle.cargo_toml_resolve.proofs.NumberRows.{gained_alike, target_is}
-use Rattle.cargo_toml_resolve.proofs.NumberTexts.{extends_none, front_still, key_text, keys_fit, longer, names_alike, names_still, nth_still}
+use Rattle.cargo_toml_graph.specs.{Action.Text, Reach.Among}
+use Rattle.cargo_toml_features.specs.{Places.nth_text, declared.features.Feature.Feature, InOrder.names_of, Views.set_has}
+use Rattle.cargo_toml_resolve.specs.{Enabling.LeadsTo, NumberedTables.IsNaming, Numbering.AreRead, Numbering.AreTextsOf, Numbering.Extends, Numbering.Gains, Numbering.HasNames, Numbering.IsTarget}
+use Rattle.cargo_toml_resolve.specs.{Numbering.place_names, Numbers.IsWanted, Numbers.Leads, Numbers.row_items}
+use Rattle.cargo_toml_resolve.proofs.{Filling.IsFilled, Filling.none_filled, Filling.one_more_filled, NumberRows.gained_alike, NumberRows.target_is, NumberTexts.extends_none, NumberTexts.front_still}
+use Rattle.cargo_toml_resolve.proofs.NumberTexts.{key_text, keys_fit, longer, names_alike, names_still, nth_still}
 
 -- where the features lead
 abbrev pub Targets : List Feature → ℕ → ℕ → Type 0

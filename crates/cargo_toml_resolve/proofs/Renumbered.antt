@@ -1,11 +1,8 @@
 -- From features in order, with flags, to the graph of numbers that stands for their table.
 use Rattle.std.proofs.Common.{◌≡◌, ℕ, Bool, List, sym, subst, inl, inr, ◌∙◌}
-use Rattle.cargo_toml_graph.specs.Action.{Text}
-use Rattle.cargo_toml_graph.specs.Graph.{Table, Edge, IsPlain}
-use Rattle.cargo_toml_features.specs.Places.{nth_text}
+use Rattle.cargo_toml_graph.specs.{Action.Text, Graph.Table, Graph.Edge, Graph.IsPlain}
+use Rattle.cargo_toml_features.specs.{Places.nth_text, declared.features.Feature.Feature, InOrder.AreTable, InOrder.table_among}
 use Rattle.cargo_toml_resolve.specs.NumberedTables.{IsNumbered}
-use Rattle.cargo_toml_features.specs.declared.features.Feature.{Feature}
-use Rattle.cargo_toml_features.specs.InOrder.{AreTable, table_among}
 
 -- an edge of one table is one of another that holds the same
 same_edge : (s t : Table) → ((f : Text) → s.has f ≡ t.has f) → ((f x : Text) → s.names f x ≡ t.names f x) → ((f k : Text) → s.action f k ≡ t.action f k) →

@@ -1,12 +1,10 @@
 -- Rows in ascending order, as lists.
-use Rattle.std.proofs.Common.{◌≡◌, ◌≢◌, ◌⊎◌, ◌↔◌, ◌<◌, ◌≤◌, ◌+◌, ℕ, Bool, true, false, List, length-set, [], length, get_or, set, replicate, refl, sym, ap, subst, inl, inr, ◌∙◌, arith}
-use Rattle.std.proofs.lemmas.Bool.{cases_eq, cases_lt, cases_Bool, false≢true}
-use Rattle.std.proofs.lemmas.List.{get_or-set_same, get_or-set_other, get_or_past, get_or-replicate}
+use Rattle.std.proofs.Common.{◌≡◌, ◌≢◌, ◌⊎◌, ◌↔◌, ◌<◌, ◌≤◌, ◌+◌, ℕ, Bool, true, false, List, [], length, get_or, set, replicate, refl, sym, ap, subst, inl, inr, ◌∙◌, arith}
+use Rattle.std.proofs.lemmas.{Bool.cases_eq, Bool.cases_lt, Bool.cases_Bool, Bool.false≢true, List.get_or-set_same, List.get_or-set_other, List.get_or_past, List.get_or-replicate}
 use Rattle.cargo_toml_graph.specs.Reach.{Among}
 use Rattle.cargo_toml_graph.proofs.Members.{label_within}
-use Rattle.cargo_toml_resolve.specs.Numbers.{IsWanted, FindsRedirects, HasLabel, IsPassed, IsRedirect, Leads, Replaces, row_items}
-use Rattle.cargo_toml_resolve.proofs.Linking.{last_edge, with_last}
-use Rattle.cargo_toml_resolve.proofs.Cuts.{AreRows, IsBelow, IsFinished, back, next_row, not_own, under_later, under_split}
+use Rattle.cargo_toml_resolve.specs.Numbers.{IsWanted, FindsRedirects, HasLabel, IsPassed, IsRedirect, Leads, Replaces, row_items, Moves}
+use Rattle.cargo_toml_resolve.proofs.{Linking.last_edge, Linking.with_last, Cuts.AreRows, Cuts.IsBelow, Cuts.IsFinished, Cuts.back, Cuts.next_row, Cuts.not_own, Cuts.under_later, Cuts.under_split}
 use Rattle.cargo_toml_resolve.proofs.Labelled.{gathered}
 
 module _ (edges : List (List ℕ)) (removed : List Bool) where
@@ -32,18 +30,18 @@ module _ (edges : List (List ℕ)) (removed : List Bool) where
     len = v.len ∙ h.len;
     inside = λ a x i. elim (cases_eq a r) [
       | inl same ↦ below x ((v.here x).0 (subst (λ z. Leads new z x) same i))
-      | inr other ↦ h.inside a x ((v.others a x other).0 i)
+      | inr other ↦ h.inside a x (subst (λ l. Among l x) (v.others a other) i)
     ];
     done = λ a x u. elim (cases_eq a r) [
       | inl same ↦ (
         λ i. subst (λ z. IsRedirect edges removed initial z x) (sym same) ((v.here x).0 (subst (λ z. Leads new z x) same i)),
         λ w. subst (λ z. Leads new z x) (sym same) ((v.here x).1 (subst (λ z. IsRedirect edges removed initial z x) same w)),
       )
-      | inr other ↦ let d = h.done a x (under_split removed r a other u) in (λ i. d.0 ((v.others a x other).0 i), λ w. (v.others a x other).1 (d.1 w))
+      | inr other ↦ subst (λ l. Among l x ↔ IsRedirect edges removed initial a x) (sym (v.others a other)) (h.done a x (under_split removed r a other u))
     ];
     left = λ a x n. elim (cases_eq a r) [
       | inl same ↦ absurd (n (subst (IsWanted removed true) (sym same) gone, omega (arith, same)))
-      | inr other ↦ let d = h.left a x (λ u. n (under_later removed r a u)) in (λ i. d.0 ((v.others a x other).0 i), λ w. (v.others a x other).1 (d.1 w))
+      | inr other ↦ subst (λ l. Among l x ↔ Leads initial a x) (sym (v.others a other)) (h.left a x (λ u. n (under_later removed r a u)))
     ];
   }
 
@@ -83,14 +81,6 @@ module _ (edges : List (List ℕ)) (removed : List Bool) where
           })
           (λ x w. let l = (row_is x).1 w in h.inside l.0.0 x l.0.2)
 
--- a row that is set
-pub replaced : (rows : List (List ℕ)) (r : ℕ) (row : List ℕ) (P : ℕ → Type 0) → r < length rows → ((x : ℕ) → Among row x ↔ P x) → Replaces r P rows (set rows r row)
-replaced rows r row P lt is = record {
-  len = length-set rows r row;
-  here = λ x. subst (λ l. Among l x ↔ P x) (sym (get_or-set_same rows r row [] lt)) (is x);
-  others = λ a x other. subst (λ l. Among l x ↔ Leads rows a x) (sym (get_or-set_other rows r a row [] other)) (λ i. i, λ i. i);
-}
-
 -- the rows from r on, and those that aren't marked as moved, are as they were
 abbrev pub KeepsOwn : ℕ → List Bool → List (List ℕ) → List (List ℕ) → Type 0
 KeepsOwn r moved initial rows = (a : ℕ) → IsWanted moved false a ⊎ (r ≤ a) → row_items rows a ≡ row_items initial a
@@ -101,16 +91,16 @@ none_moved moved rows a d = refl
 pub still_own : (r : ℕ) (moved : List Bool) (initial rows : List (List ℕ)) → KeepsOwn r moved initial rows → KeepsOwn (r + 1) moved initial rows
 still_own r moved initial rows h a d = h a (elim d [ inl e ↦ inl e | inr le ↦ inr (omega (arith, le)) ])
 
-pub one_more_own : (r : ℕ) (moved : List Bool) (initial rows new : List (List ℕ)) (is_moved : Bool) → r < length moved → KeepsOwn r moved initial rows → (is_moved ≡ false → new ≡ rows) → ((a : ℕ) → a ≢ r → row_items new a ≡ row_items rows a)
+pub one_more_own : (r : ℕ) (moved : List Bool) (initial rows new : List (List ℕ)) (is_moved : Bool) (P : ℕ → Type 0) → r < length moved → KeepsOwn r moved initial rows → Moves r P rows new is_moved
     → KeepsOwn (r + 1) (set moved r is_moved) initial new
-one_more_own r moved initial rows new is_moved lt h stays others a d = elim (cases_eq a r) [
+one_more_own r moved initial rows new is_moved P lt h m a d = elim (cases_eq a r) [
   | inl same ↦ elim d [
     | inl e ↦
         let kept : is_moved ≡ false = sym (get_or-set_same moved r is_moved false lt) ∙ ap (λ i. get_or (set moved r is_moved) i false) (sym same) ∙ e in
-        ap (λ l. row_items l a) (stays kept) ∙ h a (inr (omega (arith, same)))
+        ap (λ l. row_items l a) (m.stays kept) ∙ h a (inr (omega (arith, same)))
     | inr le ↦ absurd (omega (arith, same, le))
   ]
-  | inr ne ↦ others a ne ∙ h a (elim d [ inl e ↦ inl (sym (get_or-set_other moved r a is_moved false ne) ∙ e) | inr le ↦ inr (omega (arith, le)) ])
+  | inr ne ↦ m.row.others a ne ∙ h a (elim d [ inl e ↦ inl (sym (get_or-set_other moved r a is_moved false ne) ∙ e) | inr le ↦ inr (omega (arith, le)) ])
 ]
 
 -- where all are marked, those past the end of the rows are left

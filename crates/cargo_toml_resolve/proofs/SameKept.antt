@@ -1,8 +1,6 @@
 -- What is said of a resolution goes over to others that hold the same.
 use Rattle.std.proofs.Common.{IsTrue, sym, subst, ◌∙◌}
-use Rattle.cargo_toml_graph.specs.Action.{Text, IsJoin}
-use Rattle.cargo_toml_graph.specs.Graph.{IsKept, IsResolved, Resolution, Says, Table}
-use Rattle.cargo_toml_graph.specs.Removal.{SameKept}
+use Rattle.cargo_toml_graph.specs.{Action.Text, Action.IsJoin, Graph.IsKept, Graph.IsResolved, Graph.Resolution, Graph.Says, Graph.Table, Removal.SameKept}
 
 pub resolved_same : (t : Table) (R : Text → Type 0) (m n : Resolution) → SameKept m n → IsResolved t R m → IsResolved t R n
 resolved_same t R m n s h = record {

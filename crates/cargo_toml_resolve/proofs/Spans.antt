@@ -3,8 +3,7 @@ use Rattle.std.proofs.Common.{◌≡◌, ◌-◌, ◌<◌, ◌≤◌, ℕ, zero,
 use Rattle.std.proofs.lemmas.List.{take-append-le, drop-append-le, map-append, map-set, length-map, take_all}
 use Rattle.std.proofs.Math.Seq.{drop-append_seam}
 use Rattle.std.specs.List.{slice_range}
-use Rattle.cargo_toml_resolve.specs.declared.span.Span.{Span}
-use Rattle.cargo_toml_resolve.specs.Spans.{AreInside, rows_in}
+use Rattle.cargo_toml_resolve.specs.{declared.span.Span.Span, Spans.AreInside, Spans.rows_in}
 
 inside_more : (n m : ℕ) (ss : List Span) → n ≤ m → AreInside n ss → AreInside m ss
 inside_more n m [] le h = tt
@@ -83,6 +82,4 @@ module _ (xs row ys : List ℕ) (ss : List Span) (inside : AreInside (length xs)
 -- the span of a row
 pub at_row : (nodes : List ℕ) (ss : List Span) (rows : List (List ℕ)) → rows_in nodes ss ≡ rows → AreInside (length nodes) ss → (i : ℕ) → i < length rows → (j : ℕ) (s : Span) → j ≡ i → s ≡ get_or ss j s → (s.start ≤ s.end) × (s.end ≤ length nodes)
 at_row nodes ss rows view h i lt j s at is =
-    let e = ap length view in
-    let l = length-map ss (λ s. slice_range nodes s.start s.end) in
-    inside_at (length nodes) ss i j s h (omega (arith, lt, e, l)) at is
+    inside_at (length nodes) ss i j s h (omega (arith, lt, ap length view, length-map ss (λ s. slice_range nodes s.start s.end))) at is

@@ -1,11 +1,8 @@
 -- Steps of a walk over numbers, by marks.
 use Rattle.std.proofs.Common.{◌≡◌, ◌≢◌, ◌⊎◌, ◌↔◌, ◌<◌, ◌≤◌, ◌+◌, ℕ, zero, suc, Bool, true, false, if◌then◌else◌, List, [], ◌∷◌, ◌++◌, take, length, get_or, set, Vec, refl, sym, ap, subst, inl, inr, ◌∙◌, arith, add-one, length-append, length-set}
-use Rattle.std.proofs.lemmas.Bool.{cases_eq, false≢true}
-use Rattle.std.proofs.lemmas.List.{get_or-set_same, get_or-set_other, take-append-le}
-use Rattle.std.proofs.lemmas.List.Sums.{sum_by-set}
+use Rattle.std.proofs.lemmas.{Bool.cases_eq, Bool.false≢true, List.get_or-set_same, List.get_or-set_other, List.take-append-le, List.Sums.sum_by-set}
 use Rattle.cargo_toml_graph.specs.Reach.{Among}
-use Rattle.cargo_toml_resolve.specs.Bits.{words_of}
-use Rattle.cargo_toml_resolve.specs.Numbers.{AreMarked, FindsNamed, IsWanted, Leads, unmet}
+use Rattle.cargo_toml_resolve.specs.{Bits.words_of, Numbers.AreMarked, Numbers.FindsNamed, Numbers.IsWanted, Numbers.Leads, Numbers.unmet}
 
 pub among_first : (xs ys : List ℕ) (x : ℕ) → Among xs x → Among (xs ++ ys) x
 among_first [] ys x i = absurd i
@@ -124,8 +121,7 @@ module _ (x : ℕ) (found : List ℕ) (met : List Bool) (marks : AreMarked found
           let l : length (found ++ x ∷ []) ≡ length found + 1 = length-append found (x ∷ []) in
           let weight : Bool → ℕ = λ b. if b then 0 else 1 in
           let two : weight (get_or met x false) ≡ 1 = ap weight new in
-          let s = sum_by-set weight met x true false inside in
-          omega (arith, l, two, s)
+          omega (arith, l, two, sum_by-set weight met x true false inside)
 
 -- one visit after another
 pub then_visit : (A B C : ℕ → Type 0) (f0 f1 f2 : List ℕ) (m0 m1 m2 : List Bool) → ((y : ℕ) → C y ↔ (A y ⊎ B y)) → FindsNamed A f0 f1 m0 m1 → FindsNamed B f1 f2 m1 m2 → FindsNamed C f0 f2 m0 m2
@@ -133,14 +129,13 @@ then_visit A B C f0 f1 f2 m0 m1 m2 both v w =
     let c1 = v.count in
     let c2 = w.count in
     let l1 = v.longer in
-    let l2 = w.longer in
     record {
       marks = w.marks;
       grows = λ y i. w.grows y (v.grows y i);
       reaches = λ y n. elim ((both y).0 n) [ inl a ↦ w.grows y (v.reaches y a) | inr b ↦ w.reaches y b ];
       only = λ y i. elim (w.only y i) [ inl i ↦ elim (v.only y i) [ inl i ↦ inl i | inr a ↦ inr ((both y).1 (inl a)) ] | inr b ↦ inr ((both y).1 (inr b)) ];
       front = λ k le. w.front k (omega (arith, l1, le)) ∙ v.front k le;
-      longer = omega (arith, l1, l2);
+      longer = omega (arith, l1, w.longer);
       count = c2 ∙ c1;
       len = w.len ∙ v.len;
     }

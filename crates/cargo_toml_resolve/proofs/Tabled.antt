@@ -2,11 +2,8 @@
 use Rattle.std.proofs.Common.{◌≡◌, ◌≢◌, ◌↔◌, ◌⊎◌, ◌<◌, ◌+◌, ℕ, zero, suc, Bool, List, [], ◌∷◌, ◌++◌, take, length, get_or, set, Vec, refl, sym, ap, subst, inl, inr, ◌∙◌, arith, length-append, length-set}
 use Rattle.std.proofs.lemmas.Bool.{cases_eq}
 use Rattle.cargo_toml_graph.specs.Reach.{Among}
-use Rattle.cargo_toml_resolve.specs.Bits.{AreWide, Gains, HasBit, Holds, words_of}
-use Rattle.cargo_toml_resolve.specs.Dense.{IsTable}
-use Rattle.cargo_toml_resolve.specs.Numbers.{IsWanted}
-use Rattle.cargo_toml_resolve.proofs.Steps.{among_more, row_read}
-use Rattle.cargo_toml_resolve.proofs.Words.{no_bit_past}
+use Rattle.cargo_toml_resolve.specs.{Bits.AreWide, Bits.Gains, Bits.HasBit, Bits.Holds, Bits.words_of, Dense.IsTable, Numbers.IsWanted}
+use Rattle.cargo_toml_resolve.proofs.{Steps.among_more, Steps.row_read, Words.no_bit_past}
 
 -- a row past the end has no bit
 pub holds_inside : {Z : Type 0} (table : List (Vec ℕ Z)) (a x : ℕ) → Holds table a x → a < length table
@@ -55,8 +52,7 @@ module _ {Z : Type 0} (P : ℕ → ℕ → Type 0) (width n : ℕ) (table : List
         λ l. subst (λ w. HasBit w x) (sym (last a same)) ((is x).1 (subst (λ k. P k x) same l)),
       )
       | inr other ↦
-          let e = h.len in
-          let early : a < length table = omega (arith, e, lt, other) in
+          let early : a < length table = omega (arith, h.len, lt, other) in
           let b = h.bits a x (omega (arith, lt, other)) in (
             λ i. b.0 (subst (λ w. HasBit w x) (push_old table v a early) i),
             λ l. subst (λ w. HasBit w x) (sym (push_old table v a early)) (b.1 l),

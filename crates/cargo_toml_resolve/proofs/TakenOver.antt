@@ -1,31 +1,15 @@
 -- What kept features take over, and what enables them, one feature after another.
 use Rattle.std.proofs.Common.{◌≡◌, ◌≢◌, ◌⊎◌, ◌↔◌, ◌<◌, ◌≤◌, ◌+◌, ℕ, Bool, true, false, List, [], length, get_or, Some, Bor, IsTrue, IfSome, refl, sym, ap, subst, inl, inr, ◌∙◌, arith}
-use Rattle.std.proofs.lemmas.Bool.{cases_Bool, cases_eq, cases_lt, false≢true}
-use Rattle.std.proofs.lemmas.List.{get_or-map}
-use Rattle.std.proofs.lemmas.Option.{same_Some, slice_get_past}
-use Rattle.std.specs.BTreeSet.{BTreeSet}
-use Rattle.std.specs.List.{slice_get}
-use Rattle.std.specs.Option.{option_and_then}
-use Rattle.cargo_toml_graph.specs.Action.{Text}
-use Rattle.cargo_toml_graph.specs.Reach.{Among, Reaches}
-use Rattle.cargo_toml_graph.specs.Reach.Reaches.{edge, through}
+use Rattle.std.proofs.lemmas.{Bool.cases_Bool, Bool.cases_eq, Bool.cases_lt, Bool.false≢true, List.get_or-map, Option.same_Some, Option.slice_get_past}
+use Rattle.std.specs.{BTreeSet.BTreeSet, List.slice_get, Option.option_and_then}
+use Rattle.cargo_toml_graph.specs.{Action.Text, Reach.Among, Reach.Reaches, Reach.Reaches.edge, Reach.Reaches.through}
 use Rattle.cargo_toml_graph.proofs.Joins.{join_alike}
-use Rattle.cargo_toml_features.specs.Places.{nth_text}
-use Rattle.cargo_toml_features.specs.declared.features.Feature.{Feature}
-use Rattle.cargo_toml_features.specs.InOrder.{AreInOrder, HaveNoEnablers}
-use Rattle.cargo_toml_features.specs.Views.{action_at, set_has}
+use Rattle.cargo_toml_features.specs.{Places.nth_text, declared.features.Feature.Feature, InOrder.AreInOrder, InOrder.HaveNoEnablers, Views.action_at, Views.set_has}
 use Rattle.cargo_toml_features.proofs.TextKeys.{none_in}
-use Rattle.cargo_toml_resolve.specs.Numbers.{IsPassed, IsWanted, KeepsLabel, Leads, PassesAny}
-use Rattle.cargo_toml_resolve.proofs.Cuts.{none_among}
-use Rattle.cargo_toml_resolve.specs.Enabling.{EnablesThrough, GainEnabler, LearnThrough}
-use Rattle.cargo_toml_resolve.specs.Holding.{AllTakeOver, HasActions, HasTextsOf, Holds, HoldsTheSame, KeepsOwn, SaysTheSame, TakesOver, action_by}
-use Rattle.cargo_toml_resolve.specs.NumberedTables.{HasNumber}
-use Rattle.cargo_toml_resolve.specs.TakingOver.{ChangesIn, ComesToHold}
-use Rattle.cargo_toml_resolve.specs.Texts.{texts_now}
-use Rattle.cargo_toml_resolve.proofs.AlikePlaces.{there_too}
-use Rattle.cargo_toml_resolve.proofs.InPlace.{stands_found, stands_in}
-use Rattle.cargo_toml_resolve.proofs.Learning.{nobody_learns, then_learn}
-use Rattle.cargo_toml_resolve.proofs.TakingOver.{own_actions}
+use Rattle.cargo_toml_resolve.specs.{Numbers.IsPassed, Numbers.IsWanted, Numbers.KeepsLabel, Numbers.Leads, Numbers.PassesAny, Enabling.EnablesThrough, Enabling.GainEnabler, Enabling.LearnThrough}
+use Rattle.cargo_toml_resolve.specs.Holding.{AllTakeOver, HasActions, HasTextsOf, Holds, HoldsTheSame, KeepsOwn, SaysTheSame, TakesOver}
+use Rattle.cargo_toml_resolve.specs.{Holding.action_by, NumberedTables.HasNumber, TakingOver.ChangesIn, TakingOver.ComesToHold, Texts.texts_now}
+use Rattle.cargo_toml_resolve.proofs.{Cuts.none_among, AlikePlaces.there_too, InPlace.stands_found, InPlace.stands_in, Learning.nobody_learns, Learning.then_learn, TakingOver.own_actions}
 
 -- the text in a place, as it is read there
 pub source_is : (texts : List (Bor Text)) (i p : ℕ) (source : Bor Text) → i < length texts → p ≡ i → source ≡ get_or texts p source → source.now ≡ nth_text (texts_now texts) i

@@ -1,18 +1,11 @@
 -- One feature of a list changes, and takes over what those that it passes do.
 use Rattle.std.proofs.Common.{◌≡◌, ◌≢◌, ◌↔◌, ◌<◌, ◌⊎◌, ℕ, zero, suc, List, [], ◌∷◌, length, set, get_or, Some, Bor, refl, sym, ap, subst, inl, inr, ◌∙◌, arith, length-set}
 use Rattle.std.proofs.lemmas.Option.{get_or_from_slice_get, same_Some, slice_get_read}
-use Rattle.std.specs.List.{slice_get}
-use Rattle.std.specs.Option.{option_and_then}
-use Rattle.std.specs.BTreeMap.{BTreeMap}
-use Rattle.std.specs.BTreeSet.{BTreeSet}
-use Rattle.cargo_toml_graph.specs.Action.{Text, Action, IsJoin}
-use Rattle.cargo_toml_graph.specs.Reach.{Among}
+use Rattle.std.specs.{List.slice_get, Option.option_and_then, BTreeMap.BTreeMap, BTreeSet.BTreeSet}
+use Rattle.cargo_toml_graph.specs.{Action.Text, Action.Action, Action.IsJoin, Reach.Among}
 use Rattle.cargo_toml_graph.proofs.Joins.{join_alike, join_one}
-use Rattle.cargo_toml_features.specs.declared.features.DepAction.{DepAction}
-use Rattle.cargo_toml_features.specs.declared.features.Feature.{Feature}
-use Rattle.cargo_toml_features.specs.Views.{action_at}
-use Rattle.cargo_toml_resolve.specs.Holding.{DoesAt, HasActions, KeepsOwn, action_by}
-use Rattle.cargo_toml_resolve.specs.TakingOver.{ChangesIn, ComesToHold, TakesActions}
+use Rattle.cargo_toml_features.specs.{declared.features.DepAction.DepAction, declared.features.Feature.Feature, Views.action_at}
+use Rattle.cargo_toml_resolve.specs.{Holding.DoesAt, Holding.HasActions, Holding.KeepsOwn, Holding.action_by, TakingOver.ChangesIn, TakingOver.ComesToHold, TakingOver.TakesActions}
 
 pub set_here : (vs : List Feature) (i : ℕ) (w : Feature) → i < length vs → slice_get (set vs i w) i ≡ Some w
 set_here [] i w lt = absurd (omega arith)

@@ -1,16 +1,12 @@
 -- Sets of the texts of numbers.
 use Rattle.std.proofs.Common.{◌≡◌, ◌↔◌, ◌<◌, ℕ, List, [], ◌∷◌, length, map, get_or, bytes_eq, Result, Ok, Err, IfOk, Bor, IsTrue, refl, sym, ap, subst, inl, inr, ◌∙◌}
 use Rattle.std.proofs.lemmas.List.{length-map}
-use Rattle.std.specs.BTreeSet.{BTreeSet}
-use Rattle.std.specs.List.{list_any}
-use Rattle.cargo_toml_graph.specs.Action.{Text}
-use Rattle.cargo_toml_graph.specs.Reach.{Among}
+use Rattle.std.specs.{BTreeSet.BTreeSet, List.list_any}
+use Rattle.cargo_toml_graph.specs.{Action.Text, Reach.Among}
 use Rattle.cargo_toml_graph.proofs.BinLists.{is_among-true, among-true}
-use Rattle.cargo_toml_features.specs.Views.{set_has}
-use Rattle.cargo_toml_features.specs.Places.{nth_text}
+use Rattle.cargo_toml_features.specs.{Views.set_has, Places.nth_text}
 use Rattle.cargo_toml_resolve.proofs.Steps.{among_at, item_at}
-use Rattle.cargo_toml_resolve.specs.Holding.{HasTextsOf, IsTextOf}
-use Rattle.cargo_toml_resolve.specs.Texts.{texts_now}
+use Rattle.cargo_toml_resolve.specs.{Holding.HasTextsOf, Holding.IsTextOf, Texts.texts_now}
 
 -- the place of a number that is read is below what all of them are below
 pub place_below : (numbers : List ℕ) (n i x p : ℕ) → ((y : ℕ) → Among numbers y → y < n) → i < length numbers → x ≡ get_or numbers i x → p ≡ x → p < n

@@ -1,7 +1,6 @@
 -- The invariant of the walk: what is found is passed, and the edges of the start and of those that were looked at are found where they lead to removed vertices.
 use Rattle.std.proofs.Common.{◌≡◌, ◌↔◌, ◌<◌, ◌≤◌, ◌+◌, ℕ, true, Bool, List, [], take, length, get_or, subst, inl, inr, ◌∙◌, arith}
-use Rattle.cargo_toml_graph.specs.Reach.{Among, Reaches}
-use Rattle.cargo_toml_graph.specs.Reach.Reaches.{edge, through}
+use Rattle.cargo_toml_graph.specs.{Reach.Among, Reach.Reaches, Reach.Reaches.edge, Reach.Reaches.through}
 use Rattle.cargo_toml_graph.proofs.Closure.{chained}
 use Rattle.cargo_toml_resolve.specs.Numbers.{IsPassed, Leads, AreMarked, FindsNamed, IsWanted}
 use Rattle.cargo_toml_resolve.proofs.Steps.{among_more, among_at, among_all, read_at}

@@ -2,9 +2,8 @@
 use Rattle.std.proofs.Common.{◌≡◌, ◌≢◌, ◌↔◌, ◌⊎◌, ◌<◌, ◌≤◌, ◌+◌, ◌*◌, ◌/◌, ◌%◌, ◌^◌, ℕ, List, [], ◌∷◌, ◌++◌, length, get_or, set, max, sym, ap, subst, inl, inr, ◌∙◌, arith, w64}
 use Rattle.std.specs.Prelude.{bit_or}
 use Rattle.std.specs.Int.{bit_at}
-use Rattle.std.proofs.lemmas.Bool.{cases_lt, cases_eq}
-use Rattle.std.proofs.lemmas.List.{get_or_past, get_or-set_same, get_or-set_other}
-use Rattle.std.proofs.lemmas.Nat.Bits.{bit_at_or, bit_at-zero, bit_at-lt, bit_at_set_same, bit_at_set_other}
+use Rattle.std.proofs.lemmas.{Bool.cases_lt, Bool.cases_eq, List.get_or_past, List.get_or-set_same, List.get_or-set_other, Nat.Bits.bit_at_or, Nat.Bits.bit_at-zero, Nat.Bits.bit_at-lt}
+use Rattle.std.proofs.lemmas.Nat.Bits.{bit_at_set_same, bit_at_set_other}
 use Rattle.cargo_toml_graph.specs.Reach.{Among}
 use Rattle.cargo_toml_resolve.specs.Bits.{HasBit}
 use Rattle.cargo_toml_resolve.proofs.Steps.{among_either, among_first, among_last, read_at}
@@ -13,8 +12,7 @@ use Rattle.cargo_toml_resolve.proofs.Steps.{among_either, among_first, among_las
 pub no_bit_past : (words : List ℕ) (x : ℕ) → length words ≤ x / 64 → ¬ HasBit words x
 no_bit_past words x past h =
     let none : bit_at (get_or words (x / 64) 0) (x % 64) ≡ 0 = ap (λ w. bit_at w (x % 64)) (get_or_past words (x / 64) 0 past) ∙ bit_at-zero (x % 64) in
-    let one = h.stands in
-    absurd (omega (arith, none, one))
+    absurd (omega (arith, none, h.stands))
 
 either_one : (p q : ℕ) → p < 2 → q < 2 → (max p q ≡ 1) ↔ ((p ≡ 1) ⊎ (q ≡ 1))
 either_one p q lp lq = (

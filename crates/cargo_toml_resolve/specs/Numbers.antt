@@ -71,7 +71,12 @@ HasLabel Passed labels flags a x =
 pub record Replaces (r : ℕ) (P : ℕ → Type 0) (old new : List (List ℕ)) : Type 0 where
   pub len : length new ≡ length old
   pub here : (x : ℕ) → Leads new r x ↔ P x
-  pub others : (a x : ℕ) → a ≢ r → Leads new a x ↔ Leads old a x
+  pub others : (a : ℕ) → a ≢ r → row_items new a ≡ row_items old a
+
+-- the same, and whether it had to change is told
+pub record Moves (r : ℕ) (P : ℕ → Type 0) (old new : List (List ℕ)) (is_moved : Bool) : Type 0 where
+  pub row : Replaces r P old new
+  pub stays : is_moved ≡ false → new ≡ old
 
 -- edges lead to vertices, and each vertex and each label has a flag
 pub record AreWithin (edges labels : List (List ℕ)) (flags : List Bool) : Type 0 where

@@ -1,9 +1,9 @@
 //! What stands for removed vertices, one after another.
-ghost use Rattle.std.specs.Prelude.{◌≡◌, ◌≢◌, ◌<◌, ◌≤◌, ◌↔◌, ℕ, List, length, false};
+ghost use Rattle.std.specs.Prelude.{◌≡◌, ◌<◌, ◌≤◌, ◌↔◌, ℕ, List, length};
 ghost use Rattle.std.specs.Prelude.{IfOk, OnOk};
 ghost use Rattle.cargo_toml_graph.specs.Reach.{Among};
 ghost use Rattle.cargo_toml_resolve.specs.Numbers.{AreWithin, FindsRedirects, HasLabel, IsPassed};
-ghost use Rattle.cargo_toml_resolve.specs.Numbers.{Leads, Replaces, row_items};
+ghost use Rattle.cargo_toml_resolve.specs.Numbers.{Leads, Moves, Replaces};
 
 use crate::rows::Rows;
 use crate::walk::{Walk, has_flagged};
@@ -22,10 +22,8 @@ fn finish(
     requires passed { (b : ℕ) → Among walk.old.passed.items b → b < length rows.old }
     requires fits { length walk.old.met ≤ length finished.now }
     requires inside { (a x : ℕ) → Leads rows.old a x → x < length walk.old.met }
-    ensures row { OnOk result (Replaces own
+    ensures row { IfOk result (Moves own
         (HasLabel (Among walk.old.passed.items) rows.old finished.now own) rows.old rows.new) }
-    ensures stays { IfOk result (λ is_moved. is_moved ≡ false → rows.new ≡ rows.old) }
-    ensures others { OnOk result ((a : ℕ) → a ≢ own → row_items rows.new a ≡ row_items rows.old a) }
     ensures passed { OnOk result (walk.new.passed ≡ walk.old.passed) }
     ensures len { OnOk result (length walk.new.met ≡ length walk.old.met) }
 {
@@ -57,14 +55,11 @@ fn redirect(
     requires own { own < length edges.old }
     requires within { AreWithin edges.old labels.old finished.now }
     requires room { length walk.old.met ≡ length finished.now }
-    ensures rows { OnOk result ((passed : List ℕ)
+    ensures rows { IfOk result (λ is_moved. (passed : List ℕ)
         × ((b : ℕ) → Among passed b ↔ IsPassed edges.old finished.now own b)
         × Replaces own (HasLabel (Among passed) edges.old finished.now own) edges.old edges.new
-        × Replaces own (HasLabel (Among passed) labels.old finished.now own)
-        labels.old labels.new) }
-    ensures stays { IfOk result (λ is_moved. is_moved ≡ false → labels.new ≡ labels.old) }
-    ensures others { OnOk result ((a : ℕ) → a ≢ own
-        → row_items labels.new a ≡ row_items labels.old a) }
+        × Moves own (HasLabel (Among passed) labels.old finished.now own)
+        labels.old labels.new is_moved) }
     ensures room { OnOk result (length walk.new.met ≡ length walk.old.met) }
 {
     walk.pass(own, edges, finished)?;

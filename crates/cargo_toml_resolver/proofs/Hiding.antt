@@ -1,15 +1,10 @@
 -- What hiding leaves; and with few mentions of removed features, no binary is lost on its way to a kept one.
 use Rattle.std.proofs.Common.{◌≤◌, Bool, true, List, IsTrue, count_by, is_some, le_trans}
-use Rattle.cargo_toml_graph.specs.Action.{Text}
-use Rattle.cargo_toml_graph.specs.Admitted.{Listed}
-use Rattle.cargo_toml_graph.specs.Bins.{IsComplete}
+use Rattle.cargo_toml_graph.specs.{Action.Text, Admitted.Listed, Bins.IsComplete}
 use Rattle.cargo_toml_graph.proofs.InByteOrder.{ascending_once, passed_complete}
-use Rattle.cargo_toml_features.specs.Marks.{NamedDetails}
-use Rattle.cargo_toml_features.specs.Recorded.{Entry}
-use Rattle.cargo_toml_features.specs.Resolved.{Answer, IsAnswer, IsAnswerWithout, table_of}
-use Rattle.cargo_toml_resolve.proofs.ByFilter.{answer_alike}
+use Rattle.cargo_toml_features.specs.{Marks.NamedDetails, Recorded.Entry, Resolved.Answer, Resolved.IsAnswer, Resolved.IsAnswerWithout, Resolved.table_of}
+use Rattle.cargo_toml_resolve.proofs.{ByFilter.answer_alike, AgainstAll.none_left, AgainstAll.keeps_enabling, AgainstAll.loses_nothing}
 use Rattle.cargo_toml_full.specs.OwnBins.{own_of}
-use Rattle.cargo_toml_resolve.proofs.AgainstAll.{none_left, keeps_enabling, loses_nothing}
 use Rattle.cargo_toml_resolver.specs.Parsed.{IsHiding}
 use Rattle.cargo_toml_resolver.proofs.Mentions.{mentions_counted}
 

@@ -11,21 +11,13 @@ use denote.Follow.{follows_by, such_by}
 use denote.RattleType.{RattleType}
 use denote.Ref.{Bor}
 use Rattle.cargo_toml_parts.specs.declared.error.Error.{Error, Memory}
-use Rattle.cargo_toml_discovery.specs.Names.{Name}
-use Rattle.cargo_toml_discovery.specs.Told.{Told}
-use Rattle.cargo_toml_manifest.specs.declared.manifest.Manifest.{Manifest}
-use Rattle.cargo_toml_manifest.specs.Choosing.{Handed, MayFind, RootsTold}
-use Rattle.cargo_toml_manifest.specs.Completed.{IsCompleted}
-use Rattle.cargo_toml_manifest.specs.Completing.{Outcome, gives, refuses, no_workspace, untold, Meets, complete}
-use Rattle.cargo_toml_manifest.specs.Manifests.{ManifestMeaning, held}
+use Rattle.cargo_toml_discovery.specs.{Names.Name, Told.Told}
+use Rattle.cargo_toml_manifest.specs.{declared.manifest.Manifest.Manifest, Choosing.Handed, Choosing.MayFind, Choosing.RootsTold, Completed.IsCompleted, Completing.Outcome, Completing.gives}
+use Rattle.cargo_toml_manifest.specs.{Completing.refuses, Completing.no_workspace, Completing.untold, Completing.Meets, Completing.complete, Manifests.ManifestMeaning, Manifests.held}
 use Rattle.cargo_toml_manifest.proofs.Meeting.{given_again, refused_again}
 use Rattle.cargo_toml_resolve.specs.Filter.{Asked}
-use Rattle.cargo_toml_features.specs.declared.features.Features.{Features}
-use Rattle.cargo_toml_features.specs.FirstTarget.{HaveTargets}
-use Rattle.cargo_toml_features.specs.Reached.{IsKeyed}
-use Rattle.cargo_toml_features.specs.Views.{answer_of}
-use Rattle.cargo_toml_resolver.specs.Lent.{with_lent, IsLeftAfter, IsResolvedAfter}
-use Rattle.cargo_toml_resolver.specs.Parsed.{AreBinsComplete, IsHiding, IsParsed, IsParsedBy, IsResolvedFor}
+use Rattle.cargo_toml_features.specs.{declared.features.Features.Features, FirstTarget.HaveTargets, Reached.IsKeyed, Views.answer_of}
+use Rattle.cargo_toml_resolver.specs.{Lent.with_lent, Lent.IsLeftAfter, Lent.IsResolvedAfter, Parsed.AreBinsComplete, Parsed.IsHiding, Parsed.IsParsed, Parsed.IsParsedBy, Parsed.IsResolvedFor}
 
 -- where there is a success, `Memory` may still be the answer
 memory_after : {T U A : Type 0} (f : T → A) (g : U → A) (o : Outcome A) (t : T) (e : Error) → e ≡ Memory → Meets f o (Ok t) → Meets g o (Err e)

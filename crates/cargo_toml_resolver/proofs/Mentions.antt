@@ -1,11 +1,7 @@
 -- Mentions of features, counted over the features and over what binaries require.
 use Rattle.std.proofs.Common.{◌≡◌, ◌≤◌, ◌+◌, ◌⊎◌, suc, Bool, true, false, cond, List, [], ◌∷◌, filter, length, map, count_by, bytes_eq, refl, sym, ap, subst, inl, inr, ◌∙◌, arith}
-use Rattle.std.proofs.lemmas.Bool.{cases_Bool, false≢true}
-use Rattle.std.proofs.lemmas.List.Sums.{length-filter}
-use Rattle.std.proofs.lemmas.Slice.Eq.{bytes_eq-Decides}
-use Rattle.cargo_toml_graph.specs.Action.{Text}
-use Rattle.cargo_toml_graph.specs.Bins.{mentions}
-use Rattle.cargo_toml_graph.specs.Reach.{Among, IsOnce}
+use Rattle.std.proofs.lemmas.{Bool.cases_Bool, Bool.false≢true, List.Sums.length-filter, Slice.Eq.bytes_eq-Decides}
+use Rattle.cargo_toml_graph.specs.{Action.Text, Bins.mentions, Reach.Among, Reach.IsOnce}
 use Rattle.cargo_toml_full.specs.OwnBins.{own_of}
 
 abbrev Required : Type 0
@@ -39,8 +35,7 @@ one_adds q qs r rs once e = go (bytes_eq r q.0) refl
   where
     go : (b : Bool) → bytes_eq r q.0 ≡ b → length (also q qs r b) + mentions (own_of (q ∷ qs)) rs ≤ suc (length (own_of qs r) + mentions (own_of qs) rs)
     go true t =
-        let same = absent q qs rs (λ i. once (subst (Among rs) (sym ((bytes_eq-Decides r q.0).0 t)) i)) in
-        omega (arith, same)
+        omega (arith, absent q qs rs (λ i. once (subst (Among rs) (sym ((bytes_eq-Decides r q.0).0 t)) i)))
     go false t = omega (arith, e)
 
 adds : (q : Text × Text) (qs : Required) (rs : List Text) → IsOnce rs → mentions (own_of (q ∷ qs)) rs ≤ suc (mentions (own_of qs) rs)

@@ -1,8 +1,6 @@
 use Rattle.std.proofs.Common.{◌≡◌, true, [], ◌∷◌, ◌++◌, cond, map, take, string_bytes, sym, ap, rules, ◌∙◌}
 use Rattle.std.proofs.lemmas.List.{map_push, take-map}
-use Rattle.cargo_toml_features.specs.Adding.{has_place}
-use Rattle.cargo_toml_features.specs.Marks.{detail_in, named_details}
-use Rattle.cargo_toml_features.specs.Views.{listed_of}
+use Rattle.cargo_toml_features.specs.{Adding.has_place, Marks.detail_in, Marks.named_details, Views.listed_of}
 use Rattle.cargo_toml_features.proofs.Listings.{detail_of_one, listed_one}
 use Rattle.cargo_toml_features.proofs.admit.add_listing.Goals as goal
 use Rattle.cargo_toml_features.proofs.admit.add_listing.Goals.{then-len-limit-via-then-len-limit, then-len-limit-via-else-len-limit+then-eq}

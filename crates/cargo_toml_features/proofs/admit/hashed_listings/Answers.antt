@@ -1,12 +1,8 @@
 use Rattle.std.proofs.Common.{◌≡◌, [], map, sym, ap, subst, rules, ◌∙◌}
-use Rattle.cargo_toml_graph.specs.Admitted.{Listed, admitted}
-use Rattle.cargo_toml_graph.specs.Reach.{IsOnce}
+use Rattle.cargo_toml_graph.specs.{Admitted.Listed, Admitted.admitted, Reach.IsOnce}
 use Rattle.cargo_toml_graph.proofs.Cut.{Ascends, admitted_once, cut, cut_is_admitted}
 use Rattle.cargo_toml_features.specs.Views.{listed_of}
-use Rattle.cargo_toml_features.proofs.Hashed.{looked_up, sorted_ascends, sorted_entry}
-use Rattle.cargo_toml_features.proofs.HashedListing.{has_listing}
-use Rattle.cargo_toml_features.proofs.Listings.{names_listed}
-use Rattle.cargo_toml_features.proofs.OneListing.{one_listing}
+use Rattle.cargo_toml_features.proofs.{Hashed.looked_up, Hashed.sorted_ascends, Hashed.sorted_entry, HashedListing.has_listing, Listings.names_listed, OneListing.one_listing}
 use Rattle.cargo_toml_features.proofs.admit.hashed_listings.Goals as goal
 
 pub returns-clause-all : goal.returns-clause-all

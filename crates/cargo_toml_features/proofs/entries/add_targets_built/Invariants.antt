@@ -3,8 +3,7 @@ use Rattle.std.specs.List.{flat_map}
 use Rattle.cargo_toml_parts.specs.Reads.{map_meaning}
 use Rattle.cargo_toml_dependencies.specs.Targets.{TargetMeaning, target_meaning}
 use Rattle.cargo_toml_graph.specs.Action.{Text}
-use Rattle.cargo_toml_features.specs.Entries.{built_entries}
-use Rattle.cargo_toml_features.specs.Views.{entry_of}
+use Rattle.cargo_toml_features.specs.{Entries.built_entries, Views.entry_of}
 use Rattle.cargo_toml_features.proofs.entries.add_targets_built.Given as goal
 
 abbrev pub invariant-loop-name : goal.invariant-loop-name

@@ -1,7 +1,5 @@
 use Rattle.std.proofs.Common.{rules, ◌≡◌, ◌<◌, ℕ, List, [], Bor, below_more, get_or, length, map, sym, ◌∙◌, arith}
-use Rattle.std.proofs.lemmas.Bool.{false≢true}
-use Rattle.std.proofs.lemmas.List.{get_or-map, length-map}
-use Rattle.std.proofs.lemmas.Slice.Eq.{bytes_eq-Decides}
+use Rattle.std.proofs.lemmas.{Bool.false≢true, List.get_or-map, List.length-map, Slice.Eq.bytes_eq-Decides}
 use Rattle.cargo_toml_graph.specs.Action.{Text}
 use Rattle.cargo_toml_features.specs.Places.{nth_text}
 use Rattle.cargo_toml_features.proofs.Places.{at_among}
@@ -28,5 +26,4 @@ pub returns-clause-missing : goal.returns-clause-missing
 returns-clause-missing c = λ _ there.
     let ts = c.args.texts.now in
     let k = at_among (map (λ t. t.now) ts) c.args.text.now [] there in
-    let long = length-map ts (λ (t : Bor Text). t.now) in
-    c.loop-i.invariant k.0 (let below = k.1 in let end = c.loop-i-test.false in omega (arith, below, end, long)) k.2
+    c.loop-i.invariant k.0 (let below = k.1 in let end = c.loop-i-test.false in omega (arith, below, end, length-map ts (λ (t : Bor Text). t.now))) k.2

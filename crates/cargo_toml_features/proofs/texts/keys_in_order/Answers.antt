@@ -1,12 +1,9 @@
 use Rattle.std.proofs.Common.{bytes_eq, sym, ◌∙◌}
-use Rattle.std.proofs.lemmas.Map.Iter.{rest_more, rest_all}
-use Rattle.std.proofs.lemmas.Map.Made.{is_some-lookup}
-use Rattle.std.specs.Borrow.{Bor}
-use Rattle.std.specs.Map.Iter.{deref}
-use Rattle.cargo_toml_features.proofs.TextKeys.{inserted, none_in}
+use Rattle.std.proofs.lemmas.{Map.Iter.rest_more, Map.Iter.rest_all, Map.Made.is_some-lookup}
+use Rattle.std.specs.{Borrow.Bor, Map.Iter.deref}
+use Rattle.cargo_toml_features.proofs.{TextKeys.inserted, TextKeys.none_in, Naming.none_left, Naming.none_yet, Naming.one_more}
 use Rattle.cargo_toml_features.specs.Views.{set_has}
 use Rattle.cargo_toml_graph.specs.Action.{Text}
-use Rattle.cargo_toml_features.proofs.Naming.{none_left, none_yet, one_more}
 use Rattle.cargo_toml_features.proofs.texts.keys_in_order.Goals as goal
 
 pub loop-key-init : goal.loop-key-init

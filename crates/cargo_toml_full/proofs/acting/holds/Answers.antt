@@ -1,6 +1,5 @@
 use Rattle.std.proofs.Common.{bytes_eq, rules, tests, ◌∙◌}
-use Rattle.std.proofs.lemmas.Iterator.{YieldsList-from_slice}
-use Rattle.std.proofs.lemmas.Iterator.Search.{any_from_yields_List}
+use Rattle.std.proofs.lemmas.{Iterator.YieldsList-from_slice, Iterator.Search.any_from_yields_List}
 use Rattle.cargo_toml_full.proofs.Searched.{any_mapped, placed}
 use Rattle.cargo_toml_full.proofs.acting.holds.Goals as goal
 

@@ -2,11 +2,8 @@ use Rattle.std.proofs.Common.{◌∷◌, ◌||◌, [], take, take_all, map, byte
 use Rattle.std.proofs.lemmas.Bool.{false≢true}
 use Rattle.std.specs.List.{list_any}
 use Rattle.cargo_toml_features.specs.Views.{entry_of}
-use Rattle.cargo_toml_full.specs.Implying.{is_offered}
-use Rattle.cargo_toml_full.specs.Searching.{has_key}
-use Rattle.cargo_toml_full.proofs.Implying.{offered_more}
-use Rattle.cargo_toml_full.proofs.TakenMore.{taken_more}
-use Rattle.cargo_toml_full.proofs.Searched.{same_among}
+use Rattle.cargo_toml_full.specs.{Implying.is_offered, Searching.has_key}
+use Rattle.cargo_toml_full.proofs.{Implying.offered_more, TakenMore.taken_more, Searched.same_among}
 use Rattle.cargo_toml_full.proofs.imply.implied_keys.Goals as goal
 
 pub loop-entry-init : goal.loop-entry-init

@@ -1,9 +1,7 @@
 use Rattle.std.proofs.Common.{◌≡◌, None, map, take}
 use Rattle.cargo_toml_graph.specs.Action.{Text}
-use Rattle.cargo_toml_features.specs.InOrder.{feature_at}
-use Rattle.cargo_toml_features.specs.Views.{entry_of}
-use Rattle.cargo_toml_full.specs.Implying.{AreFree, is_offered}
-use Rattle.cargo_toml_full.specs.Searching.{has_key}
+use Rattle.cargo_toml_features.specs.{InOrder.feature_at, Views.entry_of}
+use Rattle.cargo_toml_full.specs.{Implying.AreFree, Implying.is_offered, Searching.has_key}
 use Rattle.cargo_toml_full.proofs.imply.implied_keys.Given as goal
 
 abbrev pub invariant-loop-entry : goal.invariant-loop-entry

@@ -1,9 +1,7 @@
 use Rattle.std.proofs.Common.{take, map, sym, subst}
-use Rattle.cargo_toml_full.specs.Implying.{ImpliesAll, is_offered}
-use Rattle.cargo_toml_full.specs.Searching.{has_key}
+use Rattle.cargo_toml_full.specs.{Implying.ImpliesAll, Implying.is_offered, Searching.has_key}
 use Rattle.cargo_toml_features.specs.Views.{entry_of}
-use Rattle.cargo_toml_full.proofs.Implying.{implied_next, offers_nothing}
-use Rattle.cargo_toml_full.proofs.TakenMore.{taken_more}
+use Rattle.cargo_toml_full.proofs.{Implying.implied_next, Implying.offers_nothing, TakenMore.taken_more}
 use Rattle.cargo_toml_full.proofs.imply.imply_all.Goals as goal
 
 pub loop-entry-init : goal.loop-entry-init

@@ -1,8 +1,6 @@
 use Rattle.std.proofs.Common.{map, take}
-use Rattle.cargo_toml_features.specs.InOrder.{AreInOrder}
-use Rattle.cargo_toml_features.specs.Views.{entry_of}
-use Rattle.cargo_toml_full.specs.Implying.{ImpliesAll, is_offered}
-use Rattle.cargo_toml_full.specs.Searching.{has_key}
+use Rattle.cargo_toml_features.specs.{InOrder.AreInOrder, Views.entry_of}
+use Rattle.cargo_toml_full.specs.{Implying.ImpliesAll, Implying.is_offered, Searching.has_key}
 use Rattle.cargo_toml_full.proofs.imply.imply_all.Given as goal
 
 abbrev pub invariant-loop-entry : goal.invariant-loop-entry

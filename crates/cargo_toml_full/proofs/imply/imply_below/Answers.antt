@@ -1,6 +1,5 @@
 use Rattle.std.proofs.Common.{get_or, refl}
-use Rattle.cargo_toml_full.proofs.Gathering.{no_text}
-use Rattle.cargo_toml_full.proofs.Implying.{implied_one_more}
+use Rattle.cargo_toml_full.proofs.{Gathering.no_text, Implying.implied_one_more}
 use Rattle.cargo_toml_full.proofs.imply.imply_below.Goals as goal
 
 pub loop-next-preserved : goal.loop-next-preserved

@@ -1,6 +1,5 @@
 use Rattle.std.proofs.Common.{◌-◌, List, length, map, take}
-use Rattle.cargo_toml_features.specs.InOrder.{AreInOrder}
-use Rattle.cargo_toml_features.specs.declared.features.Feature.{Feature}
+use Rattle.cargo_toml_features.specs.{InOrder.AreInOrder, declared.features.Feature.Feature}
 use Rattle.cargo_toml_full.specs.Implying.{ImpliesAll, is_one_of}
 use Rattle.cargo_toml_full.proofs.imply.imply_below.Given as goal
 

@@ -1,8 +1,7 @@
 use Rattle.std.proofs.Common.{◌||◌, bytes_eq, cond, false, sym, ap, ◌∙◌}
 use Rattle.cargo_toml_features.specs.Views.{entry_of}
 use Rattle.cargo_toml_full.specs.Searching.{has_key}
-use Rattle.cargo_toml_full.proofs.Implying.{free_more, offered_one}
-use Rattle.cargo_toml_full.proofs.ReadOne.{has_more}
+use Rattle.cargo_toml_full.proofs.{Implying.free_more, Implying.offered_one, ReadOne.has_more}
 use Rattle.cargo_toml_full.proofs.imply.note_implied.Goals as goal
 
 pub returns-clause-noted : goal.returns-clause-noted

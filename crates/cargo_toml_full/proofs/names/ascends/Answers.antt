@@ -1,7 +1,6 @@
 use Rattle.std.proofs.Common.{Bor, rules}
 use Rattle.std.proofs.lemmas.Fn.{always_returns_same}
-use Rattle.cargo_toml_graph.specs.Action.{Text}
-use Rattle.cargo_toml_graph.specs.Admitted.{is_below}
+use Rattle.cargo_toml_graph.specs.{Action.Text, Admitted.is_below}
 use Rattle.cargo_toml_full.proofs.Ascending.{ascend_by_adjacent}
 use Rattle.cargo_toml_full.proofs.names.ascends.Goals as goal
 

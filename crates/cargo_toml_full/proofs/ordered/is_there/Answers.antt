@@ -1,6 +1,5 @@
 use Rattle.std.proofs.Common.{bytes_eq, rules, tests, ◌∙◌}
-use Rattle.std.proofs.lemmas.Iterator.{YieldsList-from_slice}
-use Rattle.std.proofs.lemmas.Iterator.Search.{any_from_yields_List}
+use Rattle.std.proofs.lemmas.{Iterator.YieldsList-from_slice, Iterator.Search.any_from_yields_List}
 use Rattle.cargo_toml_full.proofs.Placed.{found_any, told_there}
 use Rattle.cargo_toml_full.proofs.ordered.is_there.Goals as goal
 

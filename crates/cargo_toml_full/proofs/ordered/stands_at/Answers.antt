@@ -1,7 +1,5 @@
 use Rattle.std.proofs.Common.{[], get_or, sym, ◌∙◌}
-use Rattle.std.proofs.lemmas.Bool.{false≢true}
-use Rattle.std.proofs.lemmas.List.{get_or-map}
-use Rattle.std.proofs.lemmas.Slice.Eq.{bytes_eq-Decides}
+use Rattle.std.proofs.lemmas.{Bool.false≢true, List.get_or-map, Slice.Eq.bytes_eq-Decides}
 use Rattle.cargo_toml_features.specs.declared.features.Feature.{Feature}
 use Rattle.cargo_toml_full.proofs.ordered.stands_at.Goals as goal
 

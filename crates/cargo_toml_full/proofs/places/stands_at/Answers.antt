@@ -1,6 +1,5 @@
 use Rattle.std.proofs.Common.{◌<◌, [], length, get_or, Bor, sym, rules, ◌∙◌}
-use Rattle.std.proofs.lemmas.List.{get_or-map}
-use Rattle.std.proofs.lemmas.Slice.Eq.{bytes_eq-Decides}
+use Rattle.std.proofs.lemmas.{List.get_or-map, Slice.Eq.bytes_eq-Decides}
 use Rattle.cargo_toml_graph.specs.Action.{Text}
 use Rattle.cargo_toml_full.proofs.places.stands_at.Goals as goal
 

@@ -1,10 +1,8 @@
 use Rattle.std.proofs.Common.{sym, subst, ◌∙◌}
 use Rattle.cargo_toml_features.specs.ActionText.{action_in}
-use Rattle.cargo_toml_graph.specs.Action.{item_of}
-use Rattle.cargo_toml_graph.specs.Admitted.{action_on}
+use Rattle.cargo_toml_graph.specs.{Action.item_of, Admitted.action_on}
 use Rattle.cargo_toml_full.specs.Acting.{Notes}
-use Rattle.cargo_toml_full.proofs.ReadOne.{noted_none}
-use Rattle.cargo_toml_full.proofs.Gathering.{acting, naming, read_on, read_name}
+use Rattle.cargo_toml_full.proofs.{ReadOne.noted_none, Gathering.acting, Gathering.naming, Gathering.read_on, Gathering.read_name}
 use Rattle.cargo_toml_full.proofs.read.add_item.Goals as goal
 
 pub returns-in_ok-note-clause-read : goal.returns-in_ok-note-clause-read

@@ -1,9 +1,7 @@
 use Rattle.std.proofs.Common.{◌≡◌, take, is_some, sym, subst, ap, ◌∙◌, arith}
 use Rattle.std.proofs.lemmas.List.{take_all}
 use Rattle.cargo_toml_graph.specs.Reach.{IsOnce}
-use Rattle.cargo_toml_features.specs.InOrder.{AreInOrder}
-use Rattle.cargo_toml_features.specs.Marks.{named_details}
-use Rattle.cargo_toml_features.specs.Views.{listed_of}
+use Rattle.cargo_toml_features.specs.{InOrder.AreInOrder, Marks.named_details, Views.listed_of}
 use Rattle.cargo_toml_features.proofs.Listings.{names_listed}
 use Rattle.cargo_toml_graph.proofs.SortedTexts.{none_ascend}
 use Rattle.cargo_toml_full.specs.Searching.{has_key}

@@ -1,8 +1,6 @@
 use Rattle.std.proofs.Common.{◌≡◌, take, is_some}
 use Rattle.cargo_toml_graph.specs.Action.{Text}
-use Rattle.cargo_toml_features.specs.InOrder.{AreInOrder}
-use Rattle.cargo_toml_features.specs.Marks.{named_details}
-use Rattle.cargo_toml_features.specs.Views.{listed_of}
+use Rattle.cargo_toml_features.specs.{InOrder.AreInOrder, Marks.named_details, Views.listed_of}
 use Rattle.cargo_toml_full.specs.Searching.{has_key}
 use Rattle.cargo_toml_full.proofs.ReadAll.{HasRead, is_dep_only, told_in}
 use Rattle.cargo_toml_full.proofs.read.read_features.Given as goal

@@ -1,8 +1,7 @@
 use Rattle.std.proofs.Common.{◌≡◌, arith, map, take, string_bytes, sym, subst}
 use Rattle.std.proofs.lemmas.List.{take_all}
 use Rattle.cargo_toml_graph.specs.Action.{item_of}
-use Rattle.cargo_toml_full.specs.ReadFeature.{joined_in, IsReadFeature}
-use Rattle.cargo_toml_full.specs.Acting.{Notes}
+use Rattle.cargo_toml_full.specs.{ReadFeature.joined_in, ReadFeature.IsReadFeature, Acting.Notes}
 use Rattle.cargo_toml_features.specs.Marks.{detail_in}
 use Rattle.cargo_toml_full.proofs.ReadOne.{items_more, noted_more}
 use Rattle.cargo_toml_full.proofs.read.read_list.Goals as goal

@@ -1,7 +1,6 @@
 use Rattle.std.proofs.Common.{map, take, string_bytes}
 use Rattle.cargo_toml_graph.specs.Action.{item_of}
-use Rattle.cargo_toml_full.specs.Acting.{Notes}
-use Rattle.cargo_toml_full.specs.ReadFeature.{joined_in, IsReadFeature}
+use Rattle.cargo_toml_full.specs.{Acting.Notes, ReadFeature.joined_in, ReadFeature.IsReadFeature}
 use Rattle.cargo_toml_features.specs.Marks.{detail_in}
 use Rattle.cargo_toml_full.proofs.read.read_list.Given as goal
 

@@ -2,10 +2,8 @@ use Rattle.std.proofs.Common.{◌≡◌, length, map, string_bytes, sym, subst, 
 use Rattle.std.proofs.lemmas.List.{nil_from_length}
 use Rattle.cargo_toml_graph.specs.Action.{item_of}
 use Rattle.cargo_toml_features.specs.Marks.{detail_in}
-use Rattle.cargo_toml_full.specs.Acting.{Notes}
-use Rattle.cargo_toml_full.specs.ReadFeature.{IsReadFeature, joined_in}
-use Rattle.cargo_toml_full.proofs.Placed.{filled_held, filled_in_order, found_behind, last_held, last_in_order}
-use Rattle.cargo_toml_full.proofs.ReadOne.{noted_none}
+use Rattle.cargo_toml_full.specs.{Acting.Notes, ReadFeature.IsReadFeature, ReadFeature.joined_in}
+use Rattle.cargo_toml_full.proofs.{Placed.filled_held, Placed.filled_in_order, Placed.found_behind, Placed.last_held, Placed.last_in_order, ReadOne.noted_none}
 use Rattle.cargo_toml_full.proofs.read.read_listing.Goals as goal
 
 -- an empty list

@@ -1,10 +1,8 @@
 use Rattle.std.proofs.Common.{◌≡◌, Some, cond, unwrap_or, bytes_eq, sym, ap, ◌∙◌}
 use Rattle.cargo_toml_graph.specs.Action.{Text}
 use Rattle.cargo_toml_full.specs.Slots.{held_in, names_in}
-use Rattle.cargo_toml_features.specs.Views.{entry_of}
-use Rattle.cargo_toml_full.proofs.HeldValues.{put_again, value_put, value_there}
-use Rattle.cargo_toml_full.proofs.Recording.{recorded_put}
-use Rattle.cargo_toml_features.specs.Places.{nth_text}
+use Rattle.cargo_toml_features.specs.{Views.entry_of, Places.nth_text}
+use Rattle.cargo_toml_full.proofs.{HeldValues.put_again, HeldValues.value_put, HeldValues.value_there, Recording.recorded_put}
 use Rattle.cargo_toml_full.proofs.record.record_at.Goals as goal
 
 pub returns-clause-recorded : goal.returns-clause-recorded

@@ -1,20 +1,11 @@
 use Rattle.std.proofs.Common.{◌≡◌, ◌<◌, ◌||◌, ℕ, Bool, Bor, IsTrue, List, get_or, length, take, take_all, map, refl, ap, sym, subst, ◌∙◌, arith}
-use Rattle.std.proofs.lemmas.Bool.{and_from}
-use Rattle.std.proofs.lemmas.List.{get_or-map, length-map}
-use Rattle.std.proofs.lemmas.List.Folds.{list_any_at}
-use Rattle.std.proofs.lemmas.Slice.Eq.{bytes_eq-Decides}
+use Rattle.std.proofs.lemmas.{Bool.and_from, List.get_or-map, List.length-map, List.Folds.list_any_at, Slice.Eq.bytes_eq-Decides}
 use Rattle.std.specs.List.{list_any}
 use Rattle.cargo_toml_dependencies.specs.Dependencies.{dependency_meaning, is_optional}
-use Rattle.cargo_toml_graph.specs.Action.{Text}
-use Rattle.cargo_toml_graph.specs.Reach.{Among}
-use Rattle.cargo_toml_features.specs.declared.features.ParseDependency.{ParseDependency}
-use Rattle.cargo_toml_features.specs.Recorded.{entries_at, recorded_of}
+use Rattle.cargo_toml_graph.specs.{Action.Text, Reach.Among}
+use Rattle.cargo_toml_features.specs.{declared.features.ParseDependency.ParseDependency, Recorded.entries_at, Recorded.recorded_of, Views.entry_of}
 use Rattle.cargo_toml_full.specs.Recording.{counts_alone, counts_at, recorded_at, is_mentioned_in}
-use Rattle.cargo_toml_features.specs.Views.{entry_of}
-use Rattle.cargo_toml_full.proofs.Counting.{recorded_then}
-use Rattle.cargo_toml_full.proofs.GatheredKeys.{flag_there}
-use Rattle.cargo_toml_full.proofs.HeldValues.{same_then}
-use Rattle.cargo_toml_full.proofs.TakenMore.{taken_more}
+use Rattle.cargo_toml_full.proofs.{Counting.recorded_then, GatheredKeys.flag_there, HeldValues.same_then, TakenMore.taken_more}
 use Rattle.cargo_toml_full.proofs.record.record_dependencies.Goals as goal
 
 counted_there : (mentioned : Text → Bool) (es : List ParseDependency) (i : ℕ) (p : ParseDependency) → i < length es → p ≡ get_or es i p →

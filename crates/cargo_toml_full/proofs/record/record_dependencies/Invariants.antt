@@ -1,10 +1,7 @@
 use Rattle.std.proofs.Common.{◌≡◌, map, take}
-use Rattle.cargo_toml_graph.specs.Action.{Text}
-use Rattle.cargo_toml_graph.specs.Admitted.{Listed}
-use Rattle.cargo_toml_features.specs.Recorded.{is_mentioned, entries_at, recorded_of}
-use Rattle.cargo_toml_full.specs.Recording.{recorded_at, is_mentioned_in}
-use Rattle.cargo_toml_full.specs.Slots.{HaveSameNames}
-use Rattle.cargo_toml_features.specs.Views.{entry_of}
+use Rattle.cargo_toml_graph.specs.{Action.Text, Admitted.Listed}
+use Rattle.cargo_toml_features.specs.{Recorded.is_mentioned, Recorded.entries_at, Recorded.recorded_of, Views.entry_of}
+use Rattle.cargo_toml_full.specs.{Recording.recorded_at, Recording.is_mentioned_in, Slots.HaveSameNames}
 use Rattle.cargo_toml_full.proofs.record.record_dependencies.Given as goal
 
 abbrev pub invariant-loop-entry : goal.invariant-loop-entry

@@ -2,10 +2,8 @@ use Rattle.std.proofs.Common.{◌≡◌, ◌||◌, Bool, true, false, None, is_s
 use Rattle.std.proofs.Math.Bool.{or-true}
 use Rattle.cargo_toml_graph.specs.Reach.{Among}
 use Rattle.cargo_toml_features.specs.Views.{entry_of}
-use Rattle.cargo_toml_full.specs.Recording.{counts_alone}
-use Rattle.cargo_toml_full.specs.Slots.{held_in, names_in}
-use Rattle.cargo_toml_full.proofs.HeldValues.{unfound, value_found}
-use Rattle.cargo_toml_full.proofs.Recording.{none_recorded, one_recorded}
+use Rattle.cargo_toml_full.specs.{Recording.counts_alone, Slots.held_in, Slots.names_in}
+use Rattle.cargo_toml_full.proofs.{HeldValues.unfound, HeldValues.value_found, Recording.none_recorded, Recording.one_recorded}
 use Rattle.cargo_toml_full.proofs.record.record_entry.Goals as goal
 use Rattle.cargo_toml_full.proofs.record.record_entry.Goals.{then-is_counted-via-then-is_counted, then-is_counted-via-else-is_counted+then-is_some}
 

@@ -10,8 +10,7 @@ pub loop-feature-preserved : goal.loop-feature-preserved
 loop-feature-preserved c =
     let i = c.loop-feature.feature-index in
     let mid = c.loop-feature.features in
-    let test = c.loop-feature-test.true in
-    let below : i < length mid = omega (arith, test) in
+    let below : i < length mid = omega (arith, c.loop-feature-test.true) in
     record {
       names = names_set mid i c.thin_feature.new.feature _ below (ap (λ k. k.now) c.thin_feature.ensures.same_key) ∙ c.loop-feature.invariant.names;
       thinned = λ entries recorded. one_turned (Thinned entries) i c.args.features.now mid _ c.thin_feature.new.feature (c.loop-feature.invariant.thinned entries recorded) below (c.thin_feature.ensures.thinned entries recorded);
@@ -21,8 +20,7 @@ pub returns-clause-thinned : goal.returns-clause-thinned
 returns-clause-thinned c = λ entries recorded.
     let i = c.loop-feature.feature-index in
     let new = c.loop-feature.features in
-    let test = c.loop-feature-test.false in
-    let end : ¬ (i < length new) = omega (arith, test) in
+    let end : ¬ (i < length new) = omega (arith, c.loop-feature-test.false) in
     record { at = all_turned (Thinned entries) i c.args.features.now new c.loop-feature.invariant.names end (c.loop-feature.invariant.thinned entries recorded) }
 
 pub returns-clause-same_names : goal.returns-clause-same_names

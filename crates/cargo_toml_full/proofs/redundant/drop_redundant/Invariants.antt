@@ -1,7 +1,6 @@
 use Rattle.std.proofs.Common.{◌≡◌, List}
 use Rattle.cargo_toml_graph.specs.Action.{Text}
-use Rattle.cargo_toml_features.specs.InOrder.{names_of}
-use Rattle.cargo_toml_features.specs.Recorded.{Entry}
+use Rattle.cargo_toml_features.specs.{InOrder.names_of, Recorded.Entry}
 use Rattle.cargo_toml_full.specs.Redundant.{IsSaidOf, Thinned}
 use Rattle.cargo_toml_full.proofs.PlaceByPlace.{TurnedUpTo}
 use Rattle.cargo_toml_full.proofs.redundant.drop_redundant.Given as goal

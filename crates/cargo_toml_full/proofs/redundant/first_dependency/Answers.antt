@@ -1,8 +1,7 @@
 use Rattle.std.proofs.Common.{◌≡◌, ◌<◌, Bor, List, [], ◌∷◌, length, None, is_some, option_map}
 use Rattle.std.proofs.Common.{refl, ap, arith, rules, ◌∙◌}
 use Rattle.std.proofs.lemmas.Bool.{false≢true}
-use Rattle.cargo_toml_dependencies.specs.declared.dependency.Dependency.{Dependency}
-use Rattle.cargo_toml_dependencies.specs.Dependencies.{dependency_meaning}
+use Rattle.cargo_toml_dependencies.specs.{declared.dependency.Dependency.Dependency, Dependencies.dependency_meaning}
 use Rattle.cargo_toml_features.proofs.FirstTarget.{first_recorded, some_recorded}
 use Rattle.cargo_toml_full.proofs.redundant.first_dependency.Goals as goal
 

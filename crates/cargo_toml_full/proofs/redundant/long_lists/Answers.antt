@@ -1,7 +1,5 @@
 use Rattle.std.proofs.Common.{◌≡◌, Some, subst}
-use Rattle.cargo_toml_full.specs.declared.redundant_features.RedundantFeatures.{RedundantFeatures}
-use Rattle.cargo_toml_full.specs.declared.slots.Slots.{Slots}
-use Rattle.cargo_toml_full.specs.Redundant.{AreRedundantOf}
+use Rattle.cargo_toml_full.specs.{declared.redundant_features.RedundantFeatures.RedundantFeatures, declared.slots.Slots.Slots, Redundant.AreRedundantOf}
 use Rattle.cargo_toml_full.proofs.redundant.long_lists.Goals as goal
 
 some_same : {x y : Slots RedundantFeatures} → Some x ≡ Some y → x ≡ y

@@ -1,8 +1,6 @@
 use Rattle.std.proofs.Common.{◌≡◌, Bor, List, length, map, take_all, ap, subst, sym, ◌∙◌}
-use Rattle.cargo_toml_graph.specs.Action.{Text}
-use Rattle.cargo_toml_graph.specs.Ascending.{Ascend}
-use Rattle.cargo_toml_full.specs.Redundant.{has_redundant}
-use Rattle.cargo_toml_full.specs.Slots.{held_among, names_in}
+use Rattle.cargo_toml_graph.specs.{Action.Text, Ascending.Ascend}
+use Rattle.cargo_toml_full.specs.{Redundant.has_redundant, Slots.held_among, Slots.names_in}
 use Rattle.cargo_toml_full.proofs.Redundancy.{HaveAnyway, as_many, turn_more, under_names}
 use Rattle.cargo_toml_full.proofs.redundant.redundant_features.Goals as goal
 

@@ -1,9 +1,7 @@
 use Rattle.std.proofs.Common.{◌≡◌, ◌&&◌, ◌||◌, Bool, Bor, Some, bytes_eq, codes, map, string_bytes}
 use Rattle.std.proofs.Common.{ap, ap₂, sym, ◌∙◌}
 use Rattle.std.specs.List.{list_any}
-use Rattle.cargo_toml_dependencies.specs.declared.dependency.Dependency.{Dependency}
-use Rattle.cargo_toml_dependencies.specs.declared.dependency.DependencyDetail.{DependencyDetail}
-use Rattle.cargo_toml_dependencies.specs.Dependencies.{dependency_meaning}
+use Rattle.cargo_toml_dependencies.specs.{declared.dependency.Dependency.Dependency, declared.dependency.DependencyDetail.DependencyDetail, Dependencies.dependency_meaning}
 use Rattle.cargo_toml_graph.specs.Action.{Text}
 use Rattle.cargo_toml_features.specs.Recorded.{is_redundant}
 use Rattle.cargo_toml_full.specs.Searching.{has_key}

@@ -1,16 +1,9 @@
 use Rattle.std.proofs.Common.{◌≡◌, List, Option, Some, None, option_map, Bor, refl, sym, ap, subst, rules, ◌∙◌}
-use Rattle.std.proofs.lemmas.Map.Text.{is_eq-slice_cmp}
-use Rattle.std.proofs.lemmas.Slice.Eq.{bytes_eq-Decides}
-use Rattle.std.specs.BTreeMap.{is_at}
-use Rattle.std.specs.Cmp.Lexicographic.{slice_cmp}
-use Rattle.std.specs.Map.{lookup}
-use Rattle.std.specs.Ordering.{nat_cmp}
-use Rattle.cargo_toml_features.specs.declared.features.DepAction.{DepAction}
+use Rattle.std.proofs.lemmas.{Map.Text.is_eq-slice_cmp, Slice.Eq.bytes_eq-Decides}
+use Rattle.std.specs.{BTreeMap.is_at, Cmp.Lexicographic.slice_cmp, Map.lookup, Ordering.nat_cmp}
+use Rattle.cargo_toml_features.specs.{declared.features.DepAction.DepAction, Recorded.Entry, Recorded.first_target, Recorded.without_redundant, Views.action_of}
 use Rattle.cargo_toml_graph.specs.Action.{Text}
-use Rattle.cargo_toml_features.specs.Recorded.{Entry, first_target}
-use Rattle.cargo_toml_features.specs.Recorded.{without_redundant}
 use Rattle.cargo_toml_full.specs.Redundant.{IsSaidOf}
-use Rattle.cargo_toml_features.specs.Views.{action_of}
 use Rattle.cargo_toml_full.proofs.Thinning.{Finds, looked_up}
 use Rattle.cargo_toml_full.proofs.redundant.thin_actions.Goals as goal
 

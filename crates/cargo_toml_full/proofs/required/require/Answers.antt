@@ -1,7 +1,6 @@
 use Rattle.std.proofs.Common.{is_some, sym, ap, ◌∙◌}
 use Rattle.cargo_toml_features.specs.InOrder.{feature_at}
-use Rattle.cargo_toml_full.proofs.Placed.{none_from}
-use Rattle.cargo_toml_full.proofs.Requiring.{required_nowhere}
+use Rattle.cargo_toml_full.proofs.{Placed.none_from, Requiring.required_nowhere}
 use Rattle.cargo_toml_full.proofs.required.require.Goals as goal
 
 pub returns-in_default-clause-required : goal.returns-in_default-clause-required

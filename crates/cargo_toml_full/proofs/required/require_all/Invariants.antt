@@ -1,7 +1,6 @@
 use Rattle.std.proofs.Common.{◌≡◌, map, take}
 use Rattle.cargo_toml_features.specs.InOrder.{names_of}
-use Rattle.cargo_toml_full.specs.OwnBins.{own_of, bin_requirement}
-use Rattle.cargo_toml_full.specs.Requiring.{RequiredAll}
+use Rattle.cargo_toml_full.specs.{OwnBins.own_of, OwnBins.bin_requirement, Requiring.RequiredAll}
 use Rattle.cargo_toml_full.proofs.required.require_all.Given as goal
 
 abbrev pub invariant-loop-requirement : goal.invariant-loop-requirement

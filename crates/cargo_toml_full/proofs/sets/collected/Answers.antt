@@ -1,10 +1,7 @@
 use Rattle.std.proofs.Common.{rules, Bor}
-use Rattle.std.proofs.lemmas.Iterator.{YieldsList-from_slice}
-use Rattle.std.proofs.lemmas.Iterator.Adapters.{fact_from_collect}
-use Rattle.std.proofs.lemmas.Iterator.Consumers.{YieldsList-from_copied}
+use Rattle.std.proofs.lemmas.{Iterator.YieldsList-from_slice, Iterator.Adapters.fact_from_collect, Iterator.Consumers.YieldsList-from_copied}
 use Rattle.std.specs.BTreeSet as sorted
-use Rattle.std.specs.Cmp.Lexicographic.{slice_cmp}
-use Rattle.std.specs.Ordering.{nat_cmp}
+use Rattle.std.specs.{Cmp.Lexicographic.slice_cmp, Ordering.nat_cmp}
 use Rattle.cargo_toml_graph.specs.Action.{Text}
 use Rattle.cargo_toml_full.proofs.Gathering.{texts_made}
 use Rattle.cargo_toml_full.proofs.sets.collected.Goals as goal

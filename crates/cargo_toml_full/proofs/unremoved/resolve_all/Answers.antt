@@ -1,7 +1,6 @@
 use Rattle.std.proofs.Common.{map}
 use Rattle.cargo_toml_full.specs.OwnBins.{own_of, bin_requirement}
-use Rattle.cargo_toml_features.specs.Marks.{named_details}
-use Rattle.cargo_toml_features.specs.Views.{listed_of, entry_of}
+use Rattle.cargo_toml_features.specs.{Marks.named_details, Views.listed_of, Views.entry_of}
 use Rattle.cargo_toml_full.proofs.Answering.{all_told}
 use Rattle.cargo_toml_full.proofs.unremoved.resolve_all.Goals as goal
 

@@ -4,9 +4,7 @@ use Rattle.cargo_toml_resolve.proofs.bits.bits_of.Goals as goal
 
 pub set_bit-requires : goal.set_bit-requires
 set_bit-requires c =
-    let i = c.requires _ (among_at c.args.row.now c.loop-x.x-index c.loop-x-test.true) in
-    let e = c.loop-x.invariant.len in
-    rw (item_is c.args.row.now c.loop-x.x-index _ c.loop-x-test.true c.x-item.is) (omega (arith, i, e))
+    rw (item_is c.args.row.now c.loop-x.x-index _ c.loop-x-test.true c.x-item.is) (omega (arith, c.requires _ (among_at c.args.row.now c.loop-x.x-index c.loop-x-test.true), c.loop-x.invariant.len))
 
 pub loop-x-preserved : goal.loop-x-preserved
 loop-x-preserved c =

@@ -1,15 +1,11 @@
 use Rattle.std.proofs.Common.{rules, ◌≡◌, ◌<◌, ◌≤◌, ◌↔◌, ◌+◌, [], ℕ, inl, true, false, length, length-set, ap, sym, subst, ◌∙◌, arith}
-use Rattle.std.proofs.lemmas.Bool.{false≢true}
-use Rattle.std.proofs.lemmas.List.{length-replicate}
+use Rattle.std.proofs.lemmas.{Bool.false≢true, List.length-replicate}
 use Rattle.cargo_toml_graph.specs.Reach.{Among, GathersLabel, Reaches}
-use Rattle.cargo_toml_resolve.specs.Bits.{Holds}
-use Rattle.cargo_toml_resolve.specs.Numbers.{IsRedirect, IsWanted, Leads}
-use Rattle.cargo_toml_resolve.proofs.Closing.{Labels, Paths, Redirect, all_labels, all_paths, first_labels, first_paths, more_labels, more_paths, none_finished, redirect_row, same_labels, same_paths, table_alike, table_gains}
-use Rattle.cargo_toml_resolve.proofs.Cuts.{one_more_finished, still_finished}
-use Rattle.cargo_toml_resolve.proofs.Filling.{IsFilled, none_filled, one_more_filled}
-use Rattle.cargo_toml_resolve.proofs.RowsInOrder.{all_moved}
-use Rattle.cargo_toml_resolve.proofs.Steps.{has_row, list_read}
-use Rattle.cargo_toml_resolve.proofs.Tabled.{holds_inside}
+use Rattle.cargo_toml_resolve.specs.{Bits.Holds, Numbers.IsRedirect, Numbers.IsWanted, Numbers.Leads}
+use Rattle.cargo_toml_resolve.proofs.Closing.{Labels, Paths, Redirect, all_labels, all_paths, first_labels, first_paths, more_labels}
+use Rattle.cargo_toml_resolve.proofs.Closing.{more_paths, none_finished, redirect_row, same_labels, same_paths, table_alike, table_gains}
+use Rattle.cargo_toml_resolve.proofs.{Cuts.one_more_finished, Cuts.still_finished, Filling.IsFilled, Filling.none_filled, Filling.one_more_filled, RowsInOrder.all_moved, Steps.has_row}
+use Rattle.cargo_toml_resolve.proofs.{Steps.list_read, Tabled.holds_inside}
 use Rattle.cargo_toml_resolve.proofs.dense.take_out.Goals.{then-is_removed-r+in_ok-row+in_ok-push+in_ok-parents+in_ok-pass_on+in_ok-pass_on-2, else-is_removed-r+in_ok-push-2}
 use Rattle.cargo_toml_resolve.proofs.dense.take_out.Goals as goal
 
@@ -32,18 +28,12 @@ pub nodes_of-requires : goal.nodes_of-requires
 nodes_of-requires c =
     let below : c.loop-r.r < length c.loop-r.gathered.items = search rules in
     let read = c.as_slice.ensures.value ∙ sym (list_read c.loop-r.gathered.items c.loop-r.r c.index.result.now below c.index.ensures) in
-    let wide = ap length read ∙ c.loop-r.invariant.gathered.wide c.loop-r.r below in
-    let flags = ap length c.as_slice-then-is_removed-r.ensures.value ∙ c.loop-r.invariant.flags in
-    let fits = c.words_for-width.ensures.enough in
-    omega (arith, wide, flags, fits)
+    omega (arith, ap length read ∙ c.loop-r.invariant.gathered.wide c.loop-r.r below, ap length c.as_slice-then-is_removed-r.ensures.value ∙ c.loop-r.invariant.flags, c.words_for-width.ensures.enough)
 
 pub pass_on-requires-clause-named : goal.pass_on-requires-clause-named
 pass_on-requires-clause-named c = λ a i.
     let held = ((rw (c.as_slice-then-is_removed-r-3.ensures.value, c.at-own.ensures) at c.in_ok-parents.ensures) a).0 (subst (λ t. Among t a) c.as_slice-then-is_removed-r-4.ensures.value i) in
-    let lt = holds_inside c.loop-r.paths.items a c.loop-r.r held in
-    let e = c.loop-r.invariant.paths.len in
-    let l = c.loop-r.invariant.gathered.len in
-    omega (arith, lt, e, l)
+    omega (arith, holds_inside c.loop-r.paths.items a c.loop-r.r held, c.loop-r.invariant.paths.len, c.loop-r.invariant.gathered.len)
 
 pub pass_on-requires-then-is_removed-r-clause-named : goal.pass_on-requires-then-is_removed-r-clause-named
 pass_on-requires-then-is_removed-r-clause-named c = λ a i.

@@ -1,10 +1,6 @@
 use Rattle.std.proofs.Common.{rules, ◌≡◌, ◌<◌, ℕ, length, ap, refl, sym, subst, ◌∙◌, arith}
 use Rattle.std.specs.Option.{ForSome}
-use Rattle.cargo_toml_resolve.specs.Dense.{AreTables}
-use Rattle.cargo_toml_resolve.specs.Numbers.{FindsRedirects}
-use Rattle.cargo_toml_resolve.specs.Passing.{bins_of, passed_below}
-use Rattle.cargo_toml_resolve.specs.Texts.{texts_now}
-use Rattle.cargo_toml_resolve.specs.Walking.{AreRedirects}
+use Rattle.cargo_toml_resolve.specs.{Dense.AreTables, Numbers.FindsRedirects, Passing.bins_of, Passing.passed_below, Texts.texts_now, Walking.AreRedirects}
 use Rattle.cargo_toml_resolve.proofs.Placing.{bins_there, kept_there, left_there, named_alike_there, redirects_there}
 use Rattle.cargo_toml_resolve.proofs.elimination.place.Goals as goal
 
@@ -12,11 +8,10 @@ pub redirects-requires-clause-within : goal.redirects-requires-clause-within
 redirects-requires-clause-within c =
     let g = c.args.graph in
     let flags : length c.as_slice-is_removed.result.now ≡ length g.flags.items = ap length c.as_slice-is_removed.ensures.value in
-    let vertices = g.features_count in
     let count = g.flags_count in
     record {
       same = g.names_count;
-      count = omega (arith, flags, vertices, count);
+      count = omega (arith, flags, g.features_count, count);
       edges_inside = g.edges_inside;
       labels_inside = λ a x i. subst (λ n. x < n) (sym (flags ∙ count)) (g.names_inside a x i);
     }
@@ -70,10 +65,9 @@ invariant_of-result c =
     let found : FindsRedirects g.edges g.names fs r.moved.items r.rows = subst (λ f. FindsRedirects g.edges g.names f r.moved.items r.rows) c.as_slice-is_removed.ensures.value c.in_ok-rows.ensures in
     let len = found.len in
     let names = g.names_count in
-    let vertices = g.features_count in
     record {
       once = λ i j lt. g.once i j (let lt' = lt in omega (arith, lt', len, names));
-      features_count = omega (arith, len, names, vertices);
+      features_count = omega (arith, len, names, g.features_count);
       flags_count = g.flags_count;
       moved_count = found.count ∙ g.flags_count;
       redirects_inside = λ x z i. subst (λ n. z < n) g.flags_count (found.inside x z i);

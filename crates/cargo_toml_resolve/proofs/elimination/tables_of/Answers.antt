@@ -5,11 +5,10 @@ pub take_out-requires : goal.take_out-requires
 take_out-requires c =
     let g = c.args.graph.now in
     let flags = ap length c.as_slice.ensures.value in
-    let vertices = g.features_count in
     let count = g.flags_count in
     record {
       same = g.names_count;
-      count = omega (arith, flags, vertices, count);
+      count = omega (arith, flags, g.features_count, count);
       edges_inside = g.edges_inside;
       labels_inside = λ a x i. subst (λ n. x < n) (sym (flags ∙ count)) (g.names_inside a x i);
     }

@@ -1,9 +1,8 @@
 use Rattle.std.proofs.Common.{◌≡◌, ◌<◌, ◌+◌, get_or, take, take_all, sym, subst}
 use Rattle.cargo_toml_graph.specs.Reach.{Among}
 use Rattle.cargo_toml_features.proofs.Places.{among_at}
-use Rattle.cargo_toml_resolve.proofs.Steps.{among_more, item_is}
+use Rattle.cargo_toml_resolve.proofs.{Steps.among_more, Steps.item_is, Learning.nobody_enabled, Learning.then_enabled}
 use Rattle.cargo_toml_resolve.specs.Enabling.{GainEnabler}
-use Rattle.cargo_toml_resolve.proofs.Learning.{nobody_enabled, then_enabled}
 use Rattle.cargo_toml_resolve.proofs.enabling.enable_along.Goals as goal
 
 pub loop-at-init : goal.loop-at-init

@@ -21,8 +21,5 @@ pub returns : goal.returns
 returns c =
     let vs = c.args.features.now.items in
     let keys = c.args.keys.now in
-    let long = as_many keys vs c.requires.keys in
-    let end = c.loop-own-test.false in
-    let most = c.loop-own.auto.own-end in
-    let all : c.loop-own.own ≡ length vs = omega (arith, end, most, long) in
+    let all : c.loop-own.own ≡ length vs = omega (arith, c.loop-own-test.false, c.loop-own.auto.own-end, as_many keys vs c.requires.keys) in
     subst (λ n. HaveLearnt n vs c.loop-own.features.items) all c.loop-own.invariant

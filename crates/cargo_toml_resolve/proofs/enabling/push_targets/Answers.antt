@@ -1,9 +1,7 @@
 use Rattle.std.proofs.Common.{IsTrue, length}
 use Rattle.cargo_toml_graph.specs.Graph.{IsPlain}
-use Rattle.cargo_toml_features.specs.Views.{action_at, set_has}
-use Rattle.cargo_toml_features.specs.Places.{nth_text}
-use Rattle.cargo_toml_resolve.specs.Enabling.{LeadsTo}
-use Rattle.cargo_toml_resolve.specs.Texts.{texts_now}
+use Rattle.cargo_toml_features.specs.{Views.action_at, Views.set_has, Places.nth_text}
+use Rattle.cargo_toml_resolve.specs.{Enabling.LeadsTo, Texts.texts_now}
 use Rattle.cargo_toml_resolve.proofs.NumberRows.{both_gained, none_gained}
 use Rattle.cargo_toml_resolve.proofs.enabling.push_targets.Goals as goal
 

@@ -1,7 +1,6 @@
 use Rattle.std.proofs.Common.{◌≡◌, ◌<◌, ℕ, false, length}
 use Rattle.std.specs.List.{slice_index_or}
-use Rattle.cargo_toml_features.specs.InOrder.{names_of}
-use Rattle.cargo_toml_features.specs.Places.{nth_text}
+use Rattle.cargo_toml_features.specs.{InOrder.names_of, Places.nth_text}
 use Rattle.cargo_toml_resolve.specs.Filter.{IsFlagOf}
 use Rattle.cargo_toml_resolve.proofs.flags.hidden_flags.Given as goal
 

@@ -1,12 +1,8 @@
 use Rattle.std.proofs.Common.{◌≡◌, ◌<◌, Bor, List, false, length, refl, sym, subst, ◌∙◌, arith}
 use Rattle.std.proofs.lemmas.Option.{slice_get_read}
-use Rattle.cargo_toml_graph.specs.Action.{Text}
-use Rattle.cargo_toml_graph.specs.Reach.{Among}
-use Rattle.cargo_toml_resolve.specs.Numbers.{IsWanted, row_items}
-use Rattle.cargo_toml_resolve.proofs.Steps.{read_at}
-use Rattle.cargo_toml_resolve.specs.Holding.{HasTextsOf}
-use Rattle.cargo_toml_resolve.specs.Texts.{texts_now}
-use Rattle.cargo_toml_resolve.proofs.HashedRedirects.{none_handed, set_handed}
+use Rattle.cargo_toml_graph.specs.{Action.Text, Reach.Among}
+use Rattle.cargo_toml_resolve.specs.{Numbers.IsWanted, Numbers.row_items, Holding.HasTextsOf, Texts.texts_now}
+use Rattle.cargo_toml_resolve.proofs.{Steps.read_at, HashedRedirects.none_handed, HashedRedirects.set_handed}
 use Rattle.cargo_toml_resolve.proofs.hidden_map.redirect_of.Goals as goal
 
 pub set_of_nodes-requires : goal.set_of_nodes-requires

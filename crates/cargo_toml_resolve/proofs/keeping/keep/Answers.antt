@@ -1,25 +1,16 @@
 use Rattle.std.proofs.Common.{arith, ◌≡◌, ◌↔◌, ◌<◌, ◌∙◌, ℕ, List, Bor, true, false, length, [], refl, ap, sym, subst}
 use Rattle.std.proofs.lemmas.Bool.{false≢true}
-use Rattle.cargo_toml_graph.specs.Action.{Text}
-use Rattle.cargo_toml_graph.specs.Reach.{Among, Reaches}
-use Rattle.cargo_toml_graph.specs.Reach.Reaches.{edge}
+use Rattle.cargo_toml_graph.specs.{Action.Text, Reach.Among, Reach.Reaches, Reach.Reaches.edge}
 use Rattle.cargo_toml_features.specs.Places.{nth_text}
-use Rattle.cargo_toml_resolve.specs.Numbers.{IsPassed, IsWanted, KeepsLabel, Leads, PassesAny, row_items}
-use Rattle.cargo_toml_resolve.specs.Enabling.{GainEnabler}
-use Rattle.cargo_toml_resolve.specs.Holding.{HasTextsOf}
-use Rattle.cargo_toml_resolve.specs.TakingOver.{ChangesIn, ComesToHold}
-use Rattle.cargo_toml_resolve.specs.Texts.{texts_now}
-use Rattle.cargo_toml_resolve.proofs.TakenOver.{directly, passes_none, source_is, stays_as_it_is, takes_over}
-use Rattle.cargo_toml_resolve.proofs.Walking.{path_inside}
+use Rattle.cargo_toml_resolve.specs.{Numbers.IsPassed, Numbers.IsWanted, Numbers.KeepsLabel, Numbers.Leads, Numbers.PassesAny, Numbers.row_items, Enabling.GainEnabler, Holding.HasTextsOf}
+use Rattle.cargo_toml_resolve.specs.{TakingOver.ChangesIn, TakingOver.ComesToHold, Texts.texts_now}
+use Rattle.cargo_toml_resolve.proofs.{TakenOver.directly, TakenOver.passes_none, TakenOver.source_is, TakenOver.stays_as_it_is, TakenOver.takes_over, Walking.path_inside}
 use Rattle.cargo_toml_resolve.proofs.keeping.keep.Goals as goal
 
 pub has_flagged-requires : goal.has_flagged-requires
 has_flagged-requires c = λ x i.
     let g = c.args.graph.now in
-    let below = g.edges_inside c.args.own x (subst (λ l. Among l x) c.row-row.ensures i) in
-    let m = g.features_count in
-    let n = g.flags_count in
-    let fits : x < length g.flags.items = omega (arith, below, m, n) in
+    let fits : x < length g.flags.items = omega (arith, g.edges_inside c.args.own x (subst (λ l. Among l x) c.row-row.ensures i), g.features_count, g.flags_count) in
     subst (λ f. x < length f) (sym c.as_slice.ensures.value) fits
 
 pub enable_along-requires : goal.enable_along-requires

@@ -1,9 +1,6 @@
 use Rattle.std.proofs.Common.{rules, subst, arith, ◌≡◌, ◌<◌, true, false, ◌∙◌, length}
-use Rattle.cargo_toml_resolve.specs.Numbers.{IsWanted}
-use Rattle.cargo_toml_resolve.proofs.Steps.{read_at}
-use Rattle.cargo_toml_resolve.specs.Holding.{AllTakeOver}
-use Rattle.cargo_toml_resolve.specs.Texts.{texts_now}
-use Rattle.cargo_toml_resolve.proofs.TakenOver.{none_take_over, one_more_takes_over, skipped}
+use Rattle.cargo_toml_resolve.specs.{Numbers.IsWanted, Holding.AllTakeOver, Texts.texts_now}
+use Rattle.cargo_toml_resolve.proofs.{Steps.read_at, TakenOver.none_take_over, TakenOver.one_more_takes_over, TakenOver.skipped}
 use Rattle.cargo_toml_resolve.proofs.keeping.keep_all.Goals as goal
 use Rattle.cargo_toml_resolve.proofs.keeping.keep_all.Goals.{then-not-index+in_ok-keep, else-not-index}
 

@@ -1,6 +1,4 @@
-use Rattle.cargo_toml_resolve.specs.Holding.{AllTakeOver}
-use Rattle.cargo_toml_resolve.specs.Texts.{texts_now}
-use Rattle.cargo_toml_resolve.specs.Walking.{FindsIn}
+use Rattle.cargo_toml_resolve.specs.{Holding.AllTakeOver, Texts.texts_now, Walking.FindsIn}
 use Rattle.cargo_toml_resolve.proofs.keeping.keep_all.Given as goal
 
 abbrev pub invariant-loop-own : goal.invariant-loop-own

@@ -1,6 +1,5 @@
 use Rattle.std.proofs.lemmas.Bool.{false_from_ne_true}
-use Rattle.cargo_toml_resolve.proofs.InPlace.{one_place}
-use Rattle.cargo_toml_resolve.proofs.KeptAll.{all_kept, same_at}
+use Rattle.cargo_toml_resolve.proofs.{InPlace.one_place, KeptAll.all_kept, KeptAll.same_at}
 use Rattle.cargo_toml_resolve.proofs.kept.keep_all.Goals as goal
 
 pub hashed_kept-requires-clause-once : goal.hashed_kept-requires-clause-once

@@ -1,9 +1,7 @@
 use Rattle.std.proofs.Common.{false, true, sym, ap, subst, ◌<◌, length, arith, ◌∙◌}
 use Rattle.std.proofs.lemmas.Bool.{false≢true}
 use mathlib.Core.Bool.{beq}
-use Rattle.cargo_toml_resolve.proofs.FromPlaces.{NumberedBy, all_hashed, one_name, own_sets}
-use Rattle.cargo_toml_resolve.proofs.KeptAll.{if_ok_weaker}
-use Rattle.cargo_toml_resolve.proofs.Learning.{in_order_still, kept_still}
+use Rattle.cargo_toml_resolve.proofs.{FromPlaces.NumberedBy, FromPlaces.all_hashed, FromPlaces.one_name, FromPlaces.own_sets, KeptAll.if_ok_weaker, Learning.in_order_still, Learning.kept_still}
 use Rattle.cargo_toml_resolve.proofs.kept.kept_of.Goals as goal
 
 pub hash-requires-clause-names : goal.hash-requires-clause-names

@@ -1,9 +1,7 @@
 use Rattle.std.proofs.Common.{rules, ◌≡◌, ◌∷◌, ◌++◌, [], map, sym, subst}
 use Rattle.std.proofs.lemmas.Map.Iter.{iter_end}
-use Rattle.cargo_toml_graph.specs.Ascending.{Ascend}
-use Rattle.cargo_toml_graph.specs.Reach.{Among}
-use Rattle.cargo_toml_resolve.specs.Numbering.{HasNames}
-use Rattle.cargo_toml_resolve.specs.Texts.{texts_now}
+use Rattle.cargo_toml_graph.specs.{Ascending.Ascend, Reach.Among}
+use Rattle.cargo_toml_resolve.specs.{Numbering.HasNames, Texts.texts_now}
 use Rattle.cargo_toml_resolve.proofs.Gathered.{seen}
 use Rattle.cargo_toml_resolve.proofs.NumberTexts.{extends_none, extends_then, fits_now, front_still, names_all, names_empty, names_more, names_none, names_still, texts_longer}
 use Rattle.cargo_toml_resolve.proofs.numbering.name_row.Goals as goal

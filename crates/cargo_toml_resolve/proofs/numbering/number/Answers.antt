@@ -2,9 +2,7 @@ use Rattle.std.proofs.Common.{rules, ◌≡◌, ◌<◌, ◌≤◌, Bor, length,
 use Rattle.std.proofs.lemmas.List.{length-map}
 use Rattle.cargo_toml_graph.specs.Action.{Text}
 use Rattle.cargo_toml_resolve.specs.Texts.{texts_now}
-use Rattle.cargo_toml_resolve.proofs.Steps.{has_row}
-use Rattle.cargo_toml_resolve.proofs.NumberingGraph.{graph_stands}
-use Rattle.cargo_toml_resolve.proofs.NumberTexts.{key_text}
+use Rattle.cargo_toml_resolve.proofs.{Steps.has_row, NumberingGraph.graph_stands, NumberTexts.key_text}
 use Rattle.cargo_toml_resolve.proofs.numbering.number.Goals as goal
 
 pub returns-clause-numbered : goal.returns-clause-numbered

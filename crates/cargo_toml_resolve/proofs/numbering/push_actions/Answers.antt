@@ -1,8 +1,6 @@
 use Rattle.std.proofs.Common.{rules, ◌≡◌, Some, Bor, ap, map, option_map, sym, ◌∙◌}
-use Rattle.std.proofs.lemmas.Bool.{false≢true}
-use Rattle.std.proofs.lemmas.Map.Iter.{btree_map_turn, iter_end}
-use Rattle.std.specs.Cmp.Lexicographic.{on_texts}
-use Rattle.std.specs.Map.Iter.{deref_pair}
+use Rattle.std.proofs.lemmas.{Bool.false≢true, Map.Iter.btree_map_turn, Map.Iter.iter_end}
+use Rattle.std.specs.{Cmp.Lexicographic.on_texts, Map.Iter.deref_pair}
 use Rattle.cargo_toml_graph.specs.Action.{Text}
 use Rattle.cargo_toml_features.specs.Views.{action_at, action_of}
 use Rattle.cargo_toml_resolve.proofs.NumberRows.{action_left, action_plain, all_actions}

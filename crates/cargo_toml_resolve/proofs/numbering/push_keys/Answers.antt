@@ -2,8 +2,7 @@ use Rattle.std.proofs.Common.{rules, take, ◌+◌, sym, subst, ◌∙◌}
 use Rattle.std.proofs.lemmas.Bool.{false≢true}
 use Rattle.cargo_toml_graph.specs.Reach.{Among}
 use Rattle.cargo_toml_resolve.specs.Numbering.{Gains}
-use Rattle.cargo_toml_resolve.proofs.NumberRows.{node_left, node_put, nodes_gained}
-use Rattle.cargo_toml_resolve.proofs.Steps.{item_is}
+use Rattle.cargo_toml_resolve.proofs.{NumberRows.node_left, NumberRows.node_put, NumberRows.nodes_gained, Steps.item_is}
 use Rattle.cargo_toml_resolve.proofs.numbering.push_keys.Goals.{then-is_other_key+in_ok-push, else-is_other_key}
 use Rattle.cargo_toml_resolve.proofs.numbering.push_keys.Goals as goal
 

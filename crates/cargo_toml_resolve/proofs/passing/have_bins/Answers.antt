@@ -1,6 +1,5 @@
 use Rattle.std.proofs.Common.{◌&&◌, length, nat_eq, not, rules, sym, tests, ◌∙◌}
-use Rattle.std.proofs.lemmas.Iterator.{YieldsList-from_slice, YieldsList-from_zip}
-use Rattle.std.proofs.lemmas.Iterator.Search.{any_from_yields_List}
+use Rattle.std.proofs.lemmas.{Iterator.YieldsList-from_slice, Iterator.YieldsList-from_zip, Iterator.Search.any_from_yields_List}
 use Rattle.cargo_toml_resolve.proofs.BinTurns.{none_had}
 use Rattle.cargo_toml_resolve.proofs.passing.have_bins.Goals as goal
 

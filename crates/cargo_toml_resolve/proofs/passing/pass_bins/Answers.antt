@@ -1,11 +1,7 @@
 use Rattle.std.proofs.Common.{rules, ◌≡◌, ◌<◌, true, false, take, length, ap, refl, sym, subst, ◌∙◌, arith}
 use Rattle.cargo_toml_graph.specs.Reach.{Among}
-use Rattle.cargo_toml_resolve.specs.Numbers.{IsWanted, Leads, row_items}
-use Rattle.cargo_toml_resolve.specs.KnownBins.{AreKnown}
-use Rattle.cargo_toml_resolve.specs.Passing.{bins_of, passed_below}
-use Rattle.cargo_toml_resolve.specs.Puts.{Puts}
-use Rattle.cargo_toml_resolve.proofs.PutAlong.{same_features, then_same}
-use Rattle.cargo_toml_resolve.proofs.BinTurns.{kept_turn, none_passed, one_turn}
+use Rattle.cargo_toml_resolve.specs.{Numbers.IsWanted, Numbers.Leads, Numbers.row_items, KnownBins.AreKnown, Passing.bins_of, Passing.passed_below, Puts.Puts}
+use Rattle.cargo_toml_resolve.proofs.{PutAlong.same_features, PutAlong.then_same, BinTurns.kept_turn, BinTurns.none_passed, BinTurns.one_turn}
 use Rattle.cargo_toml_resolve.proofs.passing.pass_bins.Goals as goal
 use Rattle.cargo_toml_resolve.proofs.passing.pass_bins.Goals.{then-flags-r+in_ok-pass_from, else-flags-r}
 
@@ -60,8 +56,5 @@ loop-r-preserved c =
 pub returns-clause-bins : goal.returns-clause-bins
 returns-clause-bins c = λ y below.
     let old = c.args.features.now.items in
-    let size = c.len-size.ensures in
-    let end = c.loop-r-test.false in
-    let most = c.loop-r.invariant.inside in
-    let all : c.loop-r.r ≡ length old = omega (arith, size, end, most) in
+    let all : c.loop-r.r ≡ length old = omega (arith, c.len-size.ensures, c.loop-r-test.false, c.loop-r.invariant.inside) in
     subst (λ n. bins_of c.loop-r.features.items y ≡ passed_below c.args.redirects.now c.args.flags.now n (bins_of old) y) all (c.loop-r.invariant.turned y below)

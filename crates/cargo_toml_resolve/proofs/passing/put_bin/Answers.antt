@@ -1,9 +1,7 @@
 use Rattle.std.proofs.Common.{◌≡◌, [], ◌∷◌, true, false, Bor, ap, sym, subst, ◌∙◌}
-use Rattle.std.proofs.lemmas.Bool.{cond-true, cond-false}
-use Rattle.std.proofs.lemmas.List.{map_push}
+use Rattle.std.proofs.lemmas.{Bool.cond-true, Bool.cond-false, List.map_push}
 use Rattle.cargo_toml_graph.specs.Removal.{lists_text, put_each}
-use Rattle.cargo_toml_resolve.specs.KnownBins.{Knows}
-use Rattle.cargo_toml_resolve.specs.Texts.{texts_now}
+use Rattle.cargo_toml_resolve.specs.{KnownBins.Knows, Texts.texts_now}
 use Rattle.cargo_toml_resolve.proofs.KnownBins.{knows_more, was_false, was_true}
 use Rattle.cargo_toml_resolve.proofs.passing.put_bin.Goals as goal
 

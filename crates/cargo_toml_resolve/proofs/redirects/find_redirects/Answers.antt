@@ -1,9 +1,8 @@
 use Rattle.std.proofs.Common.{rules, arith, ◌≡◌, ◌↔◌, ◌<◌, ℕ, List, Bool, true, false, ◌∙◌, ap, sym, subst, length, length-set, replicate}
 use Rattle.cargo_toml_graph.specs.Reach.{Among}
-use Rattle.cargo_toml_resolve.specs.Numbers.{IsWanted, HasLabel, IsPassed, Replaces}
-use Rattle.cargo_toml_resolve.proofs.Closing.{none_finished}
-use Rattle.cargo_toml_resolve.proofs.Cuts.{one_more_finished, still_finished}
-use Rattle.cargo_toml_resolve.proofs.RowsInOrder.{finds_redirects, first_rows, none_moved, one_more_own, one_more_row, skipped_rows, still_own}
+use Rattle.cargo_toml_resolve.specs.Numbers.{IsWanted, HasLabel, IsPassed, Moves, Replaces}
+use Rattle.cargo_toml_resolve.proofs.{Closing.none_finished, Cuts.one_more_finished, Cuts.still_finished, RowsInOrder.finds_redirects, RowsInOrder.first_rows, RowsInOrder.none_moved}
+use Rattle.cargo_toml_resolve.proofs.RowsInOrder.{one_more_own, one_more_row, skipped_rows, still_own}
 use Rattle.cargo_toml_resolve.proofs.redirects.find_redirects.Goals as goal
 use Rattle.cargo_toml_resolve.proofs.redirects.find_redirects.Goals.{then-is_removed-r+in_ok-moved-2, else-is_removed-r}
 
@@ -49,16 +48,16 @@ loop-r-preserved c =
           subst (λ (f : List Bool). (b : ℕ) → Among rows.0 b ↔ IsPassed c.loop-r.edges f r b) flags (rw w.at-own.ensures at rows.1) in
           let targets : Replaces r (HasLabel (Among rows.0) c.loop-r.edges c.loop-r.finished.items r) c.loop-r.edges w.redirect.new.edges =
           subst (λ (f : List Bool). Replaces r (HasLabel (Among rows.0) c.loop-r.edges f r) c.loop-r.edges w.redirect.new.edges) flags (rw w.at-own.ensures at rows.2) in
-          let row : Replaces r (HasLabel (Among rows.0) c.loop-r.labels c.loop-r.finished.items r) c.loop-r.labels w.redirect.new.labels =
-          subst (λ (f : List Bool). Replaces r (HasLabel (Among rows.0) c.loop-r.labels f r) c.loop-r.labels w.redirect.new.labels) flags (rw w.at-own.ensures at rows.3) in
+          let row : Moves r (HasLabel (Among rows.0) c.loop-r.labels c.loop-r.finished.items r) c.loop-r.labels w.redirect.new.labels w.in_ok-moved-2.field-0 =
+          subst (λ (f : List Bool). Moves r (HasLabel (Among rows.0) c.loop-r.labels f r) c.loop-r.labels w.redirect.new.labels w.in_ok-moved-2.field-0) flags (rw w.at-own.ensures at rows.3) in
           rw (w.edges-is, w.labels-is, w.finished-is, w.moved-is, w.walk-is) (record {
             flags = length-set c.loop-r.finished.items r true ∙ old.flags;
             marks = length-set c.loop-r.moved.items r w.in_ok-moved-2.field-0 ∙ old.marks;
             room = w.in_ok-moved-2.ensures.room ∙ old.room;
             is_finished = one_more_finished removed c.loop-r.finished.items r (let e = old.flags in omega (arith, below, e)) gone old.is_finished;
             edge_rows = one_more_row es removed es (length es) (length es) r c.loop-r.edges c.loop-r.edges old.edge_rows old.edge_rows c.loop-r.finished.items old.is_finished rows.0 passed gone w.redirect.new.edges targets;
-            label_rows = one_more_row es removed c.args.labels (length removed) (length es) r c.loop-r.edges c.loop-r.labels old.edge_rows old.label_rows c.loop-r.finished.items old.is_finished rows.0 passed gone w.redirect.new.labels row;
-            own = one_more_own r c.loop-r.moved.items c.args.labels c.loop-r.labels w.redirect.new.labels w.in_ok-moved-2.field-0 (let e = old.marks in omega (arith, below, e)) old.own w.in_ok-moved-2.ensures.stays (rw w.at-own.ensures at w.in_ok-moved-2.ensures.others);
+            label_rows = one_more_row es removed c.args.labels (length removed) (length es) r c.loop-r.edges c.loop-r.labels old.edge_rows old.label_rows c.loop-r.finished.items old.is_finished rows.0 passed gone w.redirect.new.labels row.row;
+            own = one_more_own r c.loop-r.moved.items c.args.labels c.loop-r.labels w.redirect.new.labels w.in_ok-moved-2.field-0 (HasLabel (Among rows.0) c.loop-r.labels c.loop-r.finished.items r) (let e = old.marks in omega (arith, below, e)) old.own row;
           })
       | else-is_removed-r w ↦
           let kept : IsWanted removed false r = search rules in

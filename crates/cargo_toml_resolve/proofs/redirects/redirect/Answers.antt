@@ -18,6 +18,6 @@ returns-clause-rows c =
     let same : c.finish.new.walk.passed.items ≡ c.pass.new.self.passed.items = ap (λ v. v.items) c.in_ok-is_moved.ensures.passed in (
       c.pass.new.self.passed.items,
       c.in_ok-pass.ensures.passed,
-      subst (λ l. Replaces c.args.own (HasLabel (Among l) c.args.edges.now c.args.finished.now c.args.own) c.args.edges.now c.finish-2.new.rows) same c.in_ok-finish.ensures.row,
+      subst (λ l. Replaces c.args.own (HasLabel (Among l) c.args.edges.now c.args.finished.now c.args.own) c.args.edges.now c.finish-2.new.rows) same c.in_ok-finish.ensures.row.row,
       c.in_ok-is_moved.ensures.row,
     )

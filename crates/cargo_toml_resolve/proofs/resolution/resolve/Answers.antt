@@ -1,18 +1,10 @@
 use Rattle.std.proofs.Common.{◌≡◌, ◌↔◌, ◌<◌, ℕ, IsTrue, false, length, map, option_map, sym, ap, subst, ◌∙◌}
 use Rattle.std.specs.List.{slice_index_or}
-use Rattle.cargo_toml_graph.specs.Action.{Text}
-use Rattle.cargo_toml_graph.specs.Graph.{Table}
-use Rattle.cargo_toml_features.specs.declared.features.Features.{Features}
-use Rattle.cargo_toml_features.specs.InOrder.{names_of}
+use Rattle.cargo_toml_graph.specs.{Action.Text, Graph.Table}
+use Rattle.cargo_toml_features.specs.{declared.features.Features.Features, InOrder.names_of, Marks.named_details, Views.answer_of, Views.listed_of, Views.entry_of, Views.recorded_in}
+use Rattle.cargo_toml_features.specs.{Recorded.entries_at, Recorded.recorded_of, Resolved.SameRecorded, Resolved.table_of, Places.nth_text}
 use Rattle.cargo_toml_full.specs.OwnBins.{own_of, bin_requirement}
-use Rattle.cargo_toml_features.specs.Marks.{named_details}
-use Rattle.cargo_toml_features.specs.Views.{answer_of, listed_of, entry_of, recorded_in}
-use Rattle.cargo_toml_features.specs.Recorded.{entries_at, recorded_of}
-use Rattle.cargo_toml_features.specs.Resolved.{SameRecorded, table_of}
-use Rattle.cargo_toml_features.specs.Places.{nth_text}
-use Rattle.cargo_toml_resolve.specs.Filter.{IsFlagOf}
-use Rattle.cargo_toml_resolve.specs.Numbering.{IsFlagged}
-use Rattle.cargo_toml_resolve.specs.Removed.{IsRemovedBy}
+use Rattle.cargo_toml_resolve.specs.{Filter.IsFlagOf, Numbering.IsFlagged, Removed.IsRemovedBy}
 use Rattle.cargo_toml_resolve.proofs.AnsweringKept.{answers, some_flagged}
 use Rattle.cargo_toml_resolve.proofs.ByFilter.{answer_alike, answer_by, flag_at, flag_is, kept_by, removed_by}
 use Rattle.cargo_toml_resolve.proofs.resolution.resolve.Goals as goal

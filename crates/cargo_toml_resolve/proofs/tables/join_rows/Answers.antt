@@ -2,33 +2,28 @@ use Rattle.std.proofs.Common.{rules, ◌<◌, ◌↔◌, ◌⊎◌, ℕ, length,
 use Rattle.std.proofs.lemmas.List.{with_items_is}
 use Rattle.std.specs.Vec.{with_items}
 use Rattle.cargo_toml_resolve.specs.Bits.{HasBit, Holds}
-use Rattle.cargo_toml_resolve.proofs.Steps.{among_at, item_at, list_read}
-use Rattle.cargo_toml_resolve.proofs.Tabled.{gains_more}
+use Rattle.cargo_toml_resolve.proofs.{Steps.among_at, Steps.item_at, Steps.list_read, Tabled.gains_more}
 use Rattle.cargo_toml_resolve.proofs.tables.join_rows.Goals as goal
 
 pub index_mut-requires : goal.index_mut-requires
 index_mut-requires c =
     let i = c.requires.named _ (among_at c.args.named.now c.loop-a.a-index c.loop-a-test.true) in
-    let e = c.loop-a.invariant.len in
-    let below : get_or c.args.named.now c.loop-a.a-index 0 < length c.loop-a.table.items = omega (arith, i, e) in
+    let below : get_or c.args.named.now c.loop-a.a-index 0 < length c.loop-a.table.items = omega (arith, i, c.loop-a.invariant.len) in
     rw (item_at c.args.named.now c.loop-a.a-index _ _ c.loop-a-test.true c.a-item.is c.place.ensures) (search rules)
 
 pub join-requires : goal.join-requires
 join-requires c =
     let i = c.requires.named _ (among_at c.args.named.now c.loop-a.a-index c.loop-a-test.true) in
-    let e = c.loop-a.invariant.len in
     let at = item_at c.args.named.now c.loop-a.a-index _ _ c.loop-a-test.true c.a-item.is c.place.ensures in
-    let below : c.place.result < length c.loop-a.table.items = rw at (omega (arith, i, e)) in
+    let below : c.place.result < length c.loop-a.table.items = rw at (omega (arith, i, c.loop-a.invariant.len)) in
     let first : c.place.result < length c.args.table.now.items = rw at i in
     ap length (c.as_mut_slice.ensures.value ∙ sym (list_read c.loop-a.table.items c.place.result c.index_mut.result.now below c.index_mut.ensures.value))
     ∙ c.loop-a.invariant.widths c.place.result ∙ c.requires.wide c.place.result first
 
 pub loop-a-preserved : goal.loop-a-preserved
 loop-a-preserved c =
-    let i = c.requires.named _ (among_at c.args.named.now c.loop-a.a-index c.loop-a-test.true) in
-    let e = c.loop-a.invariant.len in
     let at = item_at c.args.named.now c.loop-a.a-index _ _ c.loop-a-test.true c.a-item.is c.place.ensures in
-    let below : c.place.result < length c.loop-a.table.items = rw at (omega (arith, i, e)) in
+    let below : c.place.result < length c.loop-a.table.items = rw at (omega (arith, c.requires.named _ (among_at c.args.named.now c.loop-a.a-index c.loop-a-test.true), c.loop-a.invariant.len)) in
     let read = c.as_mut_slice.ensures.value ∙ sym (list_read c.loop-a.table.items c.place.result c.index_mut.result.now below c.index_mut.ensures.value) in
     let written = with_items_is c.index_mut.result.now c.join.new.bits (c.join.auto.bits ∙ c.as_mut_slice.ensures.len) in
     gains_more c.args.named.now c.loop-a.a-index (HasBit c.args.bits.now) c.args.table.now.items c.loop-a.table.items c.loop-a.invariant c.loop-a-test.true

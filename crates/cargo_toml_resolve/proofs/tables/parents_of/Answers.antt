@@ -2,9 +2,7 @@ use Rattle.std.proofs.Common.{rules, ◌+◌, ◌<◌, ◌↔◌, ℕ, ◌++◌,
 use Rattle.std.proofs.lemmas.Bool.{false≢true}
 use Rattle.cargo_toml_graph.specs.Reach.{Among}
 use Rattle.cargo_toml_resolve.specs.Bits.{HasBit, Holds}
-use Rattle.cargo_toml_resolve.proofs.Steps.{list_read}
-use Rattle.cargo_toml_resolve.proofs.Tabled.{holds_inside}
-use Rattle.cargo_toml_resolve.proofs.Words.{none_more_held, one_more_held}
+use Rattle.cargo_toml_resolve.proofs.{Steps.list_read, Tabled.holds_inside, Words.none_more_held, Words.one_more_held}
 use Rattle.cargo_toml_resolve.proofs.tables.parents_of.Goals.{then-has_bit+in_ok-push, else-has_bit}
 use Rattle.cargo_toml_resolve.proofs.tables.parents_of.Goals as goal
 

@@ -1,9 +1,7 @@
 use Rattle.std.proofs.Common.{rules, ◌≡◌, ◌+◌, ◌↔◌, ℕ, length, sym, subst, ◌∙◌, ap, arith}
 use Rattle.cargo_toml_graph.specs.Reach.{Among}
-use Rattle.cargo_toml_resolve.specs.Bits.{HasBit}
-use Rattle.cargo_toml_resolve.specs.Numbers.{Leads, row_items}
-use Rattle.cargo_toml_resolve.proofs.Steps.{has_row}
-use Rattle.cargo_toml_resolve.proofs.Tabled.{IsTabled, tabled_all, tabled_more}
+use Rattle.cargo_toml_resolve.specs.{Bits.HasBit, Numbers.Leads, Numbers.row_items}
+use Rattle.cargo_toml_resolve.proofs.{Steps.has_row, Tabled.IsTabled, Tabled.tabled_all, Tabled.tabled_more}
 use Rattle.cargo_toml_resolve.proofs.tables.table_of.Goals as goal
 
 pub bits_of-requires : goal.bits_of-requires

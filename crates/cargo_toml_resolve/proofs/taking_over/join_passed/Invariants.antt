@@ -1,6 +1,5 @@
 use Rattle.std.proofs.Common.{◌≡◌, ◌⊎◌, Some, take}
-use Rattle.cargo_toml_graph.specs.Action.{Text, IsJoin}
-use Rattle.cargo_toml_graph.specs.Reach.{Among}
+use Rattle.cargo_toml_graph.specs.{Action.Text, Action.IsJoin, Reach.Among}
 use Rattle.cargo_toml_features.specs.Views.{action_at}
 use Rattle.cargo_toml_resolve.specs.Holding.{DoesAt}
 use Rattle.cargo_toml_resolve.proofs.taking_over.join_passed.Given as goal

@@ -25,11 +25,10 @@ loop-next-preserved c =
     let v : FindsNamed (λ y. Leads c.args.edges.now c.index-at.result.now y × IsWanted c.args.is_removed.now true y) c.loop-next.found.items c.visit-in-loop-next.new.found.items c.loop-next.met c.visit-in-loop-next.new.met =
     subst (λ (t : List ℕ). FindsNamed (λ y. Among t y × IsWanted c.args.is_removed.now true y) c.loop-next.found.items c.visit-in-loop-next.new.found.items c.loop-next.met c.visit-in-loop-next.new.met) c.row-in-loop-next.ensures c.in_ok-visit-2.ensures in
     let below : c.loop-next.next < length c.loop-next.found.items = search rules in
-    let longer = v.longer in
     record {
       walks = goes_on c.args.edges.now c.args.is_removed.now c.args.start c.loop-next.next c.loop-next.found.items c.visit-in-loop-next.new.found.items c.loop-next.met c.visit-in-loop-next.new.met below c.loop-next.invariant.walks c.index-at.result.now c.index-at.ensures v;
       len = v.len ∙ c.loop-next.invariant.len;
-      within = omega (arith, below, longer);
+      within = omega (arith, below, v.longer);
     }
 
 pub returns-clause-passed : goal.returns-clause-passed

@@ -6,14 +6,12 @@ use Rattle.cargo_toml_resolve.proofs.walk.visit.Goals.{then-flags-place+in_ok-me
 pub bounds-flags-place : goal.bounds-flags-place
 bounds-flags-place c =
     let i = c.requires.inside _ (among_at c.args.targets.now c.loop-x.x-index c.loop-x-test.true) in
-    let e = c.requires.fits in
-    rw (item_at c.args.targets.now c.loop-x.x-index _ _ c.loop-x-test.true c.x-item.is c.place.ensures) (omega (arith, i, e))
+    rw (item_at c.args.targets.now c.loop-x.x-index _ _ c.loop-x-test.true c.x-item.is c.place.ensures) (omega (arith, i, c.requires.fits))
 
 pub meet-requires-clause-inside : goal.meet-requires-clause-inside
 meet-requires-clause-inside c =
     let i = c.requires.inside _ (among_at c.args.targets.now c.loop-x.x-index c.loop-x-test.true) in
-    let e = c.loop-x.invariant.len in
-    rw (item_is c.args.targets.now c.loop-x.x-index _ c.loop-x-test.true c.x-item.is) (omega (arith, i, e))
+    rw (item_is c.args.targets.now c.loop-x.x-index _ c.loop-x-test.true c.x-item.is) (omega (arith, i, c.loop-x.invariant.len))
 
 pub loop-x-preserved : goal.loop-x-preserved
 loop-x-preserved c =

@@ -1,8 +1,7 @@
 use Rattle.std.proofs.Common.{rules, false, subst, ◌∙◌, ap, get_or, []}
 use Rattle.cargo_toml_graph.specs.Reach.{Among}
 use Rattle.cargo_toml_resolve.specs.Numbers.{IsWanted, FindsNamed}
-use Rattle.cargo_toml_resolve.proofs.Steps.{among_at, item_is}
-use Rattle.cargo_toml_resolve.proofs.Labelled.{one_more_list, all_listed, begin_list}
+use Rattle.cargo_toml_resolve.proofs.{Steps.among_at, Steps.item_is, Labelled.one_more_list, Labelled.all_listed, Labelled.begin_list}
 use Rattle.cargo_toml_resolve.proofs.walk.visit_rows.Goals as goal
 
 pub loop-b-init : goal.loop-b-init

@@ -26,17 +26,14 @@ loop-next-smaller-then-is_new g c =
     let less =
     visited_less c.args.features.now c.args.self.now.key.now c.loop-next.found c.add_found.new.found c.loop-next.dependencies c.add_actions.new.dependencies c.loop-next.pending.items (still c.take_next.new.pending.items c.in_ok-next.next) c.in-Some.feature
     (subst (λ n. Walks c.args.features.now c.args.self.now.key.now c.loop-next.found c.loop-next.dependencies (still c.loop-next.pending.items n)) c.in-Some.is c.loop-next.invariant) (search rules) c.in_ok-is_new.ensures.puts c.in_ok-add_actions.ensures.pairs c.in_ok-add_actions.ensures.no_empty c.in_ok-next.ensures in
-    let long = ap (λ n. length (still c.loop-next.pending.items n)) c.in-Some.is in
-    omega (arith, less, long)
+    omega (arith, less, ap (λ n. length (still c.loop-next.pending.items n)) c.in-Some.is)
 
 pub loop-next-smaller : goal.loop-next-smaller
 loop-next-smaller g c =
     let less =
     walks_on_less c.args.features.now c.args.self.now.key.now c.loop-next.found c.add_found.new.found c.loop-next.dependencies c.loop-next.pending.items c.in-Some.feature (subst (λ n. Walks c.args.features.now c.args.self.now.key.now c.loop-next.found c.loop-next.dependencies (still c.loop-next.pending.items n)) c.in-Some.is c.loop-next.invariant) (search rules) c.in_ok-is_new.ensures.puts in
-    let long = ap (λ n. length (still c.loop-next.pending.items n)) c.in-Some.is in
     let popped : c.loop-next.pending.items ≡ still c.pop-next.new.self.items c.pop-next.result = still_popped c.loop-next.pending c.pop-next.new.self c.pop-next.result c.pop-next.ensures.items c.pop-next.ensures.cases in
-    let left = ap length popped in
-    omega (arith, less, long, left)
+    omega (arith, less, ap (λ n. length (still c.loop-next.pending.items n)) c.in-Some.is, ap length popped)
 
 pub returns-clause-features : goal.returns-clause-features
 returns-clause-features g c =

@@ -1,9 +1,7 @@
 use Rattle.std.proofs.Common.{rules, ◌↔◌, ◌<◌, ℕ, true, false, length, ap, sym, subst, arith}
 use Rattle.cargo_toml_graph.specs.Reach.{Among, GathersLabel}
-use Rattle.cargo_toml_resolve.specs.Bits.{HasBit}
-use Rattle.cargo_toml_resolve.specs.Numbers.{IsWanted, Leads}
-use Rattle.cargo_toml_resolve.proofs.Tabled.{flagged_row, row_below, row_wide}
-use Rattle.cargo_toml_resolve.proofs.Walking.{path_inside}
+use Rattle.cargo_toml_resolve.specs.{Bits.HasBit, Numbers.IsWanted, Numbers.Leads}
+use Rattle.cargo_toml_resolve.proofs.{Tabled.flagged_row, Tabled.row_below, Tabled.row_wide, Walking.path_inside}
 use Rattle.cargo_toml_resolve.proofs.finder.Finder.name.Goals as goal
 
 pub index-requires : goal.index-requires
@@ -18,9 +16,7 @@ nodes_of-requires c =
     let g = c.args.graph.now in
     let t = c.requires.finds.tables c.in-Some.tables c.in-Some.is in
     let wide = row_wide (GathersLabel (Leads g.edges) (IsWanted g.flags.items true) (Leads g.names)) t.width (length g.edges) c.in-Some.tables.labels.items t.labels c.args.own c.place.result c.requires.own c.place.ensures c.index.result.now c.as_slice-labels.result.now c.index.ensures c.as_slice-labels.ensures.value in
-    let flags = ap length c.as_slice-flags.ensures.value in
-    let enough = t.enough in
-    omega (arith, wide, flags, enough)
+    omega (arith, wide, ap length c.as_slice-flags.ensures.value, t.enough)
 
 pub returns-in_ok-self-in-Some-clause-names : goal.returns-in_ok-self-in-Some-clause-names
 returns-in_ok-self-in-Some-clause-names c =

@@ -1,10 +1,7 @@
 use Rattle.std.proofs.Common.{rules, ◌↔◌, ◌<◌, ◌≤◌, ℕ, true, false, length, ap, subst, arith}
 use Rattle.cargo_toml_graph.specs.Reach.{Among, Reaches}
-use Rattle.cargo_toml_resolve.specs.Bits.{HasBit}
-use Rattle.cargo_toml_resolve.specs.Numbers.{HasLabel, IsWanted, Leads}
-use Rattle.cargo_toml_resolve.proofs.Labelled.{reached}
-use Rattle.cargo_toml_resolve.proofs.Tabled.{flagged_row, row_below, row_wide}
-use Rattle.cargo_toml_resolve.proofs.Walking.{path_inside}
+use Rattle.cargo_toml_resolve.specs.{Bits.HasBit, Numbers.HasLabel, Numbers.IsWanted, Numbers.Leads}
+use Rattle.cargo_toml_resolve.proofs.{Labelled.reached, Tabled.flagged_row, Tabled.row_below, Tabled.row_wide, Walking.path_inside}
 use Rattle.cargo_toml_resolve.proofs.finder.Finder.target.Goals as goal
 
 pub index-requires : goal.index-requires
@@ -19,9 +16,7 @@ nodes_of-requires c =
     let g = c.args.graph.now in
     let t = c.requires.finds.tables c.in-Some.tables c.in-Some.is in
     let wide = row_wide (Reaches (Leads g.edges) (IsWanted g.flags.items true)) t.width (length g.edges) c.in-Some.tables.paths.items t.paths c.args.own c.place.result c.requires.own c.place.ensures c.index.result.now c.as_slice-paths.result.now c.index.ensures c.as_slice-paths.ensures.value in
-    let flags = ap length c.as_slice-flags.ensures.value in
-    let enough = t.enough in
-    omega (arith, wide, flags, enough)
+    omega (arith, wide, ap length c.as_slice-flags.ensures.value, t.enough)
 
 pub returns-in_ok-self-in-Some-clause-targets : goal.returns-in_ok-self-in-Some-clause-targets
 returns-in_ok-self-in-Some-clause-targets c =

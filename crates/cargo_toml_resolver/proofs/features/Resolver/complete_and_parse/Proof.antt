@@ -48,10 +48,11 @@ use Rattle.cargo_toml_features.specs.contracts.features.Features as Features
 use Rattle.cargo_toml_parts.specs.contracts.error.Error as Error
 use Rattle.cargo_toml_parts.proofs.error.Error.TheLaws as Error-laws
 use Rattle.cargo_toml_parts.specs.declared.error.Error.{Memory}
-use Rattle.cargo_toml_resolver.specs.Lent.{IsLentAs, IsLentAfter, IsLeftAfter}
-use Rattle.cargo_toml_resolver.proofs.Lent.{rests_so, Completing, Answering, left_after, lent_after, outcome_after, wrapped_after}
+use Rattle.cargo_toml_resolver.specs.{Lent.IsLentAs, Lent.IsLentAfter, Lent.IsLeftAfter, contracts.features.Resolver.complete_and_parse.ended, contracts.features.Resolver.complete_and_parse.clauses}
+use Rattle.cargo_toml_resolver.specs.{Filtered.filter_of, Filtered.limit_of, Parsed.IsResolvedFor}
+use Rattle.cargo_toml_resolver.proofs.{Lent.rests_so, Lent.Completing, Lent.Answering, Lent.left_after, Lent.lent_after, Lent.outcome_after, Lent.wrapped_after, Words.slot_at, Words.row_at}
+use Rattle.cargo_toml_resolver.proofs.{Words.single, Words.ref_laws, Words.global_makes, Words.local_at, features.Resolver.complete_and_parse.Statement.statement}
 use denote.Text.{str-field}
-use Rattle.cargo_toml_resolver.proofs.Words.{slot_at, row_at, single, ref_laws, global_makes, local_at}
 use borrow.Table.Str.{str_laws}
 use borrow.Table.OneValue.{wt_as}
 use Rattle.std.proofs.option.Option.TheLaws.{the_row_laws as option_laws}
@@ -65,19 +66,12 @@ use Rattle.cargo_toml_resolver.specs.contracts.features.Resolver.resolved as res
 use Rattle.cargo_toml_resolver.proofs.features.Resolver.resolved.Met as resolved-met
 use Rattle.cargo_toml_manifest.proofs.manifest.Manifest.TheLaws as Manifest-laws
 use Rattle.std.proofs.alloc.Global.TheLaws as Global-laws
-use Rattle.cargo_toml_resolver.specs.contracts.features.Resolver.complete_and_parse.{ended, clauses}
 use Rattle.cargo_toml_resolver.specs.contracts.features.Resolver.complete_and_parse.Key.{name as #self}
-use Rattle.cargo_toml_resolver.proofs.features.Resolver.complete_and_parse.Statement.{statement}
 use Rattle.cargo_toml_resolver.proofs.features.Resolver.complete_and_parse.Code as code
 use Rattle.cargo_toml_graph.specs.Action.{Text}
 use Rattle.cargo_toml_resolve.specs.Filter.{HasNameFilter}
-use Rattle.cargo_toml_manifest.specs.Choosing.{MayFind, handed_of, roots_of, RootsTold}
-use Rattle.cargo_toml_manifest.specs.Manifests.{ManifestMeaning, held}
-use Rattle.cargo_toml_manifest.specs.Completed.{IsCompleted}
-use Rattle.cargo_toml_manifest.specs.Completing.{Meets, complete}
-use Rattle.cargo_toml_manifest.specs.Refusing.{IsRefusedBy, MayLose}
-use Rattle.cargo_toml_resolver.specs.Filtered.{filter_of, limit_of}
-use Rattle.cargo_toml_resolver.specs.Parsed.{IsResolvedFor}
+use Rattle.cargo_toml_manifest.specs.{Choosing.MayFind, Choosing.handed_of, Choosing.roots_of, Choosing.RootsTold, Manifests.ManifestMeaning, Manifests.held, Completed.IsCompleted, Completing.Meets}
+use Rattle.cargo_toml_manifest.specs.{Completing.complete, Refusing.IsRefusedBy, Refusing.MayLose}
 use Rattle.cargo_toml_discovery.specs.Told.{Told}
 
 pub complete_and_parse_spec : {M : Type 1} → statement M

@@ -1,11 +1,8 @@
 use Rattle.std.proofs.Common.{◌≡◌, [], map, sym, ap, subst, ◌∙◌}
 use Rattle.cargo_toml_graph.specs.Admitted.{Listed, admitted}
-use Rattle.cargo_toml_features.specs.Marks.{details_listed, named_details}
-use Rattle.cargo_toml_features.specs.Views.{listed_of, answer_of, entry_of}
-use Rattle.cargo_toml_features.specs.Resolved.{table_of}
+use Rattle.cargo_toml_features.specs.{Marks.details_listed, Marks.named_details, Views.listed_of, Views.answer_of, Views.entry_of, Resolved.table_of}
 use Rattle.cargo_toml_resolve.specs.Removed.{IsAnswerBy, IsRemovedBy}
-use Rattle.cargo_toml_resolve.proofs.AgainstAll.{agrees}
-use Rattle.cargo_toml_resolve.proofs.ByFilter.{answer_by_listed}
+use Rattle.cargo_toml_resolve.proofs.{AgainstAll.agrees, ByFilter.answer_by_listed}
 use Rattle.cargo_toml_resolver.specs.Filtered.{filter_of, limit_of}
 use Rattle.cargo_toml_resolver.proofs.Hiding.{hides}
 use Rattle.cargo_toml_resolver.proofs.features.Resolver.parse_custom.Goals as goal

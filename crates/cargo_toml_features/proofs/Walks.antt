@@ -1,5 +1,5 @@
 -- The invariant of the walk, and what is found and listed at its end.
-use Rattle.std.proofs.Common.{◌≡◌, ◌≢◌, ◌+◌, ◌<◌, ◌⊎◌, ◌&&◌, Bool, true, false, cond, List, [], ◌∷◌, ◌++◌, map, Option, Some, None, is_some, IsTrue, IsFalse, IfSome, Bor, bytes_eq, refl, sym, ap, subst, inl, inr, ◌∙◌, length, arith, length-append}
+use Rattle.std.proofs.Common.{◌≡◌, ◌≢◌, ◌+◌, ◌<◌, ◌⊎◌, ◌&&◌, Bool, true, false, cond, List, [], ◌∷◌, ◌++◌, map, Option, Some, None, is_some, IsTrue, IsFalse, IfSome, Bor, bytes_eq, refl, sym, ap, subst, inl, inr, ◌∙◌, length, arith, length-append, rules}
 use Rattle.std.proofs.lemmas.{Bool.false≢true, Bool.cases_Bool, Bool.or_cases, Bool.or_left, Bool.or_right, List.map-append, List.append-nil, Slice.Eq.bytes_eq-Decides, Grind.common_steps}
 use Rattle.std.specs.{Option.option_map_or, Map.lookup, HashMap.HashMap}
 use Rattle.cargo_toml_features.specs.{declared.features.Feature.Feature, Reached.Found, Reached.Lists, Reached.AreEnabled, Reached.ComeFrom, Reached.HaveNoEmpty, Reached.pairs_at, Views.value_at}
@@ -101,16 +101,7 @@ module _ {S : Type 0} (m : HashMap (Bor Text) Feature S) (s : Text) where
     same_pairs k = grind (arith, common_steps, grows, was_found)
 
     pub walks_on : Walks m s F' E L
-    walks_on = record {
-      begun = elim w.begun [ inl f ↦ inl (grows F F' v u s f) | inr l ↦ found_or_left s l ];
-      found = λ x e. w.found x (was_found x e);
-      pending = λ x e. w.pending x (was_pending L v x e);
-      held = (held_parts L v w.held).0;
-      same = still_same F F' v u (held_parts L v w.held).1 w.same;
-      closed = λ x y f n h. elim (w.closed x y (was_found x f) n h) [ inl g ↦ inl (grows F F' v u y g) | inr l ↦ found_or_left y l ];
-      pairs = same_pairs;
-      no_empty = w.no_empty;
-    }
+    walks_on = search (rules, grows, found_or_left, was_found, was_pending, held_parts, still_same, same_pairs)
 
     pub walks_on_less : work (is_found F') m.entries + length L < work (is_found F) m.entries + length (L ++ v ∷ [])
     walks_on_less = grind (arith, common_steps, work_less, grows, length-append)

@@ -1,11 +1,8 @@
-use Rattle.std.proofs.Common.{rules, ◌≡◌, Some, sym, ap, ◌∙◌}
+use Rattle.std.proofs.Common.{◌≡◌, Some, sym, ap, ◌∙◌}
 use Rattle.std.specs.Option.{option_copied}
 use Rattle.cargo_toml_features.specs.Views.{value_at}
-use Rattle.cargo_toml_features.proofs.Pending.{key_of, pushes_begun, pushes_none, pushes_one, pushes_all}
+use Rattle.cargo_toml_features.proofs.Pending.{key_of, pushes_none, pushes_one}
 use Rattle.cargo_toml_features.proofs.recursive.push_named.Goals as goal
-
-pub loop-name-init : goal.loop-name-init
-loop-name-init g c = pushes_begun _ _ _ _ (search rules)
 
 pub loop-name-preserved-in-Continue-1 : goal.loop-name-preserved-in-Continue-1
 loop-name-preserved-in-Continue-1 g c =
@@ -14,6 +11,3 @@ loop-name-preserved-in-Continue-1 g c =
 
 pub loop-name-preserved : goal.loop-name-preserved
 loop-name-preserved g c = pushes_none _ _ _ _ _ _ c.in-Some.name.now c.in-Some.ensures.steps c.loop-name.invariant (sym c.get.ensures.value ∙ ap option_copied c.in_default.is)
-
-pub returns : goal.returns
-returns g c = pushes_all _ _ _ _ _ c.in-None.ensures.steps.0 c.loop-name.invariant

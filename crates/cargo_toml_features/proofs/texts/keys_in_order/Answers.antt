@@ -1,16 +1,10 @@
 use Rattle.std.proofs.Common.{bytes_eq, sym, ◌∙◌}
 use Rattle.std.proofs.lemmas.{Map.Iter.rest_more, Map.Iter.rest_all, Map.Made.is_some-lookup}
 use Rattle.std.specs.{Borrow.Bor, Map.Iter.deref}
-use Rattle.cargo_toml_features.proofs.{TextKeys.inserted, TextKeys.none_in, Naming.none_left, Naming.none_yet, Naming.one_more}
+use Rattle.cargo_toml_features.proofs.{TextKeys.inserted, Naming.none_left, Naming.one_more}
 use Rattle.cargo_toml_features.specs.Views.{set_has}
 use Rattle.cargo_toml_graph.specs.Action.{Text}
 use Rattle.cargo_toml_features.proofs.texts.keys_in_order.Goals as goal
-
-pub loop-key-init : goal.loop-key-init
-loop-key-init g c = λ f.
-    none_yet (λ (k : Bor Text). bytes_eq f k.now) _ _ _
-    (none_in c.new-keys.result c.new-keys.ensures.empty f)
-    (c.into_iter-key-iterator.ensures.into_iter_gives ∙ c.keys-key-items.ensures.rest)
 
 pub loop-key-preserved : goal.loop-key-preserved
 loop-key-preserved g c = λ f.

@@ -8,6 +8,7 @@ use Rattle.std.specs.Cmp.Lexicographic.{slice_cmp}
 use Rattle.cargo_toml_tables.specs.declared.settings.Edition.{Edition}
 use Rattle.cargo_toml_discovery.proofs.SetForm.{files, walk-set}
 use Rattle.cargo_toml_discovery.proofs.Unique.{AllAbove, Sorted}
+use Rattle.cargo_toml_discovery.specs.Answers.{Answers, named_in}
 use Rattle.cargo_toml_discovery.specs.Found.{Named, Offered, offer_of, still_open, open_offer, offers, is_path_of, last_waiting, found, has_path}
 use Rattle.cargo_toml_discovery.specs.Names.{Name, is_source}
 use Rattle.cargo_toml_discovery.specs.Sorting.{sorted_by, product_lt}
@@ -63,3 +64,18 @@ pub walk-found : (edition : Edition) (folder : Name) (ps : List ProductMeaning) 
     sorted_by product_lt (filter has_path ps ++ walk edition (last_waiting ps) (with_extra (offers folder (is_path_of ps) es) x)) ≡ found edition folder ps es x
 walk-found edition folder ps es x up =
     ap (λ (qs : List ProductMeaning). sorted_by product_lt (filter has_path ps ++ qs)) (walk-set edition ps (offers folder (is_path_of ps) es) x (ascending-offers folder (is_path_of ps) es up))
+
+-- and so do the names that were answered
+same-names : (ans : Answers) (folder : Name) (ns : List Name) →
+    map (λ (e : Named). e.name) (map (named_in ans folder) ns) ≡ ns
+same-names ans folder [] = refl
+same-names ans folder (n ∷ ns) = ap (λ (ts : List Name). n ∷ ts) (same-names ans folder ns)
+
+pub ascend-named : (ans : Answers) (folder : Name) (ns : List Name) → Sorted ns →
+    NamesAscend (map (named_in ans folder) ns)
+ascend-named ans folder ns h =
+    subst (λ (ts : List Name). Sorted ts) (sym (same-names ans folder ns)) h
+
+pub none-ascend : NamesAscend []
+unfolding IsStrictlySortedBy
+none-ascend = tt

@@ -2,7 +2,8 @@
 use Rattle.std.proofs.Common.{◌≡◌, ℕ, List, [], ◌∷◌, Bool, true, false, cond, Option, Some, None, Result, Ok, Err, refl, ap, sym, ◌∙◌}
 use Rattle.std.specs.List.{list_any}
 use Rattle.std.specs.Option.{option_map_or}
-use Rattle.std.specs.Prelude.{option_map, option_and_then}
+use Rattle.std.specs.Prelude.{IfSome, option_map, option_and_then}
+use Rattle.std.proofs.lemmas.Bool.{or_parts}
 use Rattle.cargo_toml_parts.specs.Answers.{◌>>=◌, beside, each}
 use Rattle.cargo_toml_parts.specs.FaultValues.{Fault}
 use Rattle.cargo_toml_parts.specs.InheritableValues.{is_set}
@@ -15,8 +16,10 @@ use Rattle.cargo_toml_discovery.specs.Told.{Told}
 use Rattle.cargo_toml_dependencies.specs.Dependencies.{DependencyMeaning, InheritedMeaning, simple, inherited, detailed}
 use Rattle.cargo_toml_dependencies.specs.Inheriting.{Entries, adds_nothing, any_left, any_target_left, entry_at, from_template, inherited_entries, inherited_entry, inherited_target, inherited_targets, is_left, detail_of_requirement, target_left, with_entry}
 use Rattle.cargo_toml_dependencies.specs.Targets.{TargetMeaning}
-use Rattle.cargo_toml_package.specs.Inheriting.{any_field_left, inherited_package, with_template_if_there}
-use Rattle.cargo_toml_package.specs.Packages.{PackageMeaning}
+use Rattle.cargo_toml_package.proofs.Lasting.{filled_package}
+use Rattle.cargo_toml_package.specs.Inheriting.{IsFilled, any_field_left, inherited_package, with_template_if_there}
+use Rattle.cargo_toml_package.specs.Packages.{PackageMeaning, package_meaning}
+use Rattle.cargo_toml_package.specs.declared.package.Package.{Package}
 use Rattle.cargo_toml_package.specs.Templates.{TemplateMeaning}
 use Rattle.cargo_toml_manifest.proofs.FoundAgain.{needs_found}
 use Rattle.cargo_toml_manifest.specs.Choosing.{Handed, RootsTold, from, hint_of, own_choice}
@@ -24,8 +27,9 @@ use Rattle.cargo_toml_manifest.specs.Completing.{complete, complete_by, gives, s
 use Rattle.cargo_toml_manifest.specs.Finding.{found_around}
 use Rattle.cargo_toml_package.specs.Sharing.{LintsByTool, Shared, inherited_lints, shared}
 use Rattle.cargo_toml_manifest.specs.Inheriting.{inherited_if_there, inherited_from, inherited_manifest, needs, own_tables}
-use Rattle.cargo_toml_manifest.specs.Manifests.{ManifestMeaning}
+use Rattle.cargo_toml_manifest.specs.Manifests.{ManifestMeaning, held}
 use Rattle.cargo_toml_manifest.specs.Told.{ToldRoot, root, no_root, open_root}
+use Rattle.cargo_toml_manifest.specs.declared.manifest.Manifest.{Manifest}
 
 -- a step that led to a value gave one, and so did what follows
 both : {A B : Type 0} (step : Result A Fault) (next : A → Result B Fault) (y : B) → ◌>>=◌ step next ≡ Ok y → (x : A) × (step ≡ Ok x) × (next x ≡ Ok y)
@@ -169,3 +173,11 @@ pub complete_done : {M : Type 0} (m n : ManifestMeaning M) (handed : Option Hand
 complete_done m n handed roots told h =
     let c = completed m n handed roots told h in
     needs_found c.inherited n told c.none c.found
+
+-- all fields of its package are known then
+package-known : {M : Type 0} (p : Option (Package M)) → option_map_or any_field_left (option_map (package_meaning (λ m. m)) p) false ≡ false → IfSome p IsFilled
+package-known None h = tt
+package-known (Some p) h = filled_package p h
+
+pub known : {M : Type 0} (m : Manifest M) → needs (held m) ≡ false → IfSome m.«package» IsFilled
+known m h = package-known m.«package» (or_parts _ _ (or_parts _ _ (or_parts _ _ (or_parts _ _ (or_parts _ _ h).0).0).0).0).0

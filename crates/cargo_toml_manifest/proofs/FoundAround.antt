@@ -1,17 +1,17 @@
 -- What is found around a manifest whose package takes its fields.
-use Rattle.std.proofs.Common.{◌≡◌, ◌⊎◌, inl, inr, sym, ap, ◌∙◌, refl, subst, Option, Some, None}
+use Rattle.std.proofs.Common.{◌≡◌, inl, inr, sym, ap, ◌∙◌, refl, subst, Option, Some, None}
 use Rattle.cargo_toml_parts.specs.FaultValues.{fault_of}
 use Rattle.cargo_toml_parts.specs.declared.error.Error.{Error}
 use Rattle.cargo_toml_discovery.specs.Answers.{Answers, around_in, filled}
 use Rattle.cargo_toml_discovery.specs.Around.{Around, around}
 use Rattle.cargo_toml_discovery.specs.Discovering.{DiscoveredMeaning, discovered, discovered_meaning}
 use Rattle.cargo_toml_discovery.specs.Names.{Name}
-use Rattle.cargo_toml_discovery.specs.Seen.{Seen, Tells, seen, seen_as, unclear}
+use Rattle.cargo_toml_discovery.specs.Seen.{Seen, Tells, seen, seen_as}
 use Rattle.cargo_toml_discovery.specs.Told.{Told}
 use Rattle.cargo_toml_discovery.specs.declared.discovery.Discovered.{Discovered}
 use Rattle.cargo_toml_discovery.specs.declared.listings.Wanted.{Wanted}
-use Rattle.cargo_toml_discovery.proofs.Extends.{Ext, ext-around, ext-as}
-use Rattle.cargo_toml_discovery.proofs.Heard.{tell-as}
+use Rattle.cargo_toml_manifest.proofs.Extends.{Ext, ext-around, ext-as}
+use Rattle.cargo_toml_manifest.proofs.Heard.{tell-as}
 use Rattle.cargo_toml_package.specs.Packages.{PackageMeaning}
 use Rattle.cargo_toml_package.specs.declared.inheriting.NewFields.{NewFields}
 use Rattle.cargo_toml_manifest.specs.Finding.{found_around, found_for, stated_by, wanted_by, with_discovered, with_found, with_found_for}
@@ -83,16 +83,7 @@ found_nothing m new is told =
     ∙ ap (λ (o : Option (PackageMeaning _)). seen (with_found_for (installed m new) o None)) (sym takes)
 
 -- where open paths have answers, what is found stays as it was, unless it was unclear
-found_for-extends : {M : Type 0} (m : ManifestMeaning M) (o : Option (PackageMeaning M)) (told : Name → Told)
+pub found_for-extends : {M : Type 0} (m : ManifestMeaning M) (o : Option (PackageMeaning M)) (told : Name → Told)
     (answers : Answers) → Ext (found_for m o told) (found_for m o (filled told answers))
 found_for-extends m None told answers = inr refl
 found_for-extends m (Some p) told answers = ext-as _ _ _ (ext-around told answers (wanted_by p))
-
-pub seen_or_unclear : {M : Type 0} (m n : ManifestMeaning M) (told : Name → Told) (answers : Answers) →
-    found_around m (filled told answers) ≡ seen n → (found_around m told ≡ unclear) ⊎ (found_around m told ≡ seen n)
-seen_or_unclear m n told answers h = still (found_for-extends m m.«package» told answers)
-  where
-    still : Ext (found_around m told) (found_around m (filled told answers)) →
-        (found_around m told ≡ unclear) ⊎ (found_around m told ≡ seen n)
-    still (inl hidden) = inl hidden
-    still (inr same) = inr (sym same ∙ h)

@@ -34,14 +34,6 @@ module _ (templates : Option Entries) (base : List ℕ) (t : TargetMeaning) wher
 -- the whole
 module _ {M : Type 0} (templates : Option Entries) (groups : Option LintsByTool) (template : Option TemplateMeaning)
     (base : List ℕ) (m : ManifestMeaning M) where
-  pub stops_at_tables : (e : Error) → Refuses (inherited_target templates base (own_tables m)) e →
-      Refuses (inherited_from templates groups template base m) e
-  stops_at_tables e h = stops _ _ e h
-
-  pub stops_at_targets : (t : TargetMeaning) (e : Error) → inherited_target templates base (own_tables m) ≡ Ok t →
-      Refuses (inherited_targets templates base m.target) e → Refuses (inherited_from templates groups template base m) e
-  stops_at_targets t e a h = later _ t _ e a (stops _ _ e h)
-
   pub stops_at_lints : (t : TargetMeaning) (ts : List (List ℕ × TargetMeaning)) (e : Error) →
       inherited_target templates base (own_tables m) ≡ Ok t → inherited_targets templates base m.target ≡ Ok ts →
       Refuses (inherited_lints groups m.lints) e → Refuses (inherited_from templates groups template base m) e

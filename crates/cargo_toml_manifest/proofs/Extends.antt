@@ -5,7 +5,7 @@ use Rattle.cargo_toml_discovery.specs.Answers.{Answers, answer_at, filled_by, fi
 use Rattle.cargo_toml_discovery.specs.Around.{named_by, named_at, each_named, entries_at, make_around, around}
 use Rattle.cargo_toml_discovery.specs.Found.{Named}
 use Rattle.cargo_toml_discovery.specs.Names.{Name, in_folder, is_source}
-use Rattle.cargo_toml_discovery.specs.Seen.{Seen, seen, faulty, unclear, seen_as, pair, and_then, names_at, root_names, IsOneOf, MayTell, at_path}
+use Rattle.cargo_toml_discovery.specs.Seen.{Seen, seen, faulty, unclear, seen_as, pair, and_then, names_at, root_names, IsOneOf}
 use Rattle.cargo_toml_discovery.specs.Told.{Told, names, absent, denied, open_path}
 use Rattle.cargo_toml_discovery.specs.declared.listings.Wanted.{Wanted}
 use Rattle.cargo_toml_parts.specs.Wrapping.{wrap}
@@ -69,16 +69,7 @@ module _ (told : Name → Told) (ans : Answers) where
   ext-around wanted = ext-as make_around _ _ (ext-pair _ _ _ _ (ext-pair _ _ _ _ (ext-root (told []) (answer_at ans [])) (ext-names (told (codes "src")) (answer_at ans (codes "src"))))
       (ext-pair _ _ _ _ (ext-pair _ _ _ _ (ext-entries wanted.bins (codes "src/bin")) (ext-entries wanted.examples (codes "examples"))) (ext-pair _ _ _ _ (ext-entries wanted.tests (codes "tests")) (ext-entries wanted.benches (codes "benches")))))
 
-pub ext-at : {A : Type 0} (p : Option Name) (s t : Seen A) → Ext s t → Ext (at_path p s) (at_path p t)
-ext-at p s t (inl e) = inl (ap (λ u. at_path p u) e)
-ext-at p s t (inr e) = inr (ap (λ u. at_path p u) e)
-
-one_of-wrapped : (p : Option Name) (f : Fault) (fs : List Fault) → IsOneOf f fs → IsOneOf (wrap p f) (map (wrap p) fs)
+pub one_of-wrapped : (p : Option Name) (f : Fault) (fs : List Fault) → IsOneOf f fs → IsOneOf (wrap p f) (map (wrap p) fs)
 one_of-wrapped p f [] h = h
 one_of-wrapped p f (g ∷ fs) (inl e) = inl (ap (wrap p) e)
 one_of-wrapped p f (g ∷ fs) (inr h) = inr (one_of-wrapped p f fs h)
-
-pub tell-at : {A : Type 0} (p : Option Name) (s : Seen A) (f : Fault) → MayTell s f → MayTell (at_path p s) (wrap p f)
-tell-at p (seen x) f h = h
-tell-at p (faulty fs) f h = one_of-wrapped p f fs h
-tell-at p unclear f h = h

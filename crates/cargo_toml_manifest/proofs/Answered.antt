@@ -8,11 +8,11 @@ use Rattle.std.specs.declared.io.ErrorKind.TheVariants.{NotFound}
 use Rattle.cargo_toml_parts.specs.declared.error.Error.{Error, Memory}
 use Rattle.cargo_toml_parts.specs.FaultValues.{Fault, fault_of, io}
 use Rattle.cargo_toml_discovery.specs.Answers.{filled_by, texts_in}
-use Rattle.cargo_toml_discovery.specs.Gathering.{AnswerFits, IsHeard, Listed, Sorts}
+use Rattle.cargo_toml_manifest.specs.Gathering.{AnswerFits, IsHeard, Listed, Sorts}
 use Rattle.cargo_toml_discovery.specs.Names.{Name}
 use Rattle.cargo_toml_discovery.specs.Seen.{Seen, seen, faulty, is_absence, is_not_found, names_at, root_names, Tells}
 use Rattle.cargo_toml_discovery.specs.Told.{Told, names, absent, denied, open_path}
-use Rattle.cargo_toml_discovery.proofs.Heard.{root_is_answer}
+use Rattle.cargo_toml_manifest.proofs.Heard.{root_is_answer}
 use Rattle.cargo_toml_discovery.proofs.Unique.{texts_in-ordered, texts_in-itself}
 use Rattle.cargo_toml_discovery.specs.Folders.{AnswersNames, RefusesBy}
 use Rattle.cargo_toml_discovery.proofs.Faults.{fault_of-memory}

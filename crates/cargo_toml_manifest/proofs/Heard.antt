@@ -8,7 +8,7 @@ use Rattle.std.proofs.lemmas.List.{take_more, map_push}
 use Rattle.cargo_toml_parts.specs.declared.error.Error.{Error, Memory}
 use Rattle.cargo_toml_parts.specs.FaultValues.{Fault, fault_of}
 use Rattle.cargo_toml_discovery.specs.Answers.{Answers, answer_at, names_in, below, filled_by}
-use Rattle.cargo_toml_discovery.specs.Gathering.{AnswerFits, Fits, Grows, Has, HasEach, MayTellOneOf, HasProducts}
+use Rattle.cargo_toml_manifest.specs.Gathering.{AnswerFits, Fits, Grows, Has, HasEach, MayTellOneOf, HasProducts}
 use Rattle.cargo_toml_discovery.specs.Names.{Name}
 use Rattle.cargo_toml_discovery.specs.Seen.{Seen, seen, faulty, unclear, seen_as, pair, names_at, root_names, IsOneOf, MayTell, Tells}
 use Rattle.cargo_toml_discovery.specs.Told.{Told, names, absent, denied, open_path}
@@ -24,9 +24,16 @@ root_is_answer open_path ns h = h
 pub grows-on : (told : Name → Told) (a b c : Answers) → Grows told a b → Grows told b c → Grows told a c
 grows-on told a b c g h = ((λ p ns e. h.0 p ns (g.0 p ns e)), (λ f. h.1 (g.1 f)))
 
+-- the answer that is there
+some_of : (r : Option (List Name)) → is_some r ≡ true → r ≡ Some (unwrap_or r [])
+some_of None h = cc
+some_of (Some ns) h = refl
+
+pub has_some : (a : Answers) (p : Name) → Has a p → answer_at a p ≡ Some (names_in a p)
+has_some a p h = some_of (answer_at a p) h
+
 pub has-grows : (told : Name → Told) (a b : Answers) (p : Name) → Grows told a b → Has a p → Has b p
-has-grows told a b p g h = elim (answer_at a p) as (λ r. answer_at a p ≡ r → is_some r ≡ true → Has b p)
-    [ None ↦ λ e k. cc | Some ns ↦ λ e k. ap is_some (g.0 p ns e) ] refl h
+has-grows told a b p g h = ap is_some (g.0 p (names_in a p) (has_some a p h))
 
 pub has_each-grows : (told : Name → Told) (a b : Answers) (ps : List Name) → Grows told a b → HasEach a ps → HasEach b ps
 has_each-grows told a b [] g h = tt
@@ -37,8 +44,7 @@ has_each-push a [] p h k = (k, tt)
 has_each-push a (q ∷ ps) p h k = (h.0, has_each-push a ps p h.1 k)
 
 pub names_in-grows : (told : Name → Told) (a b : Answers) (p : Name) → Grows told a b → Has a p → names_in a p ≡ names_in b p
-names_in-grows told a b p g h = elim (answer_at a p) as (λ r. answer_at a p ≡ r → is_some r ≡ true → unwrap_or r [] ≡ names_in b p)
-    [ None ↦ λ e k. cc | Some ns ↦ λ e k. sym (ap (λ (r : Option (List Name)). unwrap_or r []) (g.0 p ns e)) ] refl h
+names_in-grows told a b p g h = sym (ap (λ (r : Option (List Name)). unwrap_or r []) (g.0 p (names_in a p) (has_some a p h)))
 
 pub has_products-grows : (told : Name → Told) (a b : Answers) (wanted : Bool) (folder : Name) → Grows told a b → HasProducts wanted folder a → HasProducts wanted folder b
 has_products-grows told a b false folder g h = tt

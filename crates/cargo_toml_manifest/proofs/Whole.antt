@@ -1,17 +1,17 @@
 -- All that was asked for.
-use Rattle.std.proofs.Common.{◌≡◌, Bool, true, false, cond, not, ◌&&◌, List, [], ◌∷◌, refl, ap, ◌∙◌, map, filter, Option, Some, None, is_some, ◌⊎◌, inl, inr, codes, unwrap_or}
+use Rattle.std.proofs.Common.{◌≡◌, Bool, true, false, cond, not, ◌&&◌, List, [], ◌∷◌, refl, ap, ◌∙◌, sym, subst, map, filter, Option, Some, None, is_some, ◌⊎◌, inl, inr, codes, unwrap_or}
 use Rattle.std.specs.Str.{bytes_eq}
 use Rattle.cargo_toml_parts.specs.declared.error.Error.{Error, Memory}
 use Rattle.cargo_toml_parts.specs.FaultValues.{Fault, fault_of}
 use Rattle.cargo_toml_discovery.specs.Answers.{Answers, answer_at, names_in, below, named_in, entries_if, around_in, filled_by, filled}
 use Rattle.cargo_toml_discovery.specs.Around.{named_by, each_named, entries_at, make_around, around}
 use Rattle.cargo_toml_discovery.specs.Found.{Named}
-use Rattle.cargo_toml_discovery.specs.Gathering.{AnswerFits, Fits, Has, HasEach, MayTellOneOf, HasProducts, HasRoot, HasAll}
+use Rattle.cargo_toml_manifest.specs.Gathering.{AnswerFits, Fits, Has, HasEach, MayTellOneOf, HasProducts, HasRoot, HasAll}
 use Rattle.cargo_toml_discovery.specs.Names.{Name, has_text, in_folder, is_source, may_be_folder}
 use Rattle.cargo_toml_discovery.specs.Seen.{Seen, seen, unclear, seen_as, pair, and_then, names_at, root_names, MayTell, Tells}
 use Rattle.cargo_toml_discovery.specs.Told.{Told, names, absent, denied, open_path}
 use Rattle.cargo_toml_discovery.specs.declared.listings.Wanted.{Wanted}
-use Rattle.cargo_toml_discovery.proofs.Heard.{tell-as, tell-left, tell-right, grows-one, has-one, root_is_answer}
+use Rattle.cargo_toml_manifest.proofs.Heard.{has_some, tell-as, tell-left, tell-right, grows-one, has-one, root_is_answer}
 
 abbrev source_named : Name → Seen Named
 source_named n = seen (record { name = n; has_main = false })
@@ -39,12 +39,8 @@ products-told told folder ns f one h = elim (told_or_open (told folder) ns one)
     [ inl e ↦ rw e tt | inr e ↦ rw e (each-told told folder ns f h) ]
 
 -- what was heard
-heard_at : (told : Name → Told) (ans : Answers) (p : Name) (r : Option (List Name)) → Fits told ans → answer_at ans p ≡ r → is_some r ≡ true → names_at (filled_by (told p) r) ≡ seen (unwrap_or r [])
-heard_at told ans p None f e h = cc
-heard_at told ans p (Some ns) f e h = f p ns e
-
 pub heard : (told : Name → Told) (ans : Answers) (p : Name) → Fits told ans → Has ans p → names_at (filled told ans p) ≡ seen (names_in ans p)
-heard told ans p f h = heard_at told ans p (answer_at ans p) f refl h
+heard told ans p f h = let is = has_some ans p h in ap (λ (r : Option (List Name)). names_at (filled_by (told p) r)) is ∙ f p (names_in ans p) is
 
 each-heard-step : (told : Name → Told) (ans : Answers) (folder n : Name) (ns : List Name) (b : Bool) → Fits told ans →
     (HasEach ans (below folder ns) → each_named (filled told ans) folder ns ≡ seen (map (named_in ans folder) ns)) →
@@ -63,9 +59,6 @@ each-heard told ans folder (n ∷ ns) f h = each-heard-step told ans folder n ns
 pub products-heard : (told : Name → Told) (ans : Answers) (wanted : Bool) (folder : Name) → Fits told ans → HasProducts wanted folder ans → entries_at (filled told ans) wanted folder ≡ seen (entries_if wanted ans folder)
 products-heard told ans false folder f h = refl
 products-heard told ans true folder f h = ap (λ (s : Seen (List Name)). and_then s (each_named (filled told ans) folder)) (heard told ans folder f h.0) ∙ each-heard told ans folder (names_in ans folder) f h.1
-
-root-heard : (t : Told) (r : Option (List Name)) (ns : List Name) → r ≡ Some ns → root_names (filled_by t (Some ns)) ≡ seen ns → root_names (filled_by t r) ≡ seen (unwrap_or r [])
-root-heard t r ns e h = rw e h
 
 -- a fault of one is a fault of all
 module _ (told : Name → Told) (wanted : Wanted) (f : Fault) where
@@ -87,12 +80,8 @@ module _ (told : Name → Told) (wanted : Wanted) (f : Fault) where
   pub by-benches : MayTell (entries_at told wanted.benches (codes "benches")) f → MayTell (around told wanted) f
   by-benches h = tell-as make_around _ f (tell-right (pair (root_names (told [])) (names_at (told (codes "src")))) _ f (tell-right (pair (entries_at told wanted.bins (codes "src/bin")) (entries_at told wanted.examples (codes "examples"))) _ f (tell-right (entries_at told wanted.tests (codes "tests")) _ f h)))
 
-answer_is : (told : Name → Told) (ans : Answers) (p : Name) (r : Option (List Name)) → Fits told ans → answer_at ans p ≡ r → is_some r ≡ true → AnswerFits (told p) (unwrap_or r [])
-answer_is told ans p None f e h = cc
-answer_is told ans p (Some ns) f e h = f p ns e
-
 pub is_answer-here : (told : Name → Told) (ans : Answers) (p : Name) → Fits told ans → Has ans p → AnswerFits (told p) (names_in ans p)
-is_answer-here told ans p f h = answer_is told ans p (answer_at ans p) f refl h
+is_answer-here told ans p f h = f p (names_in ans p) (has_some ans p h)
 
 pub products-tells : (told : Name → Told) (wanted : Bool) (folder : Name) (ns : List Name) (e : Error) → wanted ≡ true → AnswerFits (told folder) ns → (e ≡ Memory) ⊎ MayTellOneOf told (below folder ns) (fault_of e) → Tells (entries_at told wanted folder) e
 products-tells told wanted folder ns e is one (inl m) = inl m
@@ -116,7 +105,7 @@ started told old new root e h is =
     ((grows-one told old new [] root missing h (root_is_answer (told []) root is)).1 (none_fits told old e), has-one told old new [] root missing h)
 
 pub has_root : (told : Name → Told) (ans : Answers) (root : List Name) → answer_at ans [] ≡ Some root → root_names (filled_by (told []) (Some root)) ≡ seen root → HasRoot told ans
-has_root told ans root e h = root-heard (told []) (answer_at ans []) root e h
+has_root told ans root e h = subst (λ (r : Option (List Name)). root_names (filled_by (told []) r) ≡ seen (unwrap_or r [])) (sym e) h
 
 pub all-told : (told : Name → Told) (ans : Answers) (wanted : Wanted) → Fits told ans → HasRoot told ans → HasAll wanted ans → around (filled told ans) wanted ≡ seen (around_in ans wanted)
 all-told told ans wanted f root h =

@@ -74,13 +74,13 @@ module _ {M : Type 0} (m : ManifestMeaning M) (told : Name → Told) where
     met_by : {T : Type 0} (f : T → ManifestMeaning M) (r : Result T Error) (answer : ToldRoot) → AnswersHint (stated (hint_of m)) (found (hint_of m)) answer →
         Meets f (complete_by m (choice m handed (λ _. answer)) told) r → Meets f (complete m handed stated told) r
     met_by f r answer known h = elim (as_stated handed answer known) [
-      | inl open ↦ subst (λ (c : Choice). Meets f (complete_by m c told) r) (sym open) tt
+      | inl hidden ↦ subst (λ (c : Choice). Meets f (complete_by m c told) r) (sym hidden) tt
       | inr same ↦ subst (λ (c : Choice). Meets f (complete_by m c told) r) same h
     ]
 
     pub met_given : {T : Type 0} (f : T → ManifestMeaning M) (t : T) → GivenBy m handed stated found told (f t) → Meets f (complete m handed stated told) (Ok t)
     met_given f t (answer, known, (answers, is)) = met_by f (Ok t) answer known (elim (extends answers (choice m handed (λ _. answer))) [
-      | inl open ↦ subst (λ (o : Outcome (ManifestMeaning M)). Meets f o (Ok t)) (sym open) tt
+      | inl hidden ↦ subst (λ (o : Outcome (ManifestMeaning M)). Meets f o (Ok t)) (sym hidden) tt
       | inr same ↦ subst (λ (o : Outcome (ManifestMeaning M)). Meets f o (Ok t)) (sym is ∙ same) refl
     ])
 

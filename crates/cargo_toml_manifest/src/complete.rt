@@ -15,9 +15,9 @@ use crate::afs::{AbstractFilesystem, wrapped};
 use crate::finding::{Completion, find, put_found};
 use crate::inheriting::{install_parts, new_parts};
 use crate::manifest::Manifest;
+use cargo_toml_package::sharing::NewParts;
 use cargo_toml_parts::Error;
 use cargo_toml_parts::paths::workspace_folder;
-use cargo_toml_package::sharing::NewParts;
 use std::alloc::Global;
 
 // What a manifest takes from the workspace of a root at this path.

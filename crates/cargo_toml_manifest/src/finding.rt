@@ -21,9 +21,9 @@ use cargo_toml_discovery::listings::{Listings, Wanted};
 use cargo_toml_discovery::{Discovered, Stated, discover};
 use cargo_toml_package::Package;
 use cargo_toml_package::inheriting::NewFields;
+use cargo_toml_package::sharing::NewParts;
 use cargo_toml_parts::{Error, Inheritable};
 use cargo_toml_tables::{Edition, OptionalFile};
-use cargo_toml_package::sharing::NewParts;
 use std::alloc::{AllocError, Global};
 
 /// What completion puts into a manifest.

@@ -35,7 +35,11 @@ fn names_of(
 }
 
 // The names in a folder, in order; an absent one counts as empty.
-fn listing<Fs: AbstractFilesystem>(alloc: Global, fs: &Fs, path: &str) -> Result<BTreeSet<String>, Error>
+fn listing<Fs: AbstractFilesystem>(
+    alloc: Global,
+    fs: &Fs,
+    path: &str,
+) -> Result<BTreeSet<String>, Error>
     ensures listed { Listed (Fs.names_at fs.now path.now) result }
     ensures refused { RefusesBy (Fs.may_refuse fs.now path.now) result }
 {
@@ -122,7 +126,11 @@ fn ask_products<Fs: AbstractFilesystem>(
 /// The folder of the package must be there; another that is absent counts as empty. Refused by what
 /// `fs` answers in place of names, the first time that this is no absent folder, and by
 /// `Error::Memory` where there is not enough memory.
-pub fn gather<Fs: AbstractFilesystem>(alloc: Global, fs: &Fs, wanted: Wanted) -> Result<Listings, Error>
+pub fn gather<Fs: AbstractFilesystem>(
+    alloc: Global,
+    fs: &Fs,
+    wanted: Wanted,
+) -> Result<Listings, Error>
     ensures asked { IfOk result (λ l. around (filled (Fs.names_at fs.now) (answers_of l)) wanted
         ≡ seen (around_in (answers_of l) wanted)) }
     ensures faults { IfErr result (Tells (around (Fs.names_at fs.now) wanted)) }

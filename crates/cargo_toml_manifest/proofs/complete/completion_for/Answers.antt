@@ -1,6 +1,7 @@
 use Rattle.std.proofs.Common.{[], Result, Some, None, refl, subst, sym, ◌∙◌}
 use Rattle.cargo_toml_parts.specs.Answers.{Gives}
 use Rattle.cargo_toml_parts.specs.FaultValues.{Fault}
+use Rattle.cargo_toml_parts.specs.Paths.{workspace_folder}
 use Rattle.cargo_toml_package.specs.Sharing.{shared_of}
 use Rattle.cargo_toml_manifest.specs.Choosing.{handed_of}
 use Rattle.cargo_toml_manifest.specs.Inheriting.{needs}
@@ -31,7 +32,7 @@ returns-then-not-needs_workspace_inheritance g c =
     let none = no_table c.args.manifest.now.workspace (sym c.is_some.ensures ∙ c.if-is_some.false) in
     let needed = sym c.needs_workspace_inheritance.ensures ∙ c.if-not-needs_workspace_inheritance.true in
     let taken = subst (λ (r : Result (ManifestMeaning _) Fault). Gives (installed m) c.parts_from-parts-then-not-needs_workspace_inheritance.result r)
-    (nothing_left _ _ m needed) c.parts_from-parts-then-not-needs_workspace_inheritance.ensures in
+    (nothing_left (shared_of c.args.manifest.now.workspace) (workspace_folder []) m needed) c.parts_from-parts-then-not-needs_workspace_inheritance.ensures in
     rw c.in_default.is
     (answered_as _ _ _ _ None _ _ _ _ (own_alone _ (needs m) _ none needed) (c.completion-then-not-needs_workspace_inheritance.ensures None refl taken))
 

@@ -13,10 +13,6 @@ use Rattle.cargo_toml_manifest.proofs.Steps.{Refuses, later, stops, then}
 
 -- the tables
 module _ (templates : Option Entries) (base : List ℕ) (t : TargetMeaning) where
-  pub stops_at_dependencies : (e : Error) → Refuses (inherited_entries templates base t.dependencies) e →
-      Refuses (inherited_target templates base t) e
-  stops_at_dependencies e h = stops _ _ e h
-
   pub stops_at_build : (ds : Entries) (e : Error) → inherited_entries templates base t.dependencies ≡ Ok ds →
       Refuses (inherited_entries templates base t.build_dependencies) e → Refuses (inherited_target templates base t) e
   stops_at_build ds e d h = later _ ds _ e d (stops _ _ e h)
@@ -25,11 +21,6 @@ module _ (templates : Option Entries) (base : List ℕ) (t : TargetMeaning) wher
       inherited_entries templates base t.build_dependencies ≡ Ok bs →
       Refuses (inherited_entries templates base t.dev_dependencies) e → Refuses (inherited_target templates base t) e
   stops_at_dev ds bs e d b h = later _ ds _ e d (later _ bs _ e b (stops _ _ e h))
-
-  pub tables_given : (ds bs vs : Entries) → inherited_entries templates base t.dependencies ≡ Ok ds →
-      inherited_entries templates base t.build_dependencies ≡ Ok bs → inherited_entries templates base t.dev_dependencies ≡ Ok vs →
-      inherited_target templates base t ≡ Ok (record { dependencies = ds; dev_dependencies = vs; build_dependencies = bs })
-  tables_given ds bs vs d b v = then _ ds _ _ d (then _ bs _ _ b (then _ vs _ _ v refl))
 
 -- the whole
 module _ {M : Type 0} (templates : Option Entries) (groups : Option LintsByTool) (template : Option TemplateMeaning)

@@ -1,14 +1,9 @@
 pub mod Again
 pub mod Ascend
-pub mod Copies
-pub mod Dashes
 pub mod Faults
-pub mod Joins
 pub mod LastWaiting
 pub mod Lookups
 pub mod Paths
-pub mod SetForm
-pub mod Sorts
 pub mod Stable
 pub mod Stems
 pub mod Unique

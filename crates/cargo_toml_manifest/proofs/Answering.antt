@@ -10,7 +10,7 @@ use Rattle.cargo_toml_discovery.specs.Folders.{IsListed}
 use Rattle.cargo_toml_discovery.specs.Names.{Name}
 use Rattle.cargo_toml_discovery.specs.Seen.{IsOneOf, MayTell, Seen, Tells, faulty, seen, unclear}
 use Rattle.cargo_toml_discovery.specs.Told.{Told}
-use Rattle.cargo_toml_manifest.proofs.Extends.{one_of-wrapped}
+use Rattle.cargo_toml_manifest.proofs.FoundAround.{one_of-wrapped, found_for-extends}
 use Rattle.cargo_toml_package.specs.Sharing.{Shared, shared}
 use Rattle.cargo_toml_package.specs.declared.sharing.NewParts.{NewParts}
 use Rattle.cargo_toml_manifest.specs.Answering.{IsAnsweredAt, IsAnsweredBy, IsFaultOf, IsRefusal}
@@ -23,7 +23,6 @@ use Rattle.cargo_toml_manifest.specs.Manifests.{ManifestMeaning, manifest_meanin
 use Rattle.cargo_toml_manifest.specs.Refusing.{IsCause, IsRefusedAt, IsRefusedBy}
 use Rattle.cargo_toml_manifest.specs.Told.{AnswersRoot, ToldRoot, no_root, open_root, root}
 use Rattle.cargo_toml_manifest.specs.declared.finding.Completion.{Completion}
-use Rattle.cargo_toml_manifest.proofs.FoundAround.{found_for-extends}
 use Rattle.cargo_toml_manifest.proofs.Meeting.{Found, found_answer, found_at, found_choice, hint_alone, own_by_root}
 use Rattle.cargo_toml_manifest.proofs.Rooted.{IsWrapped, stays_memory, told_with}
 

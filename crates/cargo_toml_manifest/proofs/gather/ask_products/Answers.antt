@@ -3,8 +3,7 @@ use Rattle.std.proofs.lemmas.Result.{err_from_is_err_and}
 use Rattle.cargo_toml_discovery.specs.Answers.{answers_of, names_in, below}
 use Rattle.cargo_toml_manifest.specs.Gathering.{HasEach}
 use Rattle.cargo_toml_discovery.specs.Names.{Name}
-use Rattle.cargo_toml_manifest.proofs.Heard.{grows-on, has-grows, names_in-grows}
-use Rattle.cargo_toml_manifest.proofs.Whole.{has_products-here, is_answer-here, products-tells}
+use Rattle.cargo_toml_manifest.proofs.Heard.{grows-on, has-grows, names_in-grows, has_products-here, is_answer-here, products-tells}
 use Rattle.cargo_toml_manifest.proofs.gather.ask_products.Goals as goal
 
 pub returns-clause-grows : goal.returns-clause-grows

@@ -1,4 +1,4 @@
-use Rattle.cargo_toml_manifest.proofs.Answered.{listed_by, refused_by}
+use Rattle.cargo_toml_manifest.proofs.Heard.{listed_by, refused_by}
 use Rattle.cargo_toml_manifest.proofs.gather.listing.Goals as goal
 
 pub returns-clause-listed : goal.returns-clause-listed

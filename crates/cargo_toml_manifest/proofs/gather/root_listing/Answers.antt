@@ -1,5 +1,5 @@
 use Rattle.std.proofs.Common.{[]}
-use Rattle.cargo_toml_manifest.proofs.Answered.{root_heard}
+use Rattle.cargo_toml_manifest.proofs.Heard.{root_heard}
 use Rattle.cargo_toml_manifest.proofs.gather.root_listing.Goals as goal
 
 pub returns-clause-listed : goal.returns-clause-listed

@@ -6,8 +6,7 @@ use Rattle.cargo_toml_manifest.specs.Choosing.{RootsTold, handed_of, roots_of}
 use Rattle.cargo_toml_manifest.specs.Completing.{GivenBy}
 use Rattle.cargo_toml_manifest.specs.Manifests.{ManifestMeaning, held}
 use Rattle.cargo_toml_manifest.proofs.Answering.{met_given, met_refused, refused_by}
-use Rattle.cargo_toml_manifest.proofs.Done.{complete_done, known}
-use Rattle.cargo_toml_manifest.proofs.Lasting.{complete_lasts}
+use Rattle.cargo_toml_manifest.proofs.Lasting.{complete_done, known, complete_lasts}
 use Rattle.cargo_toml_manifest.proofs.Meeting.{given_again, put_in}
 use Rattle.cargo_toml_manifest.proofs.manifest.Manifest.complete_from_abstract_filesystem.Goals as goal
 

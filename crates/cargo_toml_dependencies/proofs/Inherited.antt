@@ -52,7 +52,7 @@ all-needed templates base ((key, detailed d) ∷ es) = kept (key, detailed d) (r
 all-needed templates base ((key, inherited entry) ∷ es) = taken key entry es (inherited_entry templates base key (inherited entry)) _ (needed templates base es) (all-needed templates base es)
 
 -- the same of an answer
-pub gives_all : (templates : Option Entries) (base : List ℕ) (es : Entries) (r : Result (Vec (Vec Dependency Global) Global) Error) → Gives made_meaning r (needed templates base es) → Gives (λ made. replaced es (made_meaning made)) r (inherited_entries templates base es)
+pub gives_all : (templates : Option Entries) (base : List ℕ) (es : Entries) (r : Result (Vec Dependency Global) Error) → Gives made_meaning r (needed templates base es) → Gives (λ made. replaced es (made_meaning made)) r (inherited_entries templates base es)
 gives_all templates base es (Ok made) h = all-needed templates base es ∙ ap (λ (q : Result (List DependencyMeaning) Fault). result_map_both (replaced es) (λ e. e) q) h
 gives_all templates base es (Err e) (inl memory) = inl memory
 gives_all templates base es (Err e) (inr h) = inr (all-needed templates base es ∙ ap (λ (q : Result (List DependencyMeaning) Fault). result_map_both (replaced es) (λ e. e) q) h)

@@ -1,12 +1,9 @@
 -- Dependencies with others in the place of those that are left to the workspace.
-use Rattle.std.specs.Prelude.{ℕ, List, [], ◌∷◌, ◌++◌, drop, map, String, Vec}
+use Rattle.std.specs.Prelude.{ℕ, List, [], ◌∷◌, drop, map, String, Vec}
 use Rattle.std.specs.BTreeMap.{BTreeMap}
-use Rattle.std.specs.List.{flat_map}
-use Rattle.std.specs.Vec.Iter.{into_iter_items}
 use Rattle.std.specs.declared.alloc.Global.{Global}
 use Rattle.cargo_toml_parts.specs.Reads.{map_meaning}
 use Rattle.cargo_toml_dependencies.specs.declared.dependency.Dependency.{Dependency}
-use Rattle.cargo_toml_dependencies.specs.declared.inheriting.blocks.Waiting.{Waiting}
 use Rattle.cargo_toml_dependencies.specs.declared.inheriting.targets.NewTarget.{NewTarget}
 use Rattle.cargo_toml_dependencies.specs.declared.target.Target.{Target}
 use Rattle.cargo_toml_dependencies.specs.Dependencies.{DependencyMeaning}
@@ -14,22 +11,12 @@ use Rattle.cargo_toml_dependencies.specs.Dependencies.{dependency_meaning, inher
 use Rattle.cargo_toml_dependencies.specs.Inheriting.{Entries}
 use Rattle.cargo_toml_dependencies.specs.Targets.{TargetMeaning, target_meaning}
 
--- what the dependencies of a map hold, those of blocks one after the other, and
--- the targets of a map
+-- what the dependencies of a map hold, those of a list, and the targets of a map
 abbrev pub entries_meaning : BTreeMap (String Global) Dependency → Entries
 entries_meaning m = map_meaning dependency_meaning m
 
-abbrev pub blocks_meaning : List (Vec Dependency Global) → List DependencyMeaning
-blocks_meaning blocks = flat_map (λ b. map dependency_meaning b.items) blocks
-
-abbrev pub made_meaning : Vec (Vec Dependency Global) Global → List DependencyMeaning
-made_meaning made = blocks_meaning made.items
-
--- those that wait for their place
-abbrev pub waiting_meaning : Waiting → List DependencyMeaning
-waiting_meaning waiting =
-    map dependency_meaning (into_iter_items waiting.block)
-    ++ blocks_meaning (into_iter_items waiting.blocks)
+abbrev pub made_meaning : Vec Dependency Global → List DependencyMeaning
+made_meaning made = map dependency_meaning made.items
 
 abbrev pub targets_meaning : BTreeMap (String Global) Target → List (List ℕ × TargetMeaning)
 targets_meaning m = map_meaning target_meaning m

@@ -3,30 +3,27 @@
 //! It goes in two steps, so that a refusal leaves everything as it was: first the new
 //! dependencies are made beside the old ones, then they are put in their places, which takes no
 //! memory and is never refused.
-ghost use Rattle.std.specs.Prelude.{◌≡◌, [], IfSome, Some, option_map};
+ghost use Rattle.std.specs.Prelude.{◌≡◌, [], IfSome, Some, map, option_map};
 ghost use Rattle.std.specs.Option.{option_copied};
+ghost use Rattle.std.specs.Vec.Iter.{into_iter_items};
 ghost use Rattle.cargo_toml_parts.specs.Answers.{Gives};
 ghost use Rattle.cargo_toml_dependencies.specs.Dependencies.{dependency_meaning};
 ghost use Rattle.cargo_toml_dependencies.specs.Inheriting.{Entries, any_left, entry_at};
 ghost use Rattle.cargo_toml_dependencies.specs.Inheriting.{inherited_entries};
 ghost use Rattle.cargo_toml_dependencies.specs.Near.{AreEntriesOf};
 ghost use Rattle.cargo_toml_dependencies.specs.Replacing.{entries_meaning, made_meaning, next_for};
-ghost use Rattle.cargo_toml_dependencies.specs.Replacing.{replaced, rest_for, waiting_meaning};
+ghost use Rattle.cargo_toml_dependencies.specs.Replacing.{replaced, rest_for};
 
-mod blocks;
 mod entry;
 mod targets;
 
 use crate::dependency::Dependency;
 use crate::target::DepsSet;
-use blocks::Waiting;
 use cargo_toml_parts::error::Error;
 use std::alloc::Global;
 use std::collections::btree_map::Iter;
+use std::vec::IntoIter;
 pub use targets::{NewTarget, any_target_inherits, replace_targets, target_replacements};
-
-/// What inherited dependencies become, in the order of their keys, in blocks one after the other.
-pub type Made = Vec<Vec<Dependency>>;
 
 // How many of the workspace's dependencies are looked at in their order before one of a
 // key is searched for.
@@ -99,16 +96,14 @@ fn made_by(
     templates: &DepsSet,
     base: &str,
     dependencies: &DepsSet,
-) -> Result<Made, Error>
+) -> Result<Vec<Dependency>, Error>
     ensures { Gives (λ made. replaced (entries_meaning dependencies.now) (made_meaning made)) result
         (inherited_entries (Some (entries_meaning templates.now)) base.now
         (entries_meaning dependencies.now)) }
 {
     let none = DepsSet::new(alloc);
     let mut near = near_of(templates, &none, dependencies);
-    let room = room_for(dependencies);
-    let mut full = Vec::with_capacity(alloc, room.div_ceil(blocks::ROOM))?;
-    let mut block = Vec::with_capacity(alloc, room.min(blocks::ROOM))?;
+    let mut made = Vec::with_capacity(alloc, room_for(dependencies))?;
     for (key, dependency) in dependencies {
         if let Dependency::Inherited(entry) = dependency {
             let Some(template) = template_at(templates, &mut near, key.as_str()) else {
@@ -117,10 +112,10 @@ fn made_by(
             let Some(filled) = entry::from_template(alloc, base, entry, template)? else {
                 return Err(Error::InheritedUnknownValue);
             };
-            blocks::add(alloc, &mut full, &mut block, filled)?;
+            made.push(filled)?;
         }
     }
-    Ok(blocks::all(full, block)?)
+    Ok(made)
 }
 
 /// What the inherited dependencies become by those of the workspace, `templates`, in the order of
@@ -135,7 +130,7 @@ pub fn replacements(
     templates: Option<&DepsSet>,
     base: &str,
     dependencies: &DepsSet,
-) -> Result<Made, Error>
+) -> Result<Vec<Dependency>, Error>
     ensures { Gives (λ made. replaced (entries_meaning dependencies.now) (made_meaning made)) result
         (inherited_entries (option_map entries_meaning (option_copied templates.entry)) base.now
         (entries_meaning dependencies.now)) }
@@ -147,14 +142,16 @@ pub fn replacements(
 }
 
 // Puts the next one in the place of an inherited dependency.
-fn put_next(dependency: &mut Dependency, waiting: &mut Waiting)
+fn put_next(dependency: &mut Dependency, made: &mut IntoIter<Dependency>)
     ensures dependency { dependency_meaning dependency.new
-        ≡ next_for (dependency_meaning dependency.old) (waiting_meaning waiting.old) }
-    ensures rest { waiting_meaning waiting.new
-        ≡ rest_for (dependency_meaning dependency.old) (waiting_meaning waiting.old) }
+        ≡ next_for (dependency_meaning dependency.old)
+        (map dependency_meaning (into_iter_items made.old)) }
+    ensures rest { map dependency_meaning (into_iter_items made.new)
+        ≡ rest_for (dependency_meaning dependency.old)
+        (map dependency_meaning (into_iter_items made.old)) }
 {
     if let Dependency::Inherited(_) = dependency {
-        if let Some(next) = blocks::next(waiting) {
+        if let Some(next) = made.next() {
             *dependency = next;
         }
     }
@@ -163,13 +160,13 @@ fn put_next(dependency: &mut Dependency, waiting: &mut Waiting)
 /// Puts what was made in the place of the inherited dependencies, in the order of their keys.
 /// Other dependencies are left as they are, and so are inherited ones for which nothing was made.
 /// It takes no memory.
-pub fn replace(dependencies: &mut DepsSet, made: Made)
+pub fn replace(dependencies: &mut DepsSet, made: Vec<Dependency>)
     ensures { entries_meaning dependencies.new
         ≡ replaced (entries_meaning dependencies.old) (made_meaning made) }
 {
-    let mut waiting = blocks::all_waiting(made);
+    let mut made = made.into_iter();
     dependencies.retain(|_, dependency| {
-        put_next(dependency, &mut waiting);
+        put_next(dependency, &mut made);
         true
     });
 }

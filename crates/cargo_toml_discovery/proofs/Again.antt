@@ -7,8 +7,7 @@ use Rattle.std.specs.Str.{bytes_eq}
 use Rattle.cargo_toml_tables.specs.Settings.{File, flag, path}
 use Rattle.cargo_toml_tables.specs.declared.settings.Edition.{Edition}
 use Rattle.cargo_toml_tables.specs.Products.{ProductMeaning}
-use Rattle.cargo_toml_discovery.proofs.Ranks.{products_rank}
-use Rattle.cargo_toml_discovery.proofs.Stable.{one_sort, sorted-sorted_by, filter-sorted_by}
+use Rattle.cargo_toml_discovery.proofs.Stable.{products_rank, one_sort, sorted-sorted_by, filter-sorted_by}
 use Rattle.cargo_toml_discovery.proofs.Unique.{own, or-swap}
 use Rattle.cargo_toml_discovery.specs.Around.{Around}
 use Rattle.cargo_toml_discovery.specs.Discovering.{library, or_plain_library, filled_library, at_library, build_in, may_build, readme_in, first_in, readme_names, listed_products, main_of, main_offer, StatedMeaning, DiscoveredMeaning, discovered, restated}

@@ -1,18 +1,119 @@
--- Offers stand in the order of their names.
-use Rattle.std.proofs.Common.{◌≡◌, Bool, true, false, cond, List, [], ◌∷◌, ◌++◌, Option, Some, None, refl, ap, ◌∙◌, sym, filter, map, subst}
-use Rattle.std.specs.List.{cons_option}
+-- Offers stand in the order of their names, and the walk gives what each offer gives by itself.
+use Rattle.std.proofs.Common.{◌≡◌, Bool, true, false, cond, not, ◌&&◌, ◌||◌, List, [], ◌∷◌, ◌++◌, Option, Some, None, refl, ap, ◌∙◌, map, sym, append_assoc, append-nil, option_to_list, filter, subst}
+use Rattle.std.proofs.Math.Bool.{and-true, and-false}
+use Rattle.std.specs.List.{list_any, cons_option}
 use Rattle.std.specs.List.Sorted.{IsStrictlySortedBy}
-use Rattle.std.specs.Ordering.{nat_cmp}
-use Rattle.std.specs.declared.cmp.Ordering.TheVariants.{Less}
-use Rattle.std.specs.Cmp.Lexicographic.{slice_cmp}
+use Rattle.std.specs.Str.{bytes_eq}
+use Rattle.std.specs.Ordering.{nat_cmp, is_lt}
+use Rattle.std.specs.declared.cmp.Ordering.{Ordering}
+use Rattle.std.specs.declared.cmp.Ordering.TheVariants.{Less, Equal, Greater}
+use Rattle.std.specs.Cmp.Lexicographic.{slice_cmp, nat_list_cmp_total}
 use Rattle.cargo_toml_tables.specs.declared.settings.Edition.{Edition}
-use Rattle.cargo_toml_discovery.proofs.SetForm.{files, walk-set}
-use Rattle.cargo_toml_discovery.proofs.Unique.{AllAbove, Sorted}
-use Rattle.cargo_toml_discovery.specs.Found.{Named, Offered, offer_of, still_open, open_offer, offers, is_path_of, last_waiting, found, has_path}
-use Rattle.cargo_toml_discovery.specs.Names.{Name, is_source}
-use Rattle.cargo_toml_discovery.specs.Sorting.{sorted_by, product_lt}
-use Rattle.cargo_toml_discovery.specs.Walk.{NamesAscend, walk, with_extra}
 use Rattle.cargo_toml_tables.specs.Products.{ProductMeaning}
+use Rattle.cargo_toml_discovery.specs.Found.{Offered, product_for, product_among, last_waiting, last_product, has_offer, Named, offer_of, still_open, open_offer, offers, is_path_of, found, has_path}
+use Rattle.cargo_toml_discovery.specs.Names.{Name, is_source}
+use Rattle.cargo_toml_discovery.specs.Walk.{walk, with_extra, without, NamesAscend}
+use Rattle.cargo_toml_discovery.proofs.Unique.{AllAbove, Sorted}
+use Rattle.cargo_toml_discovery.specs.Answers.{Answers, named_in}
+use Rattle.cargo_toml_discovery.specs.Sorting.{sorted_by, product_lt}
+
+abbrev less : Name → Name → Bool
+less a b = is_lt (slice_cmp nat_cmp a b)
+
+-- the file of each stands before this one
+abbrev pub AllBefore : List Offered → Name → Type 0
+AllBefore [] f = Unit {0}
+AllBefore (q ∷ qs) f = (slice_cmp nat_cmp q.file f ≡ Less) × AllBefore qs f
+
+abbrev pub files : List Offered → List Name
+files os = map (λ o. o.file) os
+
+abbrev rival : Offered → Offered → Bool
+rival o q = bytes_eq q.name o.name && less q.file o.file
+
+rivals-before : (o : Offered) (qs rest : List Offered) → AllBefore qs o.file → list_any (rival o) rest ≡ false → list_any (rival o) (qs ++ rest) ≡ has_offer qs o.name
+rivals-before o [] rest h e = e
+rivals-before o (q ∷ qs) rest h e =
+    ap (λ (b : Bool). (bytes_eq q.name o.name && b) || list_any (rival o) (qs ++ rest)) (ap is_lt h.0)
+    ∙ ap (λ (b : Bool). b || list_any (rival o) (qs ++ rest)) (and-true (bytes_eq q.name o.name))
+    ∙ ap (λ (b : Bool). bytes_eq q.name o.name || b) (rivals-before o qs rest h.1 e)
+
+not_less : (a b : Name) → slice_cmp nat_cmp a b ≡ Less → less b a ≡ false
+not_less a b h = let e = nat_list_cmp_total.antisymm b a in rw (e, h) refl
+
+rivals-after : (o : Offered) (qs : List Offered) → AllAbove o.file (files qs) → list_any (rival o) qs ≡ false
+rivals-after o [] h = refl
+rivals-after o (q ∷ qs) h =
+    ap (λ (b : Bool). (bytes_eq q.name o.name && b) || list_any (rival o) qs) (not_less o.file q.file h.0)
+    ∙ ap (λ (b : Bool). b || list_any (rival o) qs) (and-false (bytes_eq q.name o.name))
+    ∙ rivals-after o qs h.1
+
+not_own : (a : Name) (r : Ordering) → slice_cmp nat_cmp a a ≡ r → less a a ≡ false
+not_own a Less e = not_less a a e
+not_own a Equal e = ap is_lt e
+not_own a Greater e = ap is_lt e
+
+rivals : (o : Offered) (done os : List Offered) → AllBefore done o.file → AllAbove o.file (files os) → list_any (rival o) (done ++ o ∷ os) ≡ has_offer done o.name
+rivals o done os h k = rivals-before o done (o ∷ os) h
+    (ap (λ (b : Bool). (bytes_eq o.name o.name && b) || list_any (rival o) os) (not_own o.file (slice_cmp nat_cmp o.file o.file) refl)
+    ∙ ap (λ (b : Bool). b || list_any (rival o) os) (and-false (bytes_eq o.name o.name)) ∙ rivals-after o os k)
+
+before-push : (done : List Offered) (o q : Offered) → AllBefore done q.file → slice_cmp nat_cmp o.file q.file ≡ Less → AllBefore (done ++ o ∷ []) q.file
+before-push [] o q h e = (e, tt)
+before-push (p ∷ done) o q h e = (h.0, before-push done o q h.1 e)
+
+-- each of the second list stands after each of the first
+abbrev Apart : List Offered → List Offered → Type 0
+Apart done [] = Unit {0}
+Apart done (o ∷ os) = AllBefore done o.file × Apart done os
+
+apart-push : (done : List Offered) (o : Offered) (os : List Offered) → Apart done os → AllAbove o.file (files os) → Apart (done ++ o ∷ []) os
+apart-push done o [] h k = tt
+apart-push done o (q ∷ os) h k = (before-push done o q h.0 k.0, apart-push done o os h.1 k.1)
+
+apart-none : (os : List Offered) → Apart [] os
+apart-none [] = tt
+apart-none (o ∷ os) = (tt, apart-none os)
+
+twice : (b : Bool) → cond {A = Option ProductMeaning} b None None ≡ None
+twice true = refl
+twice false = refl
+
+named-push : (done : List Offered) (o : Offered) (n : Name) (x : Option ProductMeaning) → cond (bytes_eq o.name n) None (cond (has_offer done n) None x) ≡ cond (has_offer (done ++ o ∷ []) n) None x
+named-push [] o n x = either (bytes_eq o.name n) x where
+  either : (b : Bool) (x : Option ProductMeaning) → cond b None x ≡ cond (b || false) None x
+  either true x = refl
+  either false x = refl
+named-push (q ∷ done) o n x = elim (bytes_eq q.name n) as (λ b. cond (bytes_eq o.name n) None (cond (b || has_offer done n) None x) ≡ cond (b || has_offer (done ++ o ∷ []) n) None x)
+    [ true ↦ twice (bytes_eq o.name n) | false ↦ named-push done o n x ]
+
+chosen : (b : Bool) (x : Option ProductMeaning) → cond b None x ≡ cond (not b) x None
+chosen true x = refl
+chosen false x = refl
+
+module _ (edition : Edition) (ps : List ProductMeaning) where
+  last-product : (done : List Offered) (w : Name → Option ProductMeaning) (x : Option Offered) → ((n : Name) → w n ≡ cond (has_offer done n) None (last_waiting ps n)) → walk edition w (option_to_list x) ≡ last_product edition ps done x
+  last-product done w None h = refl
+  last-product done w (Some o) h = ap (λ (p : Option ProductMeaning). product_for edition o p ∷ []) (h o.name)
+
+  walk-each : (done os : List Offered) (w : Name → Option ProductMeaning) (x : Option Offered) → Apart done os → Sorted (files os) → ((n : Name) → w n ≡ cond (has_offer done n) None (last_waiting ps n)) →
+      walk edition w (with_extra os x) ≡ map (λ o. product_among edition ps (done ++ os) o) os ++ last_product edition ps (done ++ os) x
+  unfolding IsStrictlySortedBy
+  walk-each done [] w x a up h = last-product done w x h ∙ ap (λ (os : List Offered). last_product edition ps os x) (simp append-nil)
+  walk-each done (o ∷ os) w x a up h =
+      let first : product_for edition o (w o.name) ≡ product_among edition ps (done ++ o ∷ os) o =
+      ap (λ (x : Option ProductMeaning). product_for edition o x) (h o.name ∙ chosen (has_offer done o.name) (last_waiting ps o.name)
+      ∙ ap (λ (b : Bool). cond (not b) (last_waiting ps o.name) None) (sym (rivals o done os a.0 up.0))) in
+      let rest = walk-each (done ++ o ∷ []) os (without w o.name) x (apart-push done o os a.1 up.0) up.1
+      (λ n. ap (λ (x : Option ProductMeaning). cond (bytes_eq o.name n) None x) (h n) ∙ named-push done o n (last_waiting ps n)) in
+      let joined : (done ++ o ∷ []) ++ os ≡ done ++ o ∷ os = simp append_assoc in
+      ap (λ (p : ProductMeaning). p ∷ walk edition (without w o.name) (with_extra os x)) first
+      ∙ ap (λ (qs : List ProductMeaning). product_among edition ps (done ++ o ∷ os) o ∷ qs) (rest ∙ ap (λ (all : List Offered). map (λ o. product_among edition ps all o) os ++ last_product edition ps all x) joined)
+
+  pub walk-set : (os : List Offered) (x : Option Offered) → Sorted (files os) → walk edition (last_waiting ps) (with_extra os x) ≡ map (λ o. product_among edition ps os o) os ++ last_product edition ps os x
+  walk-set os x up = walk-each [] os (last_waiting ps) x (apart-none os) up (λ n. refl)
+
+-- Offers stand in the order of their names.
 
 abbrev FileIs : Name → Option Offered → Type 0
 FileIs f None = Unit {0}
@@ -63,3 +164,18 @@ pub walk-found : (edition : Edition) (folder : Name) (ps : List ProductMeaning) 
     sorted_by product_lt (filter has_path ps ++ walk edition (last_waiting ps) (with_extra (offers folder (is_path_of ps) es) x)) ≡ found edition folder ps es x
 walk-found edition folder ps es x up =
     ap (λ (qs : List ProductMeaning). sorted_by product_lt (filter has_path ps ++ qs)) (walk-set edition ps (offers folder (is_path_of ps) es) x (ascending-offers folder (is_path_of ps) es up))
+
+-- and so do the names that were answered
+same-names : (ans : Answers) (folder : Name) (ns : List Name) →
+    map (λ (e : Named). e.name) (map (named_in ans folder) ns) ≡ ns
+same-names ans folder [] = refl
+same-names ans folder (n ∷ ns) = ap (λ (ts : List Name). n ∷ ts) (same-names ans folder ns)
+
+pub ascend-named : (ans : Answers) (folder : Name) (ns : List Name) → Sorted ns →
+    NamesAscend (map (named_in ans folder) ns)
+ascend-named ans folder ns h =
+    subst (λ (ts : List Name). Sorted ts) (sym (same-names ans folder ns)) h
+
+pub none-ascend : NamesAscend []
+unfolding IsStrictlySortedBy
+none-ascend = tt

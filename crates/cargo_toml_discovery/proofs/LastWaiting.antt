@@ -9,9 +9,6 @@ use Rattle.cargo_toml_discovery.specs.Found.{waits_for, waits_or, last_waiting}
 use Rattle.cargo_toml_discovery.specs.Names.{Name}
 use Rattle.cargo_toml_tables.specs.Products.{ProductMeaning, product_meaning}
 
-or-none : (w : Option ProductMeaning) → option_or None w ≡ w
-or-none w = refl
-
 waits-last : (b : Bool) (p : ProductMeaning) (w : Option ProductMeaning) → cond b (Some p) w ≡ option_or (cond b (Some p) None) w
 waits-last true p w = refl
 waits-last false p w = refl

@@ -23,9 +23,6 @@ cond_or false b = refl
 pub inserted : (bs : Name) (s n : BTreeSet (Bor Name)) → sorted.UpdatesBy (λ x y. slice_cmp nat_cmp x.now y.now) (λ k. slice_cmp nat_cmp bs k.now) s n true → (t : Name) → is_path_in n t ≡ (is_path_in s t || bytes_eq bs t)
 inserted bs s n h t = h.0 (record { ref_ptr = (0, 0); now = t }) ∙ ap (λ b. cond b true (is_path_in s t)) (is_eq-slice_cmp bs t) ∙ cond_or (bytes_eq bs t) (is_path_in s t) ∙ or_comm (bytes_eq bs t) (is_path_in s t)
 
-pub none-more : (s : BTreeSet (Bor Name)) (t : Name) → is_path_in s t ≡ (is_path_in s t || false)
-none-more s t = sym (or-false (is_path_in s t))
-
 pub has_this : (path : Option (String Global)) (s : String Global) (bs t : Name) (b : Bool) → path ≡ Some s → bs ≡ string_bytes s → (b || bytes_eq bs t) ≡ (b || is_text t (option_map string_bytes path))
 has_this path s bs t b is same = rw (is, same)
 

@@ -1,9 +1,12 @@
 -- A stable sort has one result.
 use Rattle.std.proofs.Common.{◌≡◌, ℕ, ◌<◌, Bool, true, false, cond, not, ◌&&◌, List, [], ◌∷◌, length, get_or, refl, ap, sym, ◌∙◌, arith, filter, suc, zero, add-one, map}
-use Rattle.std.specs.Cmp.{IsStrictWeakOrder}
+use Rattle.std.specs.Cmp.{IsStrictWeakOrder, on_total, then_total}
+use Rattle.std.specs.Cmp.Lexicographic.{nat_list_cmp_total, options_total}
 use Rattle.std.specs.List.Sorted.{IsSortedBy, IsStableBy, ties}
+use Rattle.std.proofs.lemmas.List.MinMax.{ranks_by}
 use Rattle.std.proofs.lemmas.List.Sorted.{sorted_far}
-use Rattle.cargo_toml_discovery.specs.Sorting.{insert_by, sorted_by}
+use Rattle.cargo_toml_discovery.specs.Sorting.{insert_by, product_lt, sorted_by}
+use Rattle.cargo_toml_tables.specs.Products.{ProductMeaning}
 
 module _ {X : Type 0} (lt : X → X → Bool) (o : IsStrictWeakOrder lt) where
   -- x is greater than none of them
@@ -144,3 +147,8 @@ map-insert {X} {Y} m lt x (y ∷ ys) = elim (lt (m y) (m x)) as (λ b. map m (co
 pub map-sorted_by : {X Y : Type 0} (m : X → Y) (lt : Y → Y → Bool) (xs : List X) → map m (sorted_by (λ a b. lt (m a) (m b)) xs) ≡ sorted_by lt (map m xs)
 map-sorted_by m lt [] = refl
 map-sorted_by m lt (x ∷ xs) = map-insert m lt x (sorted_by (λ a b. lt (m a) (m b)) xs) ∙ ap (λ us. insert_by lt (m x) us) (map-sorted_by m lt xs)
+
+-- products are ordered
+pub products_rank : {X : Type 0} (see : X → ProductMeaning) → IsStrictWeakOrder (λ a b. product_lt (see a) (see b))
+products_rank see =
+    ranks_by (then_total (on_total (λ (p : ProductMeaning). p.name) (options_total nat_list_cmp_total)) (on_total (λ (p : ProductMeaning). p.path) (options_total nat_list_cmp_total))) see

@@ -19,9 +19,6 @@ stripped-enough (suc n) (suc m) t h k =
     let s = without_ending-length t in
     ap (λ (u : Name). cond (is_source t) u t) (stripped-enough n m (without_ending t) (omega arith) (omega arith))
 
-stripped-one : (n : ℕ) (t : Name) → is_source t ≡ true → stripped (suc n) t ≡ stripped n (without_ending t)
-stripped-one n t h = rw h refl
-
 pub source-shorter : (t : Name) → is_source t ≡ true → length (without_ending t) < length t
 source-shorter [] h = cc
 source-shorter (x ∷ t) h = let s = without_ending-length (x ∷ t) in omega arith

@@ -11,5 +11,4 @@ pub mod Discovering
 pub mod Disk
 -- how the code gathers names and finds products, in contracts of inner functions alone: nothing
 -- here has to be believed
-pub mod Gathering
 pub mod Walk

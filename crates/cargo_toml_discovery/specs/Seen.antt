@@ -1,11 +1,10 @@
 -- What is seen of a tree of folders: a value, one of some faults, or nothing where an open
 -- path is asked for.
 use Rattle.std.specs.Prelude.{◌≡◌, Bool, true, false, List, [], ◌∷◌}
-use Rattle.std.specs.Prelude.{◌++◌, ◌⊎◌, map, Option, if◌then◌else◌}
+use Rattle.std.specs.Prelude.{◌++◌, ◌⊎◌, if◌then◌else◌}
 use Rattle.std.specs.declared.io.ErrorKind.{ErrorKind}
 use Rattle.std.specs.declared.io.ErrorKind.TheVariants.{NotFound}
 use Rattle.cargo_toml_parts.specs.FaultValues.{Fault, fault_of, io}
-use Rattle.cargo_toml_parts.specs.Wrapping.{wrap}
 use Rattle.cargo_toml_parts.specs.declared.error.Error.{Error, Memory}
 use Rattle.cargo_toml_discovery.specs.Names.{Name, ordered}
 use Rattle.cargo_toml_discovery.specs.Told.{Told, names, absent, denied, open_path}
@@ -71,9 +70,3 @@ MayTell unclear f = Unit {0}
 -- the refusal: `Memory`, or a fault that may be reported
 abbrev pub Tells : {A : Type 0} → Seen A → Error → Type 0
 Tells s e = (e ≡ Memory) ⊎ MayTell s (fault_of e)
-
--- the faults, reported with this path
-abbrev pub at_path : {A : Type 0} → Option Name → Seen A → Seen A
-at_path p (seen x) = seen x
-at_path p (faulty fs) = faulty (map (wrap p) fs)
-at_path p unclear = unclear

@@ -1,6 +1,6 @@
 //! What discovery makes of what a manifest states.
-ghost use Rattle.std.specs.Prelude.{◌≡◌, [], List, Option, None, IfOk, IsTrue, map, codes, is_some};
-ghost use Rattle.std.specs.Option.{option_map, option_copied};
+ghost use Rattle.std.specs.Prelude.{◌≡◌, [], Option, None, IfOk, codes};
+ghost use Rattle.std.specs.Option.{option_map};
 ghost use Rattle.cargo_toml_discovery.specs.Answers.{answers_of, around_in, entries_if, names_kept};
 ghost use Rattle.cargo_toml_discovery.specs.Discovering.{at_library, build_in, discovered};
 ghost use Rattle.cargo_toml_discovery.specs.Discovering.{discovered_meaning, filled_library};
@@ -16,7 +16,8 @@ ghost use Rattle.cargo_toml_tables.specs.Products.{product_meaning};
 use crate::found::{Offer, StatedList, found};
 use crate::listings::{Listings, Wanted};
 use crate::names::underscored;
-use crate::products::{copied, copies, is_path_of, plain, sort_products};
+use crate::products::{copied, copies, is_path_of, sort_products};
+use cargo_toml_parts::duplicate::Duplicate;
 use cargo_toml_tables::{Edition, OptionalFile, Product};
 use std::alloc::{AllocError, Global};
 
@@ -98,7 +99,7 @@ fn found_library(
         }
         None => {
             if is_there && autolib {
-                Ok(Some(at_library(alloc, plain(alloc))?))
+                Ok(Some(at_library(alloc, Product::default(alloc))?))
             } else {
                 Ok(None)
             }
@@ -193,16 +194,6 @@ pub fn list_of(
     Ok(list)
 }
 
-// A copy of a setting of a file.
-fn copied_file(alloc: Global, file: &OptionalFile) -> Result<OptionalFile, AllocError>
-    ensures { IfOk result (λ copy. file_meaning copy ≡ file_meaning file.now) }
-{
-    match file {
-        OptionalFile::Flag(is_on) => Ok(OptionalFile::Flag(*is_on)),
-        OptionalFile::Path(path) => Ok(OptionalFile::Path(String::from_str(alloc, path.as_str())?)),
-    }
-}
-
 /// The build script: the path `build.rs` where none is stated or just that there is one, and
 /// that file stands beside the manifest; otherwise what is stated. It is refused only where
 /// there was no memory.
@@ -220,7 +211,7 @@ pub fn build(
         }
     }
     match stated {
-        Some(file) => Ok(Some(copied_file(alloc, file)?)),
+        Some(file) => Ok(Some(file.duplicate(alloc)?)),
         None => Ok(None),
     }
 }
@@ -237,7 +228,7 @@ pub fn readme(
         (λ r. file_meaning r ≡ readme_in (names_kept listings.now []) (file_meaning stated.now)) }
 {
     let OptionalFile::Flag(true) = stated else {
-        return copied_file(alloc, stated);
+        return stated.duplicate(alloc);
     };
     let name = if listings.has("", "README.md") {
         "README.md"

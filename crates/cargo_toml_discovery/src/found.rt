@@ -1,9 +1,6 @@
 //! Products that are found in a folder.
-ghost use Rattle.std.specs.Prelude.{◌≡◌, ◌++◌, ◌∷◌, ◌||◌, List, map, filter};
-ghost use Rattle.std.specs.Prelude.{Option, OnOk, IfOk, IsTrue, string_bytes};
+ghost use Rattle.std.specs.Prelude.{◌≡◌, ◌++◌, ◌∷◌, ◌||◌, List, filter, Option, OnOk, IfOk};
 ghost use Rattle.std.specs.List.{cons_option};
-ghost use Rattle.std.specs.Option.{option_map, option_copied};
-ghost use Rattle.std.specs.Str.{bytes_eq};
 ghost use Rattle.cargo_toml_discovery.specs.Discovering.{meanings, product_lent};
 ghost use Rattle.cargo_toml_discovery.specs.Found.{offer_of, Offered, has_path, is_path_of};
 ghost use Rattle.cargo_toml_discovery.specs.Found.{is_text, last_waiting, waits_or};
@@ -12,11 +9,11 @@ ghost use Rattle.cargo_toml_discovery.specs.Names.{Name};
 ghost use Rattle.cargo_toml_discovery.specs.Walk.{named_of, all_named, offer_parts};
 ghost use Rattle.cargo_toml_discovery.specs.Walk.{parts_of_code, waiting_in, is_path_in};
 ghost use Rattle.cargo_toml_discovery.specs.Walk.{walked, IsOffer, NamesAscend};
-ghost use Rattle.cargo_toml_tables.specs.Products.{ProductMeaning, product_meaning};
+ghost use Rattle.cargo_toml_tables.specs.Products.{product_meaning};
 
 use crate::listings::Entry;
 use crate::names::{in_folder, is_source, stem};
-use crate::products::{copied, plain, sort_products};
+use crate::products::{copied, sort_products};
 use cargo_toml_tables::{Edition, Product};
 use std::alloc::{AllocError, Global};
 use std::collections::{BTreeMap, BTreeSet};
@@ -147,7 +144,7 @@ fn product_for(
             Ok(placed)
         }
         None => {
-            let mut product = plain(alloc);
+            let mut product = Product::default(alloc);
             product.name = Some(offer.name);
             product.path = Some(offer.path);
             product.edition = Some(edition);

@@ -2,14 +2,12 @@
 //! its folders, and which build script and readme.
 //!
 //! The names in the folders stand in `Listings`, what a manifest states in `Stated`, and `discover`
-//! makes `Discovered` of both. `gather` asks for the names, each folder once.
+//! makes `Discovered` of both.
 #![tactic(auto)]
 
 pub mod discovery;
 pub mod disk;
-pub mod folders;
 pub mod found;
-pub mod gather;
 mod laws;
 pub mod listings;
 mod names;

@@ -1,9 +1,9 @@
-//! Copies of products, new ones, and their order.
-ghost use Rattle.std.specs.Prelude.{◌≡◌, IfOk, OnOk, Some, map, string_bytes};
+//! Copies of products, and their order.
+ghost use Rattle.std.specs.Prelude.{◌≡◌, IfOk, OnOk};
 ghost use Rattle.cargo_toml_discovery.specs.Discovering.{meanings};
 ghost use Rattle.cargo_toml_discovery.specs.Found.{is_path_of};
 ghost use Rattle.cargo_toml_discovery.specs.Sorting.{in_order, product_cmp};
-ghost use Rattle.cargo_toml_tables.specs.Products.{no_product, product_meaning};
+ghost use Rattle.cargo_toml_tables.specs.Products.{product_meaning};
 
 use cargo_toml_tables::Product;
 use std::alloc::{AllocError, Global};
@@ -26,13 +26,6 @@ pub fn sort_products(products: &mut Vec<Product>) -> Result<(), AllocError>
         ≡ in_order (meanings products.old.items)) }
 {
     products.sort_by(|a, b| compare(a, b))
-}
-
-/// A product without any key. It takes no memory.
-pub fn plain(alloc: Global) -> Product
-    ensures { product_meaning result ≡ no_product }
-{
-    Product::default(alloc)
 }
 
 /// A copy of a product, which holds the same.

@@ -13,7 +13,7 @@ use Rattle.cargo_toml_parts.specs.Wrapping.{wrap}
 use Rattle.cargo_toml_discovery.proofs.Faults.{fault_of-io, from_input, has_memory}
 use Rattle.cargo_toml_manifest.specs.RealFiles.{IsNoWorkspace, IsRootFault, expected_workspace}
 use Rattle.cargo_toml_manifest.specs.Roots.{IsFromSlice}
-use Rattle.cargo_toml_manifest.proofs.Rooted.{memory_wrapped}
+use Rattle.cargo_toml_manifest.proofs.Rooted.{IsWrapped, stays_memory}
 
 -- that nothing was found
 pub nothing_found : (f : IoError) → error_kind f ≡ NotFound → IsRootFault (fault_of (Io f))
@@ -24,10 +24,9 @@ pub unread : (f : IoError) (e : Error) → IsFromIo f e → (e ≡ Memory) ⊎ I
 unread f e from = elim (from_input f e from) [ inl memory ↦ inl memory | inr input ↦ inr (inl input) ]
 
 -- the same, with the path of the file
-pub unread_at : (file : List ℕ) (f : IoError) (own e : Error) → IsFromIo f own → (e ≡ Memory) ⊎ (fault_of e ≡ wrap (Some file) (fault_of own)) →
-    (e ≡ Memory) ⊎ IsRootFault (fault_of e)
-unread_at file f own e from (inl memory) = inl memory
-unread_at file f own e (inl h) (inr same) = inl (memory_wrapped (Some file) own e h.1 same)
+pub unread_at : (file : List ℕ) (f : IoError) (own e : Error) → IsFromIo f own → IsWrapped (Some file) own e → (e ≡ Memory) ⊎ IsRootFault (fault_of e)
+unread_at file f own e (inl h) wrapped = inl (stays_memory (Some file) own e h.1 wrapped)
+unread_at file f own e (inr h) (inl memory) = inl memory
 unread_at file f own e (inr h) (inr same) =
     inr (inr (inl (file, (error_kind f, (h.0, same ∙ ap (wrap (Some file)) (ap fault_of h.1 ∙ fault_of-io f))))))
 

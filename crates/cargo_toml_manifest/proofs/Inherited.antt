@@ -1,6 +1,8 @@
 -- What is inherited, step by step, until a fault.
-use Rattle.std.proofs.Common.{◌≡◌, ℕ, List, Option, Ok, refl}
-use Rattle.cargo_toml_parts.specs.declared.error.Error.{Error}
+use Rattle.std.proofs.Common.{◌≡◌, ◌⊎◌, inl, inr, refl, Result, Ok, Err, ℕ, List, Option}
+use Rattle.cargo_toml_parts.specs.Answers.{◌>>=◌}
+use Rattle.cargo_toml_parts.specs.FaultValues.{Fault, fault_of}
+use Rattle.cargo_toml_parts.specs.declared.error.Error.{Error, Memory}
 use Rattle.cargo_toml_parts.specs.declared.inheritable.Inheritable.{Inheritable}
 use Rattle.cargo_toml_dependencies.specs.Inheriting.{Entries, inherited_entries, inherited_target, inherited_targets}
 use Rattle.cargo_toml_dependencies.specs.Targets.{TargetMeaning}
@@ -9,14 +11,27 @@ use Rattle.cargo_toml_package.specs.Templates.{TemplateMeaning}
 use Rattle.cargo_toml_package.specs.Sharing.{LintsByTool, inherited_lints}
 use Rattle.cargo_toml_manifest.specs.Inheriting.{inherited_from, inherited_if_there, own_tables}
 use Rattle.cargo_toml_manifest.specs.Manifests.{ManifestMeaning}
-use Rattle.cargo_toml_manifest.proofs.Steps.{Refuses, later, stops, then}
+
+-- what is known of a refusal
+abbrev pub Refuses : {A : Type 0} → Result A Fault → Error → Type 0
+Refuses stated e = (e ≡ Memory) ⊎ (stated ≡ Err (fault_of e))
+
+-- the step is refused
+pub stops : {A B : Type 0} (step : Result A Fault) (next : A → Result B Fault) (e : Error) → Refuses step e → Refuses (◌>>=◌ step next) e
+stops step next e (inl memory) = inl memory
+stops step next e (inr h) = inr (rw h refl)
+
+-- the step gives this, and what follows is refused
+pub later : {A B : Type 0} (step : Result A Fault) (x : A) (next : A → Result B Fault) (e : Error) → step ≡ Ok x → Refuses (next x) e → Refuses (◌>>=◌ step next) e
+later step x next e h (inl memory) = inl memory
+later step x next e h (inr k) = inr (rw h k)
+
+-- the step gives this, and what follows gives that
+pub then : {A B : Type 0} (step : Result A Fault) (x : A) (next : A → Result B Fault) (y : B) → step ≡ Ok x → next x ≡ Ok y → (◌>>=◌ step next) ≡ Ok y
+then step x next y h k = rw h k
 
 -- the tables
 module _ (templates : Option Entries) (base : List ℕ) (t : TargetMeaning) where
-  pub stops_at_dependencies : (e : Error) → Refuses (inherited_entries templates base t.dependencies) e →
-      Refuses (inherited_target templates base t) e
-  stops_at_dependencies e h = stops _ _ e h
-
   pub stops_at_build : (ds : Entries) (e : Error) → inherited_entries templates base t.dependencies ≡ Ok ds →
       Refuses (inherited_entries templates base t.build_dependencies) e → Refuses (inherited_target templates base t) e
   stops_at_build ds e d h = later _ ds _ e d (stops _ _ e h)
@@ -26,22 +41,9 @@ module _ (templates : Option Entries) (base : List ℕ) (t : TargetMeaning) wher
       Refuses (inherited_entries templates base t.dev_dependencies) e → Refuses (inherited_target templates base t) e
   stops_at_dev ds bs e d b h = later _ ds _ e d (later _ bs _ e b (stops _ _ e h))
 
-  pub tables_given : (ds bs vs : Entries) → inherited_entries templates base t.dependencies ≡ Ok ds →
-      inherited_entries templates base t.build_dependencies ≡ Ok bs → inherited_entries templates base t.dev_dependencies ≡ Ok vs →
-      inherited_target templates base t ≡ Ok (record { dependencies = ds; dev_dependencies = vs; build_dependencies = bs })
-  tables_given ds bs vs d b v = then _ ds _ _ d (then _ bs _ _ b (then _ vs _ _ v refl))
-
 -- the whole
 module _ {M : Type 0} (templates : Option Entries) (groups : Option LintsByTool) (template : Option TemplateMeaning)
     (base : List ℕ) (m : ManifestMeaning M) where
-  pub stops_at_tables : (e : Error) → Refuses (inherited_target templates base (own_tables m)) e →
-      Refuses (inherited_from templates groups template base m) e
-  stops_at_tables e h = stops _ _ e h
-
-  pub stops_at_targets : (t : TargetMeaning) (e : Error) → inherited_target templates base (own_tables m) ≡ Ok t →
-      Refuses (inherited_targets templates base m.target) e → Refuses (inherited_from templates groups template base m) e
-  stops_at_targets t e a h = later _ t _ e a (stops _ _ e h)
-
   pub stops_at_lints : (t : TargetMeaning) (ts : List (List ℕ × TargetMeaning)) (e : Error) →
       inherited_target templates base (own_tables m) ≡ Ok t → inherited_targets templates base m.target ≡ Ok ts →
       Refuses (inherited_lints groups m.lints) e → Refuses (inherited_from templates groups template base m) e

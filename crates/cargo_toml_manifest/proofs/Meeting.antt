@@ -1,24 +1,18 @@
 -- Which outcome an answer meets.
-use Rattle.std.proofs.Common.{◌≡◌, ◌⊎◌, inl, inr, sym, ap, ◌∙◌, refl, subst, ℕ, List, Bool, true, false, map, Option, Some, None, Result, Ok, Err, [], String, string_bytes}
+use Rattle.std.proofs.Common.{◌≡◌, inl, inr, sym, ap, ◌∙◌, refl, ℕ, List, Bool, true, false, Option, Some, None, Ok, Err, [], String, string_bytes}
 use Rattle.std.specs.Prelude.{is_some, option_map}
 use Rattle.std.specs.declared.alloc.Global.{Global}
 use Rattle.toml.specs.Data.{Data}
 use Rattle.toml.specs.View.{view}
 use Rattle.toml.specs.declared.value.Value.{Value}
-use Rattle.cargo_toml_parts.specs.declared.error.Error.{Error, Memory}
-use Rattle.cargo_toml_parts.specs.FaultValues.{Fault, fault_of}
-use Rattle.cargo_toml_parts.specs.Wrapping.{wrap}
-use Rattle.cargo_toml_discovery.specs.Answers.{Answers, filled}
+use Rattle.cargo_toml_parts.specs.declared.error.Error.{Error}
 use Rattle.cargo_toml_discovery.specs.Names.{Name}
-use Rattle.cargo_toml_discovery.specs.Seen.{IsOneOf, Seen, Tells, seen, faulty, unclear}
 use Rattle.cargo_toml_discovery.specs.Told.{Told}
-use Rattle.cargo_toml_discovery.proofs.Extends.{tell-at}
 use Rattle.cargo_toml_package.specs.Sharing.{shared_of, Shared, shared}
 use Rattle.cargo_toml_manifest.specs.Choosing.{AnswersHint, Choice, Handed, MayFind, RootsTold, choice, from, hint_of, own_choice, told_choice}
 use Rattle.cargo_toml_manifest.specs.Completed.{IsCompleted}
-use Rattle.cargo_toml_manifest.specs.Completing.{GivenBy, Meets, Outcome, complete_by, gives, no_workspace, refuses, seen_at, then_found, untold}
+use Rattle.cargo_toml_manifest.specs.Completing.{Meets, Outcome, gives, no_workspace, refuses, untold}
 use Rattle.cargo_toml_manifest.specs.Finding.{with_found}
-use Rattle.cargo_toml_manifest.specs.Inheriting.{needs}
 use Rattle.cargo_toml_manifest.specs.Installing.{installed, with_completion}
 use Rattle.cargo_toml_manifest.specs.Manifests.{ManifestMeaning, held, manifest_meaning}
 use Rattle.cargo_toml_manifest.specs.Told.{ToldRoot, root, no_root, open_root, AnswersRoot}
@@ -26,41 +20,6 @@ use Rattle.cargo_toml_package.specs.Workspaces.{WorkspaceMeaning, workspace_mean
 use Rattle.cargo_toml_manifest.specs.declared.finding.Completion.{Completion}
 use Rattle.cargo_toml_manifest.specs.declared.manifest.Manifest.{Manifest}
 use Rattle.cargo_toml_package.specs.declared.workspace.Workspace.{Workspace}
-use Rattle.cargo_toml_manifest.proofs.Rooted.{memory_wrapped}
-
--- `Memory` meets each
-pub meets_memory : {T A : Type 0} (f : T → A) (o : Outcome A) (e : Error) → e ≡ Memory → Meets f o (Err e)
-meets_memory f (gives x) e h = h
-meets_memory f (refuses faults) e h = inl h
-meets_memory f (no_workspace path) e h = inl h
-meets_memory f untold e h = tt
-
--- a fault of inheritance, once it has its path
-pub refused_parts : {T M : Type 0} (f : T → ManifestMeaning M) (path : Option (List ℕ)) (told : Name → Told) (stated : Result (ManifestMeaning M) Fault) (own e : Error) →
-    (own ≡ Memory) ⊎ (stated ≡ Err (fault_of own)) → (e ≡ Memory) ⊎ (fault_of e ≡ wrap path (fault_of own)) →
-    Meets f (then_found path told stated) (Err e)
-refused_parts f path told stated own e h (inl memory) = meets_memory f (then_found path told stated) e memory
-refused_parts f path told stated own e (inl memory) (inr same) =
-    meets_memory f (then_found path told stated) e (memory_wrapped path own e memory same)
-refused_parts {M = M} f path told stated own e (inr is) (inr same) =
-    subst (λ (r : Result (ManifestMeaning M) Fault). Meets f (then_found path told r) (Err e)) (sym is) (inr (inl same))
-
--- a fault of what is found, once it has its path
-pub refused_found : {T A : Type 0} (f : T → A) (path : Option (List ℕ)) (s : Seen A) (own e : Error) →
-    Tells s own → (e ≡ Memory) ⊎ (fault_of e ≡ wrap path (fault_of own)) → Meets f (seen_at path s) (Err e)
-refused_found f path s own e h (inl memory) = meets_memory f (seen_at path s) e memory
-refused_found f path s own e (inl memory) (inr same) = meets_memory f (seen_at path s) e (memory_wrapped path own e memory same)
-refused_found f path (seen x) own e (inr h) (inr same) = absurd h
-refused_found {A = A} f path (faulty faults) own e (inr h) (inr same) =
-    let all : Seen A = faulty faults in
-    inr (subst (λ (fault : Fault). IsOneOf fault (map (wrap path) faults)) (sym same) (tell-at path all (fault_of own) h))
-refused_found f path unclear own e (inr h) (inr same) = tt
-
--- a value that was found
-pub met_found : {T A : Type 0} (f : T → A) (path : Option (List ℕ)) (s : Seen A) (t : T) →
-    (s ≡ unclear) ⊎ (s ≡ seen (f t)) → Meets f (seen_at path s) (Ok t)
-met_found {A = A} f path s t (inl h) = subst (λ (s : Seen A). Meets f (seen_at path s) (Ok t)) (sym h) tt
-met_found {A = A} f path s t (inr h) = subst (λ (s : Seen A). Meets f (seen_at path s) (Ok t)) (sym h) refl
 
 -- what a root shares is what its workspace does
 sharing : {X M : Type 0} (f : X → M) (workspace : Option (Workspace X)) → option_map shared (option_map (workspace_meaning f) workspace) ≡ shared_of workspace
@@ -79,32 +38,6 @@ found_choice x = ap (λ (s : Option Shared). from (Some (s, string_bytes x.1))) 
 pub as_told : (m : ManifestMeaning _) (path : List ℕ) (x : Found) → (manifest_meaning view x.0 ≡ m) × (string_bytes x.1 ≡ path) → root m path ≡ root (manifest_meaning view x.0) (string_bytes x.1)
 as_told m path x h = sym (ap (λ (n : ManifestMeaning _). root n (string_bytes x.1)) h.0 ∙ ap (λ (p : List ℕ). root m p) h.1)
 
--- completion by a root that was found
-pub root_found : {T M : Type 0} (f : T → ManifestMeaning M) (m : ManifestMeaning M) (root_told : ToldRoot) (told : Name → Told) (x : Found) (r : Result T Error) →
-    AnswersRoot root_told (Ok x) → Meets f (complete_by m (found_at x) told) r →
-    Meets f (complete_by m (told_choice root_told) told) r
-root_found f m (root n path) told x r a h =
-    subst (λ (c : Choice). Meets f (complete_by m c told) r) (sym (ap told_choice (as_told n path x a) ∙ found_choice x)) h
-root_found f m no_root told x r a h = cc
-root_found f m open_root told x r a h = tt
-
--- the refusal where none was
-pub root_refused : {T M : Type 0} (f : T → ManifestMeaning M) (m : ManifestMeaning M) (root_told : ToldRoot) (told : Name → Told) (own e : Error) →
-    AnswersRoot root_told (Err own) → (e ≡ Memory) ⊎ (fault_of e ≡ wrap (hint_of m) (fault_of own)) →
-    Meets f (complete_by m (told_choice root_told) told) (Err e)
-root_refused f m root_told told own e a (inl memory) = meets_memory f (complete_by m (told_choice root_told) told) e memory
-root_refused f m (root n path) told own e a (inr same) =
-    meets_memory f (complete_by m (told_choice (root n path)) told) e (memory_wrapped (hint_of m) own e a same)
-root_refused f m no_root told own e a (inr same) = inr (fault_of own, same)
-root_refused f m open_root told own e a (inr same) = tt
-
--- this choice gives the value by some answers for folders
-abbrev pub GivenFrom : {M : Type 0} → ManifestMeaning M → Choice → (Name → Told) → ManifestMeaning M → Type 0
-GivenFrom m c told n = (answers : Answers) × (complete_by m c (filled told answers) ≡ gives n)
-
-pub chosen : {M : Type 0} (m n : ManifestMeaning M) (told : Name → Told) (c d : Choice) → c ≡ d → GivenFrom m d told n → GivenFrom m c told n
-chosen m n told c d same h = subst (λ (x : Choice). GivenFrom m x told n) (sym same) h
-
 -- the answer that a root is
 pub found_answer : (found : ManifestMeaning Data → List ℕ → Type 0) (root_told : ToldRoot) (x : Found) → AnswersRoot root_told (Ok x) →
     found (manifest_meaning view x.0) (string_bytes x.1) → AnswersHint root_told found (root (manifest_meaning view x.0) (string_bytes x.1))
@@ -116,11 +49,6 @@ found_answer found open_root x a there = inr (refl, there)
 pub hint_alone : {M : Type 0} (m : ManifestMeaning M) (handed : Option Handed) (roots : RootsTold) → choice m handed (λ _. roots (hint_of m)) ≡ choice m handed roots
 hint_alone m (Some handed) roots = refl
 hint_alone m None roots = refl
-
--- by what is told of roots alone
-pub given_as_told : {M : Type 0} (m n : ManifestMeaning M) (handed : Option Handed) (roots : RootsTold) (found : MayFind) (told : Name → Told) →
-    GivenFrom m (choice m handed roots) told n → GivenBy m handed roots found told n
-given_as_told m n handed roots found told h = (roots (hint_of m), inl refl, chosen m n told _ _ (hint_alone m handed roots) h)
 
 -- from where it inherits without a workspace that is handed in
 pub own_by_root : {M : Type 0} (o : Option (WorkspaceMeaning M)) (b : Bool) (t u : ToldRoot) → o ≡ None → b ≡ true → t ≡ u → own_choice (option_map shared o) b t ≡ told_choice u

@@ -1,31 +1,44 @@
--- The root of what was read is the root that is stated.
+-- What becomes of the bytes of a root, of what is stated of it, and of its fault.
 use Rattle.std.proofs.Common.{◌≡◌, ◌⊎◌, inl, inr, sym, ap, ◌∙◌, refl, subst, ℕ, List, Bool, true, false, ◌&&◌, Option, Some, None, Result, Ok, Err, IfOk, String, string_bytes, Vec}
 use Rattle.std.specs.Prelude.{is_some, not, option_map}
 use Rattle.std.specs.declared.alloc.Global.{Global}
+use Rattle.std.specs.declared.io.ErrorKind.TheVariants.{Unsupported}
 use Rattle.toml.specs.Data.{Data}
 use Rattle.toml.specs.Parse.{parse_document}
 use Rattle.toml.specs.View.{view}
 use Rattle.toml.specs.declared.value.Value.{Value}
 use Rattle.cargo_toml_parts.specs.declared.error.Error.{Error, Memory}
-use Rattle.cargo_toml_parts.specs.FaultValues.{fault_of}
+use Rattle.cargo_toml_parts.specs.FaultValues.{Fault, fault_of, io, workspace_integrity}
 use Rattle.cargo_toml_parts.specs.Wrapping.{wrap}
 use Rattle.cargo_toml_manifest.specs.declared.manifest.Manifest.{Manifest}
 use Rattle.cargo_toml_manifest.specs.Manifests.{ManifestMeaning, manifest_meaning, manifest_reads}
-use Rattle.cargo_toml_manifest.specs.Refusing.{MayHold}
-use Rattle.cargo_toml_manifest.specs.Roots.{IsRootAt, IsNoRoot, IsFromSlice}
+use Rattle.cargo_toml_manifest.specs.Refusing.{IsToldWith, MayHold, MayLose, ReadsBy}
+use Rattle.cargo_toml_manifest.specs.Roots.{IsRootAt, IsNoRoot, IsFromSlice, not_a_workspace}
 use Rattle.cargo_toml_manifest.specs.Texts.{any_tree, document_reads}
 use Rattle.cargo_toml_manifest.specs.Told.{ToldRoot, root, no_root, open_root, heard, IsRootIn, ReadsRoot, AnswersRoot}
 use Rattle.cargo_toml_discovery.proofs.Faults.{memory_alone, fault_of-memory}
+use Rattle.cargo_toml_discovery.specs.Folders.{RefusesBy}
 
-abbrev pub Read : Type 0
+abbrev Read : Type 0
 Read = Vec ℕ Global × String Global
 
 abbrev Found : Type 0
 Found = Manifest Value × String Global
 
+-- the error is the other one with this path, or there was no memory for it
+abbrev pub IsWrapped : Option (List ℕ) → Error → Error → Type 0
+IsWrapped path own e = (e ≡ Memory) ⊎ (fault_of e ≡ wrap path (fault_of own))
+
 -- `Memory` stays what it is
-pub memory_wrapped : (path : Option (List ℕ)) (own e : Error) → own ≡ Memory → fault_of e ≡ wrap path (fault_of own) → e ≡ Memory
-memory_wrapped path own e memory h = memory_alone e (h ∙ ap (λ (f : Error). wrap path (fault_of f)) memory ∙ ap (wrap path) fault_of-memory)
+pub stays_memory : (path : Option (List ℕ)) (own e : Error) → own ≡ Memory → IsWrapped path own e → e ≡ Memory
+stays_memory path own e memory (inl h) = h
+stays_memory path own e memory (inr h) = memory_alone e (h ∙ ap (λ (f : Error). wrap path (fault_of f)) memory ∙ ap (wrap path) fault_of-memory)
+
+-- a fault of this kind, once it has its path
+pub told_with : (P : Fault → Type 0) (path : Option (List ℕ)) (own e : Error) → (own ≡ Memory) ⊎ P (fault_of own) → IsWrapped path own e → (e ≡ Memory) ⊎ IsToldWith path P e
+told_with P path own e (inl memory) wrapped = inl (stays_memory path own e memory wrapped)
+told_with P path own e (inr h) (inl memory) = inl memory
+told_with P path own e (inr h) (inr same) = inr (fault_of own, (h, same))
 
 same : {A : Type 0} (o : Option A) (x y : A) → o ≡ Some x → o ≡ Some y → x ≡ y
 same o x y h k = cc
@@ -45,7 +58,7 @@ read_as_told bytes m x told (inr h) = same (reads bytes) (manifest_meaning view 
 -- and they have no fault
 no_fault : (bytes path : List ℕ) (m : ManifestMeaning Data) (e : Error) → IsRootIn bytes m → IsNoRoot bytes path e → e ≡ Memory
 no_fault bytes path m e told (inl (own, inl h, same)) = absurd (h.0 told.0)
-no_fault bytes path m e told (inl (own, inr (text, inl memory), same)) = memory_wrapped (Some path) own e memory same
+no_fault bytes path m e told (inl (own, inr (text, inl memory), same)) = stays_memory (Some path) own e memory (inr same)
 no_fault bytes path m e told (inl (own, inr (text, inr h), same)) = let k : None ≡ Some m = sym h.0 ∙ told.1 in cc
 no_fault bytes path m e told (inr (x, read, none, same)) =
     let is = read_as_told bytes m x told read in
@@ -85,9 +98,48 @@ heard_found false false told answer both h = h
 heard_found false true told answer both h = cc
 
 -- the answer where none were
-pub unread_as_told : (told : ToldRoot) (hint : Option (List ℕ)) (own e : Error) → ReadsRoot told (Err own) →
-    (e ≡ Memory) ⊎ (fault_of e ≡ wrap hint (fault_of own)) → AnswersRoot told (Err e)
+pub unread_as_told : (told : ToldRoot) (hint : Option (List ℕ)) (own e : Error) → ReadsRoot told (Err own) → IsWrapped hint own e → AnswersRoot told (Err e)
 unread_as_told open_root hint own e h k = tt
 unread_as_told no_root hint own e h k = refl
-unread_as_told (root m path) hint own e h (inl memory) = memory
-unread_as_told (root m path) hint own e h (inr same) = memory_wrapped hint own e h same
+unread_as_told (root m path) hint own e h k = stays_memory hint own e h k
+
+-- the fault of bytes that hold no root: their own
+pub faulty_bytes : (bytes path : List ℕ) (own e : Error) → (own ≡ Memory) ⊎ IsFromSlice bytes (Err own) → IsWrapped (Some path) own e → IsRootAt bytes path (Err e)
+faulty_bytes bytes path own e (inl memory) wrapped = inl (stays_memory (Some path) own e memory wrapped)
+faulty_bytes bytes path own e (inr h) (inl memory) = inl memory
+faulty_bytes bytes path own e (inr h) (inr same) = inr (inl (own, h, same))
+
+-- or that there is no workspace table
+pub no_workspace_table : (bytes path : List ℕ) (m : Manifest Value) (own e : Error) → IsFromSlice bytes (Ok m) →
+    is_some m.workspace ≡ false → fault_of own ≡ workspace_integrity not_a_workspace → IsWrapped (Some path) own e → IsRootAt bytes path (Err e)
+no_workspace_table bytes path m own e h none text (inl memory) = inl memory
+no_workspace_table bytes path m own e h none text (inr same) = inr (inr (m, h, none, same ∙ ap (wrap (Some path)) text))
+
+-- a fault that may stand in place of a root may, wherever roots are found
+lost_so : (finds : Bool) (may : Option (List ℕ) → Fault → Type 0) (hint : Option (List ℕ)) (fault : Fault) → may hint fault → MayLose finds may hint fault
+lost_so true may hint fault h = h
+lost_so false may hint fault h = inl h
+
+-- and where none is ever read, nor found, one that says so
+never_found : (reads finds : Bool) (may : Option (List ℕ) → Fault → Type 0) (hint : Option (List ℕ)) (fault : Fault) → finds && not reads ≡ false → reads ≡ false →
+    fault ≡ wrap hint (io Unsupported) → MayLose finds may hint fault
+never_found reads true may hint fault both none same = let k : true ≡ false = sym (ap not none) ∙ both in cc
+never_found reads false may hint fault both none same = inr same
+
+-- what becomes of bytes that were read may stand in place of the root, where it is a fault
+pub lost_at : (reads finds : Bool) (may : Option (List ℕ) → Fault → Type 0) (hint : Option (List ℕ)) (r : Read) (found : Result Found Error) →
+    ReadsBy reads may hint (Ok r) → IsRootAt r.0.items (string_bytes r.1) found → RefusesBy (MayLose finds may hint) found
+lost_at reads finds may hint r (Ok x) h k = tt
+lost_at reads finds may hint r (Err e) h (inl memory) = inl memory
+lost_at reads finds may hint r (Err e) h (inr none) =
+    elim (h e none) [ inl memory ↦ inl memory | inr fault ↦ inr (lost_so finds may hint (fault_of e) fault) ]
+
+-- and so may the fault in their place, once it has the hint
+pub lost_unread : (reads finds : Bool) (may : Option (List ℕ) → Fault → Type 0) (hint : Option (List ℕ)) (own e : Error) → finds && not reads ≡ false →
+    ReadsBy reads may hint (Err own) → IsWrapped hint own e → (e ≡ Memory) ⊎ MayLose finds may hint (fault_of e)
+lost_unread reads finds may hint own e both (inl memory) wrapped = inl (stays_memory hint own e memory wrapped)
+lost_unread reads finds may hint own e both (inr h) (inl memory) = inl memory
+lost_unread reads finds may hint own e both (inr (inl fault)) (inr same) =
+    inr (lost_so finds may hint (fault_of e) (subst (λ (f : Fault). may hint f) (sym same) fault))
+lost_unread reads finds may hint own e both (inr (inr unread)) (inr same) =
+    inr (never_found reads finds may hint (fault_of e) both unread.0 (same ∙ ap (wrap hint) unread.1))

@@ -11,5 +11,6 @@ pub mod Completed
 pub mod Refusing
 pub mod RealFiles
 -- the code's own steps, in contracts of inner functions alone: nothing here has to be believed
+pub mod Gathering
 pub mod Installing
 pub mod Answering

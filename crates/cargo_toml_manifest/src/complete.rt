@@ -15,9 +15,9 @@ use crate::afs::{AbstractFilesystem, wrapped};
 use crate::finding::{Completion, find, put_found};
 use crate::inheriting::{install_parts, new_parts};
 use crate::manifest::Manifest;
+use cargo_toml_package::sharing::NewParts;
 use cargo_toml_parts::Error;
 use cargo_toml_parts::paths::workspace_folder;
-use cargo_toml_package::sharing::{NewParts, no_parts};
 use std::alloc::Global;
 
 // What a manifest takes from the workspace of a root at this path.
@@ -99,7 +99,9 @@ fn completion_for<Metadata, N, Fs: AbstractFilesystem>(
         return completion(alloc, manifest, parts, Some(""), fs);
     }
     if !manifest.needs_workspace_inheritance() {
-        return completion(alloc, manifest, Ok(no_parts(alloc)), None, fs);
+        // Where nothing is left to a workspace, nothing is taken from any.
+        let parts = parts_from(alloc, manifest, manifest, "");
+        return completion(alloc, manifest, parts, None, fs);
     }
     let hint = hint_of(manifest);
     match fs.parse_root_workspace(alloc, hint) {

@@ -1,6 +1,6 @@
 //! What is found in the folders around a manifest: first made, then put in, so that a
 //! refusal changes nothing.
-ghost use Rattle.std.specs.Prelude.{◌≡◌, ◌⊎◌, IfOk, IfErr, IsNone, unwrap_or};
+ghost use Rattle.std.specs.Prelude.{◌≡◌, IfOk, IfErr, IsNone, unwrap_or};
 ghost use Rattle.std.specs.Option.{option_copied};
 ghost use Rattle.cargo_toml_parts.specs.InheritableValues.{value_of};
 ghost use Rattle.cargo_toml_tables.specs.Settings.{file_meaning};
@@ -8,41 +8,23 @@ ghost use Rattle.cargo_toml_tables.specs.declared.settings.Edition.TheVariants.{
 ghost use Rattle.cargo_toml_discovery.specs.Answers.{Answers, answers_of, around_in, filled};
 ghost use Rattle.cargo_toml_discovery.specs.Discovering.{discovered, discovered_meaning};
 ghost use Rattle.cargo_toml_discovery.specs.Folders.{IsListed, RefusesBy};
-ghost use Rattle.cargo_toml_discovery.specs.Seen.{Tells, seen, unclear};
+ghost use Rattle.cargo_toml_discovery.specs.Seen.{Tells, seen};
 ghost use Rattle.cargo_toml_package.specs.Packages.{held_package};
 ghost use Rattle.cargo_toml_manifest.specs.Finding.{found_around, stated_by, wanted_by, with_found};
 ghost use Rattle.cargo_toml_manifest.specs.Installing.{installed, taken};
 ghost use Rattle.cargo_toml_manifest.specs.Manifests.{held};
 
 use crate::afs::AbstractFilesystem;
+use crate::gather::gather;
 use crate::manifest::Manifest;
-use cargo_toml_discovery::folders::Folders;
-use cargo_toml_discovery::gather::gather;
 use cargo_toml_discovery::listings::{Listings, Wanted};
 use cargo_toml_discovery::{Discovered, Stated, discover};
 use cargo_toml_package::Package;
 use cargo_toml_package::inheriting::NewFields;
+use cargo_toml_package::sharing::NewParts;
 use cargo_toml_parts::{Error, Inheritable};
 use cargo_toml_tables::{Edition, OptionalFile};
-use cargo_toml_package::sharing::NewParts;
 use std::alloc::{AllocError, Global};
-use std::collections::HashSet;
-
-// The folders that an implementor answers for.
-#[derive(Drop)]
-struct FoldersOf<'a, Fs> {
-    fs: &'a Fs,
-}
-
-impl<Fs: AbstractFilesystem> Folders for FoldersOf<'_, Fs> {
-    ghost names_at = { λ folders path. Fs.names_at folders.fs.now path };
-
-    ghost may_refuse = { λ folders path. Fs.may_refuse folders.fs.now path };
-
-    fn file_names_in(&self, alloc: Global, rel_path: &str) -> Result<HashSet<String>, Error> {
-        self.fs.file_names_in(alloc, rel_path)
-    }
-}
 
 /// What completion puts into a manifest.
 #[derive(Drop)]
@@ -137,9 +119,6 @@ pub fn find<Metadata, Fs: AbstractFilesystem>(
     ensures answered { let m = installed (held manifest.now) parts.now in
         IfOk result (λ found. (answers : Answers)
         × (found_around m (filled (Fs.names_at fs.now) answers) ≡ seen (with_found m found))) }
-    ensures told { let m = installed (held manifest.now) parts.now in
-        IfOk result (λ found. (found_around m (Fs.names_at fs.now) ≡ unclear)
-        ⊎ (found_around m (Fs.names_at fs.now) ≡ seen (with_found m found))) }
     ensures faults { IfErr result (Tells
         (found_around (installed (held manifest.now) parts.now)
         (Fs.names_at fs.now))) }
@@ -149,8 +128,7 @@ pub fn find<Metadata, Fs: AbstractFilesystem>(
     let Some(package) = &manifest.package else {
         return Ok(None);
     };
-    let folders = FoldersOf { fs };
-    let listings = gather(alloc, &folders, wanted(package))?;
+    let listings = gather(alloc, fs, wanted(package))?;
     let found = found_in(alloc, manifest, package, parts.package.as_ref(), &listings)?;
     Ok(Some(found))
 }

@@ -19,8 +19,8 @@ ghost use Rattle.cargo_toml_manifest.specs.Texts.{AnyRefuses, any_tree};
 
 use crate::files::Filesystem;
 use crate::manifest::Manifest;
-use cargo_toml_parts::{Error, FromValue};
 use cargo_toml_parts::paths::parent;
+use cargo_toml_parts::{Error, FromValue};
 use std::alloc::Global;
 use std::fs;
 use std::rt::Files;

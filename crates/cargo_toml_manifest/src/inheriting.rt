@@ -22,10 +22,10 @@ use cargo_toml_dependencies::inheriting::{
     NewTarget, replace, replace_targets, replacements, target_replacements,
 };
 use cargo_toml_package::inheriting::{NewFields, install, new_fields};
+use cargo_toml_package::sharing::{NewParts, new_lints, put_lints};
 use cargo_toml_package::{Package, PackageTemplate, Workspace};
 use cargo_toml_parts::Error;
 use cargo_toml_tables::LintGroups;
-use cargo_toml_package::sharing::{NewParts, new_lints, put_lints};
 use std::alloc::Global;
 
 // What the inherited dependencies of the manifest's own tables become.

@@ -6,6 +6,7 @@ pub mod complete;
 pub mod files;
 pub mod finding;
 pub mod from_path;
+mod gather;
 mod heap;
 pub mod inheriting;
 pub mod lookup;

@@ -1,6 +1,6 @@
 //! What a manifest takes from its workspace, as far as it is no dependency and no field of the
 //! package.
-ghost use Rattle.std.specs.Prelude.{◌≡◌, None, [], option_map};
+ghost use Rattle.std.specs.Prelude.{◌≡◌, option_map};
 ghost use Rattle.std.specs.Option.{option_copied};
 ghost use Rattle.cargo_toml_parts.specs.Answers.{Gives};
 ghost use Rattle.cargo_toml_parts.specs.Inherits.{inheritable_map};
@@ -30,27 +30,6 @@ pub struct NewParts {
 
     /// In place of fields of the package, where there is one.
     pub package: Option<NewFields>,
-}
-
-/// Nothing: a manifest takes it and stays as it is. It takes no memory.
-pub fn no_parts(alloc: Global) -> NewParts
-    ensures tables { result.tables.dependencies.items ≡ []
-        × (result.tables.build_dependencies.items ≡ []
-        × result.tables.dev_dependencies.items ≡ []) }
-    ensures targets { result.targets.items ≡ [] }
-    ensures lints { result.lints ≡ None }
-    ensures fields { result.«package» ≡ None }
-{
-    NewParts {
-        tables: NewTarget {
-            dependencies: Vec::new(alloc),
-            build_dependencies: Vec::new(alloc),
-            dev_dependencies: Vec::new(alloc),
-        },
-        targets: Vec::new(alloc),
-        lints: None,
-        package: None,
-    }
 }
 
 /// What inherited lints become, by those of the workspace where it has a table; `None` where a

@@ -10,7 +10,8 @@ ghost use Rattle.cargo_toml_dependencies.specs.Replacing.{replaced_target, repla
 ghost use Rattle.cargo_toml_dependencies.specs.Replacing.{targets_meaning};
 ghost use Rattle.cargo_toml_dependencies.specs.Targets.{target_meaning};
 
-use super::{Made, any_inherited, replace, replacements};
+use super::{any_inherited, replace, replacements};
+use crate::dependency::Dependency;
 use crate::target::{DepsSet, Target, TargetDepsSet};
 use cargo_toml_parts::error::Error;
 use std::alloc::Global;
@@ -20,11 +21,11 @@ use std::vec::IntoIter;
 #[derive(Drop)]
 pub struct NewTarget {
     /// Those of the table `dependencies`, in the order of their keys.
-    pub dependencies: Made,
+    pub dependencies: Vec<Dependency>,
     /// Those of the table `build-dependencies`.
-    pub build_dependencies: Made,
+    pub build_dependencies: Vec<Dependency>,
     /// Those of the table `dev-dependencies`.
-    pub dev_dependencies: Made,
+    pub dev_dependencies: Vec<Dependency>,
 }
 
 // What the inherited dependencies of a target become.

@@ -1,4 +1,4 @@
-use Rattle.std.proofs.Common.{◌≡◌, ◌++◌, Some, map, string_bytes}
+use Rattle.std.proofs.Common.{◌≡◌, Some, map, string_bytes}
 use Rattle.cargo_toml_parts.specs.Reads.{map_meaning}
 use Rattle.cargo_toml_dependencies.specs.Dependencies.{dependency_meaning}
 use Rattle.cargo_toml_dependencies.specs.Near.{AreEntriesOf}
@@ -10,5 +10,5 @@ abbrev pub invariant-loop-key : goal.invariant-loop-key
 invariant-loop-key l =
     let templates = map_meaning dependency_meaning l.templates in
     (needed (Some templates) l.base (map_meaning dependency_meaning l.dependencies)
-    ≡ behind (made_meaning l.full ++ map dependency_meaning l.block.items) (needed (Some templates) l.base (map (λ e. (string_bytes e.0, dependency_meaning e.1)) l.key-iterator)))
+    ≡ behind (made_meaning l.made) (needed (Some templates) l.base (map (λ e. (string_bytes e.0, dependency_meaning e.1)) l.key-iterator)))
     × AreEntriesOf templates l.near

@@ -1,5 +1,4 @@
-use Rattle.cargo_toml_discovery.proofs.Ranks.{products_rank}
-use Rattle.cargo_toml_discovery.proofs.Stable.{filter-sorted_by, sorted-in_std, sorted-sorted_by}
+use Rattle.cargo_toml_discovery.proofs.Stable.{products_rank, filter-sorted_by, sorted-in_std, sorted-sorted_by}
 use Rattle.cargo_toml_discovery.specs.Sorting.{in_order, product_lt}
 use Rattle.cargo_toml_discovery.proofs.laws.order.Goals as goal
 

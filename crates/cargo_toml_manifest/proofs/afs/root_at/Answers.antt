@@ -1,5 +1,5 @@
 use Rattle.std.proofs.Common.{rules, string_bytes}
-use Rattle.cargo_toml_manifest.proofs.RootAt.{faulty_bytes, no_workspace_table}
+use Rattle.cargo_toml_manifest.proofs.Rooted.{faulty_bytes, no_workspace_table}
 use Rattle.cargo_toml_manifest.proofs.afs.root_at.Goals as goal
 
 pub returns-in-Err : goal.returns-in-Err

@@ -8,7 +8,7 @@ returns-in-Err g c = λ w path gives.
 
 pub returns-in-Ok-find : goal.returns-in-Ok-find
 returns-in-Ok-find g c = λ w path gives.
-    made _ _ _ _ w c.in-Ok.parts (rw c.in-Ok.is at gives) _ refl c.in-Ok-find.ensures.answered c.in-Ok-find.ensures.told
+    made _ _ _ _ w c.in-Ok.parts (rw c.in-Ok.is at gives) _ refl c.in-Ok-find.ensures.answered
 
 pub returns-in-Err-find : goal.returns-in-Err-find
 returns-in-Err-find g c = λ w path gives.

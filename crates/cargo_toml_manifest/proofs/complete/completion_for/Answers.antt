@@ -1,26 +1,29 @@
-use Rattle.std.proofs.Common.{[], Result, Ok, Some, None, ap, refl, sym, ◌∙◌}
+use Rattle.std.proofs.Common.{[], Result, Some, None, refl, subst, sym, ◌∙◌}
+use Rattle.cargo_toml_parts.specs.Answers.{Gives}
 use Rattle.cargo_toml_parts.specs.FaultValues.{Fault}
+use Rattle.cargo_toml_parts.specs.Paths.{workspace_folder}
 use Rattle.cargo_toml_package.specs.Sharing.{shared_of}
 use Rattle.cargo_toml_manifest.specs.Choosing.{handed_of}
 use Rattle.cargo_toml_manifest.specs.Inheriting.{needs}
+use Rattle.cargo_toml_manifest.specs.Installing.{installed}
 use Rattle.cargo_toml_manifest.specs.Manifests.{ManifestMeaning, held}
 use Rattle.cargo_toml_manifest.proofs.Answering.{answered_as, root_answered, root_lost}
+use Rattle.cargo_toml_manifest.proofs.Lasting.{nothing_left}
 use Rattle.cargo_toml_manifest.proofs.Meeting.{Found, no_table, own_alone, own_by_table}
-use Rattle.cargo_toml_manifest.proofs.Unchanged.{installed-none}
 use Rattle.cargo_toml_manifest.proofs.complete.completion_for.Goals as goal
 
 pub returns-in-Some : goal.returns-in-Some
 returns-in-Some g c =
     let handed = handed_of (c.in-Some.root, c.in-Some.path) in
     rw c.in-Some.is
-    (answered_as _ _ _ _ _ _ (Some handed) _ _ refl (c.completion.ensures (Some handed) refl c.parts_from-parts.ensures))
+    (answered_as _ _ _ _ (Some handed) _ _ _ _ refl (c.completion.ensures (Some handed) refl c.parts_from-parts.ensures))
 
 pub returns-then-is_some : goal.returns-then-is_some
 returns-then-is_some g c =
     let own = c.args.manifest.now.workspace in
     let there = sym c.is_some.ensures ∙ c.if-is_some.true in
     rw c.in_default.is
-    (answered_as _ _ _ _ _ _ None _ _ (own_by_table own (needs (held c.args.manifest.now)) _ there)
+    (answered_as _ _ _ _ None _ _ _ _ (own_by_table own (needs (held c.args.manifest.now)) _ there)
     (c.completion-then-is_some.ensures (Some (shared_of own, [])) refl c.parts_from-parts-then-is_some.ensures))
 
 pub returns-then-not-needs_workspace_inheritance : goal.returns-then-not-needs_workspace_inheritance
@@ -28,11 +31,10 @@ returns-then-not-needs_workspace_inheritance g c =
     let m = held c.args.manifest.now in
     let none = no_table c.args.manifest.now.workspace (sym c.is_some.ensures ∙ c.if-is_some.false) in
     let needed = sym c.needs_workspace_inheritance.ensures ∙ c.if-not-needs_workspace_inheritance.true in
-    let all = c.no_parts.ensures in
-    let gave : ManifestMeaning _ → Result (ManifestMeaning _) Fault = λ n. Ok n in
-    let same = ap gave (sym (installed-none m c.no_parts.result all.tables all.targets all.lints all.fields)) in
+    let taken = subst (λ (r : Result (ManifestMeaning _) Fault). Gives (installed m) c.parts_from-parts-then-not-needs_workspace_inheritance.result r)
+    (nothing_left (shared_of c.args.manifest.now.workspace) (workspace_folder []) m needed) c.parts_from-parts-then-not-needs_workspace_inheritance.ensures in
     rw c.in_default.is
-    (answered_as _ _ _ _ _ _ None _ _ (own_alone _ (needs m) _ none needed) (c.completion-then-not-needs_workspace_inheritance.ensures None refl same))
+    (answered_as _ _ _ _ None _ _ _ _ (own_alone _ (needs m) _ none needed) (c.completion-then-not-needs_workspace_inheritance.ensures None refl taken))
 
 pub returns-in-Ok : goal.returns-in-Ok
 returns-in-Ok g c =
@@ -52,4 +54,4 @@ returns-in-Err g c =
     let a = rw c.hint_of-hint.ensures at c.in-Err.ensures.answers in
     let r = rw c.hint_of-hint.ensures at c.in-Err.ensures.refused in
     let w = rw c.hint_of-hint.ensures at c.wrapped.ensures in
-    rw c.in_default.is (root_lost _ _ _ _ _ _ none needed c.in-Err.fault c.wrapped.result a r w)
+    rw c.in_default.is (root_lost _ _ _ _ _ _ none needed c.in-Err.fault c.wrapped.result r w a)

@@ -1,11 +1,10 @@
-use Rattle.std.proofs.Common.{[], inr, ap}
+use Rattle.std.proofs.Common.{[], ap}
 use Rattle.std.specs.Prelude.{option_map}
 use Rattle.std.proofs.lemmas.Result.{err_from_is_err_and}
 use Rattle.cargo_toml_discovery.specs.Answers.{answers_of, filled}
 use Rattle.cargo_toml_package.specs.Packages.{package_meaning}
-use Rattle.cargo_toml_manifest.specs.Installing.{installed}
 use Rattle.cargo_toml_manifest.specs.Manifests.{held}
-use Rattle.cargo_toml_manifest.proofs.FoundAround.{found_nothing, parts_faults, parts_seen, seen_or_unclear}
+use Rattle.cargo_toml_manifest.proofs.FoundAround.{found_nothing, parts_faults, parts_seen}
 use Rattle.cargo_toml_manifest.proofs.finding.find.Goals as goal
 
 pub returns-in_default-clause-answered : goal.returns-in_default-clause-answered
@@ -13,12 +12,6 @@ returns-in_default-clause-answered g c =
     let m = held c.args.manifest.now in
     let none = ap (option_map (package_meaning (λ m. m))) c.in_default.is in
     ([], found_nothing m c.args.parts.now none (filled (g.Fs.AbstractFilesystem.names_at c.args.fs.now) []))
-
-pub returns-in_default-clause-told : goal.returns-in_default-clause-told
-returns-in_default-clause-told g c =
-    let m = held c.args.manifest.now in
-    let none = ap (option_map (package_meaning (λ m. m))) c.in_default.is in
-    inr (found_nothing m c.args.parts.now none (g.Fs.AbstractFilesystem.names_at c.args.fs.now))
 
 pub returns-in_err-listings-clause-faults : goal.returns-in_err-listings-clause-faults
 returns-in_err-listings-clause-faults g c =
@@ -41,9 +34,3 @@ returns-clause-answered g c =
       parts_seen m p c.args.parts.now is c.wanted.result c.wanted.ensures (g.Fs.AbstractFilesystem.names_at c.args.fs.now)
           answers c.in_ok-found.found c.in_ok-listings.ensures.asked found,
     )
-
-pub returns-clause-told : goal.returns-clause-told
-returns-clause-told g c =
-    let m = held c.args.manifest.now in
-    let answered = returns-clause-answered g c in
-    seen_or_unclear (installed m c.args.parts.now) _ (g.Fs.AbstractFilesystem.names_at c.args.fs.now) answered.0 answered.1

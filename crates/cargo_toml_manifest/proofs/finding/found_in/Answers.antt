@@ -8,7 +8,7 @@ use Rattle.cargo_toml_package.specs.Packages.{package_meaning}
 use Rattle.cargo_toml_tables.specs.Settings.{file_meaning}
 use Rattle.cargo_toml_tables.specs.Products.{product_meaning}
 use Rattle.cargo_toml_manifest.specs.Manifests.{held}
-use Rattle.cargo_toml_manifest.proofs.StatedBy.{stated_so}
+use Rattle.cargo_toml_manifest.proofs.FoundAround.{stated_so}
 use Rattle.cargo_toml_manifest.proofs.finding.found_in.Goals as goal
 
 pub returns : goal.returns

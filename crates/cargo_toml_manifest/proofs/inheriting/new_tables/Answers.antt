@@ -1,13 +1,8 @@
 use Rattle.std.proofs.lemmas.Result.{err_from_is_err_and}
 use Rattle.cargo_toml_manifest.specs.Inheriting.{own_tables}
 use Rattle.cargo_toml_manifest.specs.Manifests.{held}
-use Rattle.cargo_toml_manifest.proofs.Inherited.{stops_at_build, stops_at_dependencies, stops_at_dev, tables_given}
+use Rattle.cargo_toml_manifest.proofs.Inherited.{stops_at_build, stops_at_dev}
 use Rattle.cargo_toml_manifest.proofs.inheriting.new_tables.Goals as goal
-
-pub returns-in_err-dependencies : goal.returns-in_err-dependencies
-returns-in_err-dependencies g c =
-    let p = err_from_is_err_and c.from_residual.result c.from_residual.ensures.1 in
-    rw (p.1, p.2) (stops_at_dependencies _ c.args.base.now (own_tables (held c.args.manifest.now)) _ c.in_err-dependencies.ensures)
 
 pub returns-in_err-build_dependencies : goal.returns-in_err-build_dependencies
 returns-in_err-build_dependencies g c =
@@ -22,8 +17,3 @@ returns-in_err-dev_dependencies g c =
     rw (p.1, p.2)
     (stops_at_dev _ c.args.base.now (own_tables (held c.args.manifest.now)) _ _ _ c.in_ok-dependencies.ensures
     c.in_ok-build_dependencies.ensures c.in_err-dev_dependencies.ensures)
-
-pub returns : goal.returns
-returns g c =
-    tables_given _ c.args.base.now (own_tables (held c.args.manifest.now)) _ _ _
-    c.in_ok-dependencies.ensures c.in_ok-build_dependencies.ensures c.in_ok-dev_dependencies.ensures

@@ -3,7 +3,7 @@ use Rattle.std.specs.Map.Iter.{deref}
 use Rattle.std.specs.declared.alloc.Global.{Global}
 use Rattle.std.proofs.lemmas.Map.Iter.{rest_all}
 use Rattle.cargo_toml_discovery.proofs.Unique.{Sorted, ascend-set}
-use Rattle.cargo_toml_discovery.proofs.Ascends.{ascend-named, none-ascend}
+use Rattle.cargo_toml_discovery.proofs.Ascend.{ascend-named, none-ascend}
 use Rattle.cargo_toml_discovery.specs.Answers.{answers_of, names_in, named_in}
 use Rattle.cargo_toml_discovery.specs.Found.{Named}
 use Rattle.cargo_toml_discovery.specs.Names.{Name}

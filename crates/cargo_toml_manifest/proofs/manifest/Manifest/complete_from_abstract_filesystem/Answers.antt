@@ -1,28 +1,24 @@
-use Rattle.std.proofs.Common.{sym, subst}
+use Rattle.std.proofs.Common.{refl, sym, subst}
 use Rattle.std.specs.Prelude.{option_map}
 use Rattle.std.proofs.lemmas.Result.{err_from_is_err_and}
 use Rattle.cargo_toml_discovery.specs.Answers.{filled}
 use Rattle.cargo_toml_manifest.specs.Choosing.{RootsTold, handed_of, roots_of}
 use Rattle.cargo_toml_manifest.specs.Completing.{GivenBy}
-use Rattle.cargo_toml_manifest.specs.Installing.{with_completion}
 use Rattle.cargo_toml_manifest.specs.Manifests.{ManifestMeaning, held}
-use Rattle.cargo_toml_manifest.proofs.Done.{complete_done}
-use Rattle.cargo_toml_manifest.proofs.Known.{known}
-use Rattle.cargo_toml_manifest.proofs.Lasting.{complete_lasts}
-use Rattle.cargo_toml_manifest.proofs.Meeting.{given_again, put_in, refused_again}
+use Rattle.cargo_toml_manifest.proofs.Answering.{met_given, met_refused, refused_by}
+use Rattle.cargo_toml_manifest.proofs.Lasting.{complete_done, known, complete_lasts}
+use Rattle.cargo_toml_manifest.proofs.Meeting.{given_again, put_in}
 use Rattle.cargo_toml_manifest.proofs.manifest.Manifest.complete_from_abstract_filesystem.Goals as goal
 
 pub returns-in_err-parts-clause-outcome : goal.returns-in_err-parts-clause-outcome
 returns-in_err-parts-clause-outcome g c =
-    let m = held c.args.self.now in
     let p = err_from_is_err_and c.from_residual.result c.from_residual.ensures.1 in
-    rw (p.1, p.2) (refused_again (with_completion m) _ _ _ c.in_err-parts.ensures.outcome)
+    rw (p.1, p.2) (met_refused _ _ _ _ _ _ _ _ _ c.in_err-parts.ensures)
 
-pub returns-clause-outcome : goal.returns-clause-outcome
-returns-clause-outcome g c =
-    let m = held c.args.self.now in
-    let put = put_in m _ _ c.in_ok-parts.field-0 c.install_parts.ensures c.put_found.ensures in
-    given_again (with_completion m) _ _ c.in_ok-parts.field-0 tt put c.in_ok-parts.ensures.outcome
+pub returns-in_err-parts-clause-wrapped : goal.returns-in_err-parts-clause-wrapped
+returns-in_err-parts-clause-wrapped g c =
+    let p = err_from_is_err_and c.from_residual.result c.from_residual.ensures.1 in
+    rw (p.1, p.2) (refused_by _ _ _ _ _ _ _ _ c.in_err-parts.ensures)
 
 pub returns-clause-completed : goal.returns-clause-completed
 returns-clause-completed g c =
@@ -33,12 +29,16 @@ returns-clause-completed g c =
     let found = g.Fs.AbstractFilesystem.may_find c.args.fs in
     let told = g.Fs.AbstractFilesystem.names_at c.args.fs in
     let put = put_in m _ _ c.in_ok-parts.field-0 c.install_parts.ensures c.put_found.ensures in
-    let by = subst (λ (x : ManifestMeaning _). GivenBy m handed roots found told x) (sym put) c.in_ok-parts.ensures.given in
+    let made = c.in_ok-parts.ensures in
+    let by = subst (λ (x : ManifestMeaning _). GivenBy m handed roots found told x) (sym put) (made.answer, made.known, made.answered.given) in
     let none = complete_done m n handed (λ _. by.0) (filled told by.2.0) by.2.1 in
     record {
-      outcome = given_again (with_completion m) held _ c.in_ok-parts.field-0 c.put_found.new.manifest put c.in_ok-parts.ensures.outcome;
+      outcome = met_given m told handed roots found held c.put_found.new.manifest by;
       given = by;
       needs_nothing = none;
       filled = known c.put_found.new.manifest none;
       again = complete_lasts m handed n;
     }
+
+pub returns-clause-outcome : goal.returns-clause-outcome
+returns-clause-outcome g c = given_again held _ _ c.put_found.new.manifest _ refl (returns-clause-completed g c).outcome

@@ -5,8 +5,8 @@ use Rattle.std.specs.declared.io.ErrorKind.{ErrorKind}
 use Rattle.std.specs.declared.io.ErrorKind.TheVariants.{NotFound}
 use Rattle.cargo_toml_parts.specs.FaultValues.{fault_of, io}
 use Rattle.cargo_toml_discovery.proofs.Faults.{no_absence, no_input}
-use Rattle.cargo_toml_discovery.proofs.gather.names_of.Goals.{in_default-via-in-Io+else-eq, in_default-via-in_default}
-use Rattle.cargo_toml_discovery.proofs.gather.names_of.Goals as goal
+use Rattle.cargo_toml_manifest.proofs.gather.names_of.Goals.{in_default-via-in-Io+else-eq, in_default-via-in_default}
+use Rattle.cargo_toml_manifest.proofs.gather.names_of.Goals as goal
 
 pub returns-in_default : goal.returns-in_default
 returns-in_default c =

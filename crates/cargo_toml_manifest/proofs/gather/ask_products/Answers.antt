@@ -1,21 +1,20 @@
 use Rattle.std.proofs.Common.{◌≡◌, List, subst, true, rules}
 use Rattle.std.proofs.lemmas.Result.{err_from_is_err_and}
 use Rattle.cargo_toml_discovery.specs.Answers.{answers_of, names_in, below}
-use Rattle.cargo_toml_discovery.specs.Gathering.{HasEach}
+use Rattle.cargo_toml_manifest.specs.Gathering.{HasEach}
 use Rattle.cargo_toml_discovery.specs.Names.{Name}
-use Rattle.cargo_toml_discovery.proofs.Heard.{grows-on, has-grows, names_in-grows}
-use Rattle.cargo_toml_discovery.proofs.Whole.{has_products-here, is_answer-here, products-tells}
-use Rattle.cargo_toml_discovery.proofs.gather.ask_products.Goals as goal
+use Rattle.cargo_toml_manifest.proofs.Heard.{grows-on, has-grows, names_in-grows, has_products-here, is_answer-here, products-tells}
+use Rattle.cargo_toml_manifest.proofs.gather.ask_products.Goals as goal
 
 pub returns-clause-grows : goal.returns-clause-grows
 returns-clause-grows g c =
-    let told = g.Fs.Folders.names_at c.args.fs.now in
+    let told = g.Fs.AbstractFilesystem.names_at c.args.fs.now in
     grows-on told (answers_of c.args.listings.now) (answers_of c.ask.new.listings) (answers_of c.ask_each.new.listings)
     c.in_ok-ask.ensures.grows c.in_ok-ask_each.ensures.grows
 
 pub returns-clause-has : goal.returns-clause-has
 returns-clause-has g c =
-    let told = g.Fs.Folders.names_at c.args.fs.now in
+    let told = g.Fs.AbstractFilesystem.names_at c.args.fs.now in
     let folder = c.args.folder.now in
     let b = answers_of c.ask.new.listings in
     let d = answers_of c.ask_each.new.listings in
@@ -28,7 +27,7 @@ returns-clause-has g c =
 
 pub returns-in_err-ask_each-clause-faults : goal.returns-in_err-ask_each-clause-faults
 returns-in_err-ask_each-clause-faults g c = λ fits.
-    let told = g.Fs.Folders.names_at c.args.fs.now in
+    let told = g.Fs.AbstractFilesystem.names_at c.args.fs.now in
     let folder = c.args.folder.now in
     let b = answers_of c.ask.new.listings in
     let wanted : c.args.is_wanted ≡ true = search rules in

@@ -1,18 +1,17 @@
 use Rattle.std.proofs.Common.{◌≡◌, [], Some, codes}
 use Rattle.cargo_toml_discovery.specs.Answers.{answer_at, answers_of, texts_in}
 use Rattle.cargo_toml_discovery.specs.Around.{around}
-use Rattle.cargo_toml_discovery.specs.Gathering.{Fits}
-use Rattle.cargo_toml_discovery.proofs.Heard.{tells-on, grows-on, has-grows, has_products-grows}
-use Rattle.cargo_toml_discovery.proofs.Whole.{started, has_root, all-told, by-root, by-src, by-bins, by-examples, by-tests, by-benches}
-use Rattle.cargo_toml_discovery.proofs.gather.gather.Given.{Over}
-use Rattle.cargo_toml_discovery.proofs.gather.gather.Goals.{In_ok-ask}
-use Rattle.cargo_toml_discovery.proofs.gather.gather.Goals as goal
+use Rattle.cargo_toml_manifest.specs.Gathering.{Fits}
+use Rattle.cargo_toml_manifest.proofs.Heard.{tells-on, grows-on, has-grows, has_products-grows, started, has_root, all-told, by-root, by-src, by-bins, by-examples, by-tests, by-benches}
+use Rattle.cargo_toml_manifest.proofs.gather.gather.Given.{Over}
+use Rattle.cargo_toml_manifest.proofs.gather.gather.Goals.{In_ok-ask}
+use Rattle.cargo_toml_manifest.proofs.gather.gather.Goals as goal
 
 -- after the folder of the package and `src`, what is kept is what was told
-first : (g : Over) (c : In_ok-ask g) → Fits (g.Fs.Folders.names_at c.args.fs.now) (answers_of c.ask.new.listings)
+first : (g : Over) (c : In_ok-ask g) → Fits (g.Fs.AbstractFilesystem.names_at c.args.fs.now) (answers_of c.ask.new.listings)
     × (answer_at (answers_of c.ask.new.listings) [] ≡ Some (texts_in c.in_ok-root.root))
 first g c =
-    let told = g.Fs.Folders.names_at c.args.fs.now in
+    let told = g.Fs.AbstractFilesystem.names_at c.args.fs.now in
     let root = texts_in c.in_ok-root.root in
     let before = answers_of c.new-listings.result in
     let start = started told before (answers_of c.keep.new.self) root c.new-listings.ensures c.in_ok-keep.ensures.ok c.in_ok-root.ensures.listed in
@@ -20,14 +19,14 @@ first g c =
 
 pub returns-in_err-root-clause-faults : goal.returns-in_err-root-clause-faults
 returns-in_err-root-clause-faults g c =
-    let told = g.Fs.Folders.names_at c.args.fs.now in
+    let told = g.Fs.AbstractFilesystem.names_at c.args.fs.now in
     let wanted = c.args.wanted in
     tells-on _ (around told wanted) c.from_residual.result c.in_err-root.field-0.0
     c.from_residual.ensures.1 (by-root told wanted) c.in_err-root.ensures.listed
 
 pub returns-in_err-ask-clause-faults : goal.returns-in_err-ask-clause-faults
 returns-in_err-ask-clause-faults g c =
-    let told = g.Fs.Folders.names_at c.args.fs.now in
+    let told = g.Fs.AbstractFilesystem.names_at c.args.fs.now in
     let wanted = c.args.wanted in
     tells-on _ (around told wanted) c.from_residual-in_err-ask.result
     c.in_err-ask.field-0.0 c.from_residual-in_err-ask.ensures.1
@@ -35,7 +34,7 @@ returns-in_err-ask-clause-faults g c =
 
 pub returns-in_err-ask_products-clause-faults : goal.returns-in_err-ask_products-clause-faults
 returns-in_err-ask_products-clause-faults g c =
-    let told = g.Fs.Folders.names_at c.args.fs.now in
+    let told = g.Fs.AbstractFilesystem.names_at c.args.fs.now in
     let wanted = c.args.wanted in
     let fits0 = (first g (goal.at.returns-in_err-ask_products-clause-faults g c).In_ok-ask).0 in
     tells-on _ (around told wanted) c.from_residual-in_err-ask_products.result
@@ -44,7 +43,7 @@ returns-in_err-ask_products-clause-faults g c =
 
 pub returns-in_err-ask_products-2-clause-faults : goal.returns-in_err-ask_products-2-clause-faults
 returns-in_err-ask_products-2-clause-faults g c =
-    let told = g.Fs.Folders.names_at c.args.fs.now in
+    let told = g.Fs.AbstractFilesystem.names_at c.args.fs.now in
     let wanted = c.args.wanted in
     let fits0 = (first g (goal.at.returns-in_err-ask_products-2-clause-faults g c).In_ok-ask).0 in
     let fits1 = c.in_ok-ask_products.ensures.grows.1 fits0 in
@@ -54,7 +53,7 @@ returns-in_err-ask_products-2-clause-faults g c =
 
 pub returns-in_err-ask_products-3-clause-faults : goal.returns-in_err-ask_products-3-clause-faults
 returns-in_err-ask_products-3-clause-faults g c =
-    let told = g.Fs.Folders.names_at c.args.fs.now in
+    let told = g.Fs.AbstractFilesystem.names_at c.args.fs.now in
     let wanted = c.args.wanted in
     let fits0 = (first g (goal.at.returns-in_err-ask_products-3-clause-faults g c).In_ok-ask).0 in
     let fits1 = c.in_ok-ask_products.ensures.grows.1 fits0 in
@@ -65,7 +64,7 @@ returns-in_err-ask_products-3-clause-faults g c =
 
 pub returns-in_err-ask_products-4-clause-faults : goal.returns-in_err-ask_products-4-clause-faults
 returns-in_err-ask_products-4-clause-faults g c =
-    let told = g.Fs.Folders.names_at c.args.fs.now in
+    let told = g.Fs.AbstractFilesystem.names_at c.args.fs.now in
     let wanted = c.args.wanted in
     let fits0 = (first g (goal.at.returns-in_err-ask_products-4-clause-faults g c).In_ok-ask).0 in
     let fits1 = c.in_ok-ask_products.ensures.grows.1 fits0 in
@@ -77,7 +76,7 @@ returns-in_err-ask_products-4-clause-faults g c =
 
 pub returns-clause-asked : goal.returns-clause-asked
 returns-clause-asked g c =
-    let told = g.Fs.Folders.names_at c.args.fs.now in
+    let told = g.Fs.AbstractFilesystem.names_at c.args.fs.now in
     let wanted = c.args.wanted in
     let root = texts_in c.in_ok-root.root in
     let start = first g (goal.at.returns-clause-asked g c).In_ok-ask in

@@ -1,12 +1,12 @@
 use Rattle.std.proofs.Common.{ap, sym, ◌∙◌, is_some}
 use Rattle.cargo_toml_discovery.specs.Answers.{answers_of, texts_in}
-use Rattle.cargo_toml_discovery.proofs.Heard.{grows-one}
+use Rattle.cargo_toml_manifest.proofs.Heard.{grows-one}
 use Rattle.cargo_toml_discovery.proofs.Lookups.{is_some-seen}
-use Rattle.cargo_toml_discovery.proofs.gather.ask.Goals as goal
+use Rattle.cargo_toml_manifest.proofs.gather.ask.Goals as goal
 
 pub returns-clause-grows : goal.returns-clause-grows
 returns-clause-grows g c =
-    let told = g.Fs.Folders.names_at c.args.fs.now in
+    let told = g.Fs.AbstractFilesystem.names_at c.args.fs.now in
     let old = answers_of c.args.listings.now in
     let new = answers_of c.keep.new.self in
     let none = is_some-seen c.names_at.result ∙ sym c.is_some.ensures ∙ c.if-is_some.false in

@@ -1,10 +1,10 @@
 use Rattle.std.proofs.Common.{map, string_bytes, take}
 use Rattle.cargo_toml_discovery.specs.Answers.{answers_of}
-use Rattle.cargo_toml_discovery.specs.Gathering.{Grows, HasEach}
-use Rattle.cargo_toml_discovery.proofs.gather.ask_each.Given as goal
+use Rattle.cargo_toml_manifest.specs.Gathering.{Grows, HasEach}
+use Rattle.cargo_toml_manifest.proofs.gather.ask_each.Given as goal
 
 abbrev pub invariant-loop-path : goal.invariant-loop-path
 invariant-loop-path g l = record {
-  grows : Grows (g.Fs.Folders.names_at l.fs) (answers_of l.fn.listings) (answers_of l.listings);
+  grows : Grows (g.Fs.AbstractFilesystem.names_at l.fs) (answers_of l.fn.listings) (answers_of l.listings);
   has : HasEach (answers_of l.listings) (map string_bytes (take l.path-index l.paths));
 }

@@ -1,12 +1,12 @@
 use Rattle.std.proofs.Common.{map, string_bytes, take, arith}
 use Rattle.std.proofs.lemmas.Result.{err_from_is_err_and}
 use Rattle.cargo_toml_discovery.specs.Answers.{answers_of}
-use Rattle.cargo_toml_discovery.proofs.Heard.{tells-one, grows-on, has_each-grows, has_each-more}
-use Rattle.cargo_toml_discovery.proofs.gather.ask_each.Goals as goal
+use Rattle.cargo_toml_manifest.proofs.Heard.{tells-one, grows-on, has_each-grows, has_each-more}
+use Rattle.cargo_toml_manifest.proofs.gather.ask_each.Goals as goal
 
 pub returns-in_err-ask-clause-faults : goal.returns-in_err-ask-clause-faults
 returns-in_err-ask-clause-faults g c =
-    let told = g.Fs.Folders.names_at c.args.fs.now in
+    let told = g.Fs.AbstractFilesystem.names_at c.args.fs.now in
     let p = err_from_is_err_and c.from_residual.result c.from_residual.ensures.1 in
     let fault = rw c.as_str.ensures.value at c.in_err-ask.ensures.faults in
     let path = c.path-item.result in
@@ -15,7 +15,7 @@ returns-in_err-ask-clause-faults g c =
 
 pub loop-path-preserved : goal.loop-path-preserved
 loop-path-preserved g c =
-    let told = g.Fs.Folders.names_at c.args.fs.now in
+    let told = g.Fs.AbstractFilesystem.names_at c.args.fs.now in
     let paths = c.args.paths.now in
     let i = c.loop-path.path-index in
     let a = answers_of c.args.listings.now in

@@ -5,12 +5,12 @@ ghost use Rattle.cargo_toml_parts.specs.declared.error.Error.{Memory};
 ghost use Rattle.cargo_toml_discovery.specs.Answers.{answers_of, around_in, filled};
 ghost use Rattle.cargo_toml_discovery.specs.Around.{around, entries_at};
 ghost use Rattle.cargo_toml_discovery.specs.Folders.{IsListed, RefusesBy};
-ghost use Rattle.cargo_toml_discovery.specs.Gathering.{Fits, Grows, Has, HasEach, HasProducts};
-ghost use Rattle.cargo_toml_discovery.specs.Gathering.{IsHeard, Listed, MayTellOneOf, RootListed};
+ghost use Rattle.cargo_toml_manifest.specs.Gathering.{Fits, Grows, Has, HasEach, HasProducts};
+ghost use Rattle.cargo_toml_manifest.specs.Gathering.{IsHeard, Listed, MayTellOneOf, RootListed};
 ghost use Rattle.cargo_toml_discovery.specs.Seen.{Tells, names_at, seen};
 
-use crate::folders::Folders;
-use crate::listings::{Listings, Wanted, sorted_names};
+use crate::afs::AbstractFilesystem;
+use cargo_toml_discovery::listings::{Listings, Wanted, sorted_names};
 use cargo_toml_parts::Error;
 use std::alloc::Global;
 use std::collections::{BTreeSet, HashSet};
@@ -35,7 +35,11 @@ fn names_of(
 }
 
 // The names in a folder, in order; an absent one counts as empty.
-fn listing<Fs: Folders>(alloc: Global, fs: &Fs, path: &str) -> Result<BTreeSet<String>, Error>
+fn listing<Fs: AbstractFilesystem>(
+    alloc: Global,
+    fs: &Fs,
+    path: &str,
+) -> Result<BTreeSet<String>, Error>
     ensures listed { Listed (Fs.names_at fs.now path.now) result }
     ensures refused { RefusesBy (Fs.may_refuse fs.now path.now) result }
 {
@@ -43,7 +47,7 @@ fn listing<Fs: Folders>(alloc: Global, fs: &Fs, path: &str) -> Result<BTreeSet<S
 }
 
 // The names in the folder of the package, in order.
-fn root_listing<Fs: Folders>(alloc: Global, fs: &Fs) -> Result<BTreeSet<String>, Error>
+fn root_listing<Fs: AbstractFilesystem>(alloc: Global, fs: &Fs) -> Result<BTreeSet<String>, Error>
     ensures listed { RootListed (Fs.names_at fs.now []) result }
     ensures refused { RefusesBy (Fs.may_refuse fs.now []) result }
 {
@@ -52,7 +56,7 @@ fn root_listing<Fs: Folders>(alloc: Global, fs: &Fs) -> Result<BTreeSet<String>,
 }
 
 // Asks for the names in a folder, unless that was done.
-fn ask<Fs: Folders>(
+fn ask<Fs: AbstractFilesystem>(
     alloc: Global,
     fs: &Fs,
     path: &str,
@@ -73,7 +77,7 @@ fn ask<Fs: Folders>(
 }
 
 // Asks for each of these.
-fn ask_each<Fs: Folders>(
+fn ask_each<Fs: AbstractFilesystem>(
     alloc: Global,
     fs: &Fs,
     paths: &[String],
@@ -93,7 +97,7 @@ fn ask_each<Fs: Folders>(
 }
 
 // Asks for a folder of products, if it is wanted, and for those in it that may hold one.
-fn ask_products<Fs: Folders>(
+fn ask_products<Fs: AbstractFilesystem>(
     alloc: Global,
     fs: &Fs,
     is_wanted: bool,
@@ -122,7 +126,11 @@ fn ask_products<Fs: Folders>(
 /// The folder of the package must be there; another that is absent counts as empty. Refused by what
 /// `fs` answers in place of names, the first time that this is no absent folder, and by
 /// `Error::Memory` where there is not enough memory.
-pub fn gather<Fs: Folders>(alloc: Global, fs: &Fs, wanted: Wanted) -> Result<Listings, Error>
+pub fn gather<Fs: AbstractFilesystem>(
+    alloc: Global,
+    fs: &Fs,
+    wanted: Wanted,
+) -> Result<Listings, Error>
     ensures asked { IfOk result (λ l. around (filled (Fs.names_at fs.now) (answers_of l)) wanted
         ≡ seen (around_in (answers_of l) wanted)) }
     ensures faults { IfErr result (Tells (around (Fs.names_at fs.now) wanted)) }

@@ -19,8 +19,7 @@ use Rattle.toml.specs.declared.value.Value.{Value}
 use Rattle.toml.proofs.Views.{Entry}
 use Rattle.cargo_toml_parts.proofs.Collected.{texts_total, tied_alike, tied_both_ways}
 use Rattle.cargo_toml_write.specs.Pairs.{put_all}
-use Rattle.cargo_toml_write.proofs.Others.{same_key}
-use Rattle.cargo_toml_write.proofs.Tables.{members_view-insert}
+use Rattle.cargo_toml_write.proofs.Tables.{same_key, members_view-insert}
 
 -- what a key has among some entries
 abbrev at : List Entry → String Global → Option Value
@@ -81,9 +80,6 @@ other_value : (a b : Bool) (v w : Value) (o r : Option Value) → (a ≡ true �
 other_value true true v w o r apart more = absurd (false≢true (sym (apart refl)))
 other_value true false v w o r apart more = refl
 other_value false b v w o r apart more = more
-
-apart_from : (o : Ordering) → o ≡ Greater → is_eq o ≡ false
-apart_from o h = ap is_eq h
 
 at_insert_at : (o : Ordering) (k q : String Global) (v : Value) (e : Entry) (es : List Entry) → o ≡ string_cmp k e.0
     → at (insert_entry string_cmp es k v) q ≡ cond (is_eq (string_cmp k q)) (Some v) (at es q)

@@ -1,17 +1,85 @@
--- Pairs that are gathered of a map entry by entry.
-use Rattle.std.proofs.Common.{◌≡◌, ◌⊎◌, inl, inr, refl, ap, ◌∙◌, ℕ, IsTrue, List, [], ◌∷◌, ◌++◌, Option, Some, None, Err, String, Global, string_bytes}
-use Rattle.std.specs.Map.{keys_of}
-use Rattle.toml.specs.Data.{Data, Members, no_members}
-use Rattle.toml.specs.View.{view}
+-- Lists and maps that are written entry by entry, and features each with what is said of it.
+use Rattle.std.proofs.Common.{◌≡◌, ◌⊎◌, inl, inr, ℕ, ◌+◌, ◌<◌, List, [], ◌∷◌, ◌++◌, map, length, get_or, drop, refl, sym, ap, ◌∙◌, append_assoc, Option, String, Global, string_bytes, IsTrue, Some, None, Err, Bool, true, false, cond, option_map, Result, Ok, Vec, nat_cmp}
+use Rattle.std.proofs.lemmas.List.{drop_more}
+use Rattle.std.specs.Map.{keys_of, lookup}
+use Rattle.std.specs.BTreeMap.{BTreeMap, get_by, is_at}
+use Rattle.std.specs.Cmp.Lexicographic.{slice_cmp}
+use Rattle.std.specs.Str.{bytes_eq}
+use Rattle.std.proofs.lemmas.Map.Text.{is_eq-slice_cmp}
+use Rattle.toml.specs.Data.{Data, array, Items, no_items, item, Members, no_members}
+use Rattle.toml.specs.View.{view, items_view}
 use Rattle.toml.specs.declared.value.Value.{Value}
 use Rattle.toml.proofs.Views.{Entry}
+use Rattle.cargo_toml_dependencies.specs.declared.target.FeatureDetail.{FeatureDetail}
+use Rattle.cargo_toml_dependencies.specs.Details.{Detail, detail_of}
+use Rattle.cargo_toml_dependencies.specs.Features.{FeaturesMeaning}
 use Rattle.cargo_toml_parts.specs.declared.error.Error.{Error, Memory}
 use Rattle.cargo_toml_parts.specs.Floats.{has_no_float}
+use Rattle.cargo_toml_parts.specs.Reads.{map_meaning, pairs_meaning}
 use Rattle.cargo_toml_write.specs.Pairs.{put_all, AreGathered}
-use Rattle.cargo_toml_write.specs.Ways.{Ascend, entry_rows, map_way}
-use Rattle.cargo_toml_write.specs.Writes.{Way, IsHeld, IsWriting, AreRefused, AreWritten, required_row, put_member, table_way, WritesFrom}
-use Rattle.cargo_toml_write.proofs.Entries.{RestWrites, meant}
+use Rattle.cargo_toml_write.specs.Ways.{AreItems, ItemsRefused, list_way, entry_rows, Ascend, map_way, texts_way}
+use Rattle.cargo_toml_write.specs.Writes.{Way, WritesFrom, IsWriting, table_way, IsHeld, AreRefused, AreWritten, required_row, put_member}
+use Rattle.cargo_toml_write.specs.WrittenDependencies.{detail_under, features_way, told_features, feature_way}
 use Rattle.cargo_toml_write.proofs.Rows.{Steps, both, is_put, ends, refused_too}
+
+-- a list that is written element by element
+at_index : {A : Type 0} (xs : List A) (i : ℕ) (x : A) → i < length xs → x ≡ get_or xs i x → drop i xs ≡ x ∷ drop (i + 1) xs
+at_index xs i x lt at = drop_more xs i x lt ∙ ap (λ y. y ∷ drop (i + 1) xs) (sym at)
+
+nothing_more : {A : Type 0} (xs : List A) → xs ++ [] ≡ xs
+nothing_more [] = refl
+nothing_more (x ∷ xs) = ap (λ t. x ∷ t) (nothing_more xs)
+
+drop_all : {A : Type 0} (xs : List A) (i : ℕ) → length xs ≡ i → drop i xs ≡ []
+drop_all [] i h = rw (← h)
+drop_all (x ∷ xs) i h = rw (← h) (drop_all xs (length xs) refl)
+
+module _ {X M : Type 0} (way : Way M) (meaning : X → M) where
+  -- the trees of the first i elements are those of vs
+  pub record ItemsWritten (xs : List X) (i : ℕ) (vs : List Value) : Type 0 where
+    pub trees : (ys : List Value) → AreItems way (map meaning (drop i xs)) (items_view ys) → AreItems way (map meaning xs) (items_view (vs ++ ys))
+    pub faults : (e : Error) → ItemsRefused way (map meaning (drop i xs)) e → ItemsRefused way (map meaning xs) e
+
+  pub items_start : (xs : List X) → ItemsWritten xs 0 []
+  items_start xs = record { trees = λ ys h. h; faults = λ e h. h }
+
+  pub items_step : (xs : List X) (i : ℕ) (vs ws : List Value) (x : X) (v : Value)
+      → ItemsWritten xs i vs → i < length xs → x ≡ get_or xs i x → way.trees (meaning x) (view v) → ws ≡ vs ++ v ∷ [] → ItemsWritten xs (i + 1) ws
+  items_step xs i vs ws x v so_far lt at tree more = rw more (record {
+    trees = λ ys h. rw (append_assoc vs (v ∷ []) ys) (so_far.trees (v ∷ ys) (rw (at_index xs i x lt at) (tree, h)));
+    faults = λ e h. so_far.faults e (rw (at_index xs i x lt at) (inr h));
+  })
+
+  pub items_end : (xs : List X) (i : ℕ) (vs : List Value) → ItemsWritten xs i vs → length xs ≡ i → (list_way way).trees (map meaning xs) (array (items_view vs))
+  items_end xs i vs so_far all = (
+    items_view vs,
+    refl,
+    rw (← nothing_more vs) (so_far.trees [] (rw (drop_all xs i all) tt)),
+  )
+
+  no_items_of : (xs : List M) (ds : Items) (e : Error) → ItemsRefused way xs e → ¬ (AreItems way xs ds)
+  no_items_of [] ds e h w = h
+  no_items_of (x ∷ xs) no_items e h w = w
+  no_items_of (x ∷ xs) (item d ds) e (inl h) w = h.0 d w.0
+  no_items_of (x ∷ xs) (item d ds) e (inr h) w = no_items_of xs ds e h w.1
+
+  pub items_err : (xs : List X) (i : ℕ) (vs : List Value) (x : X) (e : Error) → ItemsWritten xs i vs → i < length xs → x ≡ get_or xs i x
+      → (e ≡ Memory) ⊎ (((d : Data) → ¬ (way.trees (meaning x) d)) × way.refuses (meaning x) e)
+      → (e ≡ Memory) ⊎ (((d : Data) → ¬ ((list_way way).trees (map meaning xs) d)) × ItemsRefused way (map meaning xs) e)
+  items_err xs i vs x e so_far lt at (inl memory) = inl memory
+  items_err xs i vs x e so_far lt at (inr fault) =
+      let all : ItemsRefused way (map meaning xs) e = so_far.faults e (rw (at_index xs i x lt at) (inl fault)) in
+      inr (λ d (ds, is, trees). no_items_of (map meaning xs) ds e all trees, all)
+
+-- what the entries of a map mean
+abbrev pub meant : {X M : Type 0} → (X → M) → List (String Global × X) → List (List ℕ × M)
+meant meaning es = map (λ e. (string_bytes e.0, meaning e.1)) es
+
+-- what writes the rest writes the whole
+abbrev pub RestWrites : {X M : Type 0} → Way M → (X → M) → List (String Global × X) → Option Error → Members
+    → List (String Global × X) → Option Error → Members → Type 0
+RestWrites way meaning es a old rest b mid =
+    (c : Option Error) (new : Members) → WritesFrom (entry_rows way (meant meaning rest)) b mid c new → WritesFrom (entry_rows way (meant meaning es)) a old c new
 
 put_last : (ps : List Entry) (p : Entry) (ms : Members) → put_all (ps ++ p ∷ []) ms ≡ put_member (string_bytes p.0) (view p.1) (put_all ps ms)
 put_last [] p ms = refl
@@ -61,3 +129,42 @@ unfolding WritesFrom
 map_err {M = M} way es fault refused =
     let steps : Steps (entry_rows way es) None no_members (Some fault) no_members = record { goes = refused } in
     refused_too (λ (xs : List (List ℕ × M)). Ascend (keys_of xs)) (table_way (entry_rows way)) es fault (ends (entry_rows way) es (Err fault) refl refl steps refl)
+
+-- a feature without a detail is written as its list
+pub as_list : (enables : List (List ℕ)) (r : Result Value Error) → IsWriting texts_way enables r → IsWriting feature_way (enables, None) r
+as_list enables (Ok v) written = written
+as_list enables (Err e) fault = fault
+
+pub features_err : (fs : FeaturesMeaning) (e : Error) → IsWriting (map_way feature_way) (told_features fs) (Err e) → IsWriting features_way fs (Err e)
+features_err fs e (inl memory) = inl memory
+features_err fs e (inr (none, fault)) = inr (λ d (details, tree). none d tree, fault)
+
+-- what is said of a name, looked up in the map
+choose : (b : Bool) (x : FeatureDetail) (r : Option FeatureDetail) (s : Option Detail) → s ≡ option_map detail_of r → cond b (Some (detail_of x)) s ≡ option_map detail_of (cond b (Some x) r)
+choose true x r s e = refl
+choose false x r s e = e
+
+in_entries : (name : List ℕ) (es : List (String Global × FeatureDetail))
+    → detail_under name (pairs_meaning detail_of es) ≡ option_map detail_of (lookup (is_at (λ k. slice_cmp nat_cmp name (string_bytes k))) es)
+in_entries name [] = refl
+in_entries name (e ∷ es) = rw (is_eq-slice_cmp name (string_bytes e.0)) (choose (bytes_eq name (string_bytes e.0)) e.1 _ _ (in_entries name es))
+
+pub detail_at-map : (name : List ℕ) (m : BTreeMap (String Global) FeatureDetail)
+    → detail_under name (map_meaning detail_of m) ≡ option_map detail_of (get_by (λ k. slice_cmp nat_cmp name (string_bytes k)) m)
+detail_at-map name m = in_entries name m.entries
+
+abbrev pub Feature : Type 0
+Feature = String Global × Vec (String Global) Global
+
+module _ (details : List (List ℕ × Detail)) where
+  -- a feature, with what is said of it
+  abbrev pub with_detail : Feature → List (List ℕ) × Option Detail
+  with_detail f = (map string_bytes f.1.items, detail_under (string_bytes f.0) details)
+
+  -- features as the values of their names
+  abbrev pub by_name : List Feature → List (String Global × Feature)
+  by_name fs = map (λ f. (f.0, f)) fs
+
+  pub told-by_name : (fs : List Feature) → meant with_detail (by_name fs) ≡ told_features (pairs_meaning (λ v. map string_bytes v.items) fs, details)
+  told-by_name [] = refl
+  told-by_name (f ∷ fs) = ap (λ es. (string_bytes f.0, with_detail f) ∷ es) (told-by_name fs)

@@ -1,5 +1,4 @@
-//! Laws: what can be written, and what is read again. A value that holds no float in what it may
-//! hold freely is never refused, and no other has a tree.
+//! Laws: which manifests can be written, and what is read again.
 ghost use Rattle.std.specs.Prelude.{◌≡◌, ℕ, List, Option, Some, Ok};
 ghost use Rattle.semver.specs.Parse.{Held, version_parts};
 ghost use Rattle.toml.specs.Data.{Data, Members};
@@ -12,56 +11,15 @@ ghost use Rattle.cargo_toml_parts.specs.Reads.{array_of, map_of};
 ghost use Rattle.cargo_toml_parts.specs.Versions.{Parts};
 ghost use Rattle.cargo_toml_tables.specs.Lints.{LintMeaning, lint_of};
 ghost use Rattle.cargo_toml_write.specs.Asked.{EachValue, ManifestMeets};
-ghost use Rattle.cargo_toml_write.specs.NoFloats.{HoldsNoFloat, DetailHoldsNoFloat};
-ghost use Rattle.cargo_toml_write.specs.NoFloats.{DependencyHoldsNoFloat, TargetHoldsNoFloat};
-ghost use Rattle.cargo_toml_write.specs.NoFloats.{ProfileHoldsNoFloat, ProfilesHoldsNoFloat};
-ghost use Rattle.cargo_toml_write.specs.NoFloats.{LintHoldsNoFloat, PackageHoldsNoFloat};
-ghost use Rattle.cargo_toml_write.specs.NoFloats.{WorkspaceHoldsNoFloat, ManifestHoldsNoFloat};
-ghost use Rattle.cargo_toml_write.specs.Reread.{IsTold, each_value, reread, reread_dependency};
-ghost use Rattle.cargo_toml_write.specs.Reread.{says_true};
+ghost use Rattle.cargo_toml_write.specs.Reread.{IsTold, each_value, reread_dependency, says_true};
+ghost use Rattle.cargo_toml_write.specs.Reread.{reread};
 ghost use Rattle.cargo_toml_write.specs.Ways.{free_way, list_way, map_way};
-ghost use Rattle.cargo_toml_write.specs.WrittenDependencies.{detail_way, dependency_way};
-ghost use Rattle.cargo_toml_write.specs.WrittenDependencies.{dependencies_way, target_way};
-ghost use Rattle.cargo_toml_write.specs.WrittenDependencies.{DependencyAgain};
-ghost use Rattle.cargo_toml_write.specs.WrittenLints.{lint_way, lint_groups_way, IsApart};
+ghost use Rattle.cargo_toml_write.specs.WrittenDependencies.{dependencies_way, DependencyAgain};
 ghost use Rattle.cargo_toml_write.specs.WrittenManifests.{manifest_way};
-ghost use Rattle.cargo_toml_write.specs.WrittenPackages.{package_way, IsVersionAgain};
-ghost use Rattle.cargo_toml_write.specs.WrittenProfiles.{profile_way, profiles_way};
-ghost use Rattle.cargo_toml_write.specs.WrittenWorkspaces.{workspace_way};
-ghost use Rattle.cargo_toml_write.specs.Writes.{Exact, HasTree};
+ghost use Rattle.cargo_toml_write.specs.WrittenPackages.{IsVersionAgain};
+ghost use Rattle.cargo_toml_write.specs.WrittenTables.{lint_groups_way, IsApart};
 
 use crate::write::ToValue;
-
-/// The dependencies that hold no float.
-pub fn dependencies_without_floats()
-    ensures detail { Exact detail_way DetailHoldsNoFloat }
-    ensures dependency { Exact dependency_way DependencyHoldsNoFloat }
-    ensures target { Exact target_way TargetHoldsNoFloat }
-{}
-
-/// The profiles and lints that hold no float.
-pub fn tables_without_floats()
-    ensures profile { Exact profile_way ProfileHoldsNoFloat }
-    ensures profiles { Exact profiles_way ProfilesHoldsNoFloat }
-    ensures lint { Exact lint_way LintHoldsNoFloat }
-{}
-
-/// The packages, workspaces and manifests that hold no float, where metadata are a free value.
-pub fn manifests_without_floats()
-    ensures packages { Exact (package_way free_way) (PackageHoldsNoFloat HoldsNoFloat) }
-    ensures workspaces { Exact (workspace_way free_way) (WorkspaceHoldsNoFloat HoldsNoFloat) }
-    ensures manifests { Exact (manifest_way free_way) (ManifestHoldsNoFloat HoldsNoFloat) }
-{}
-
-/// The same, where metadata are of any type: each has to have a tree.
-pub fn manifests_of_any_metadata<Metadata: ToValue>()
-    ensures packages { Exact (package_way Metadata.way)
-        (PackageHoldsNoFloat (HasTree Metadata.way)) }
-    ensures workspaces { Exact (workspace_way Metadata.way)
-        (WorkspaceHoldsNoFloat (HasTree Metadata.way)) }
-    ensures manifests { Exact (manifest_way Metadata.way)
-        (ManifestHoldsNoFloat (HasTree Metadata.way)) }
-{}
 
 /// The requirements and details that were read of a dependency are such as are read again, and so
 /// is a version that a text says.
@@ -94,18 +52,14 @@ pub fn collections_are_read_again<T: ToValue>()
         → map_of (map_of lint_of) d ≡ Some groups }
 {}
 
-/// A manifest that was read, of a tree or of a document, with metadata as a free value, is never
-/// refused, since it holds no float: what it was read of holds none.
+/// A manifest that was read, of a tree or of a document, with metadata as a free value, is as asked
+/// of one that is written, and so is never refused: what it was read of holds no float.
 pub fn read_manifests_are_written()
-    ensures no_float { (d : Data) (m : ManifestMeaning Data)
-        → without_floats (manifest_reads any_tree) d ≡ Some m
-        → ManifestHoldsNoFloat HoldsNoFloat m }
     ensures of_tree { (d : Data) (m : ManifestMeaning Data)
-        → without_floats (manifest_reads any_tree) d ≡ Some m
-        → ManifestHoldsNoFloat (HasTree free_way) m }
+        → without_floats (manifest_reads any_tree) d ≡ Some m → (manifest_way free_way).asks m }
     ensures of_document { (document : Option Members) (m : ManifestMeaning Data)
         → document_reads (manifest_reads any_tree) document ≡ Some m
-        → ManifestHoldsNoFloat (HasTree free_way) m }
+        → (manifest_way free_way).asks m }
 {}
 
 /// A manifest that was read, with metadata as a free value, is told, so that it is read again from

@@ -5,11 +5,10 @@ ghost use Rattle.toml.specs.View.{table_view};
 ghost use Rattle.cargo_toml_parts.specs.declared.inheritable.Inheritable.{Inheritable};
 ghost use Rattle.cargo_toml_parts.specs.Inherits.{inheritable_map};
 ghost use Rattle.cargo_toml_parts.specs.Reads.{map_meaning};
-ghost use Rattle.cargo_toml_write.specs.Floatless.{inheritable_floatless, list_floatless};
-ghost use Rattle.cargo_toml_write.specs.Floatless.{map_floatless};
+ghost use Rattle.cargo_toml_write.specs.Lawful.{inheritable_lawful, list_lawful, map_lawful};
 ghost use Rattle.cargo_toml_write.specs.Pairs.{AreGathered, put_all};
-ghost use Rattle.cargo_toml_write.specs.Ways.{entry_rows, list_way, map_way};
-ghost use Rattle.cargo_toml_write.specs.Ways.{inheritable_way, exactly, inherited_tree};
+ghost use Rattle.cargo_toml_write.specs.Ways.{entry_rows, map_way, inheritable_way, inherited_tree};
+ghost use Rattle.cargo_toml_write.specs.Ways.{list_way, exactly};
 ghost use Rattle.cargo_toml_write.specs.Writes.{IsWriting};
 
 use crate::write::{LeftOut, ToValue, put};
@@ -25,7 +24,7 @@ impl<T: ToValue> ToValue for Vec<T> {
 
     ghost way = { list_way T.way };
 
-    ghost floatless = { list_floatless T.way T.floatless };
+    ghost lawful = { list_lawful T.way T.lawful };
 
     fn to_value(&self, alloc: Global) -> Result<Value, Error> {
         let mut values = Vec::with_capacity(alloc, self.len())?;
@@ -73,7 +72,7 @@ impl<T: ToValue> ToValue for BTreeMap<String, T> {
 
     ghost way = { map_way T.way };
 
-    ghost floatless = { map_floatless T.way };
+    ghost lawful = { map_lawful T.way T.lawful };
 
     fn to_value(&self, alloc: Global) -> Result<Value, Error> {
         let _ascend = self.len();
@@ -107,7 +106,7 @@ impl<T: ToValue> ToValue for Inheritable<T> {
 
     ghost way = { inheritable_way T.way };
 
-    ghost floatless = { inheritable_floatless T.way T.floatless };
+    ghost lawful = { inheritable_lawful T.way T.lawful };
 
     fn to_value(&self, alloc: Global) -> Result<Value, Error> {
         match self {

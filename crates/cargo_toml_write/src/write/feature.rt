@@ -2,12 +2,12 @@
 ghost use Rattle.std.specs.Prelude.{◌≡◌, map, option_copied, option_map, string_bytes};
 ghost use Rattle.cargo_toml_dependencies.specs.Details.{detail_of};
 ghost use Rattle.cargo_toml_dependencies.specs.Features.{FeaturesMeaning, features_meaning};
-ghost use Rattle.cargo_toml_write.specs.Floatless.{features_floatless};
+ghost use Rattle.cargo_toml_write.specs.Lawful.{features_lawful};
 ghost use Rattle.cargo_toml_write.specs.Pairs.{AreGathered};
 ghost use Rattle.cargo_toml_write.specs.Ways.{entry_rows};
 ghost use Rattle.cargo_toml_write.specs.Writes.{IsWriting};
-ghost use Rattle.cargo_toml_write.specs.WrittenFeatures.{feature_way, features_way};
-ghost use Rattle.cargo_toml_write.specs.WrittenFeatures.{told_features, told_way};
+ghost use Rattle.cargo_toml_write.specs.WrittenDependencies.{feature_way};
+ghost use Rattle.cargo_toml_write.specs.WrittenDependencies.{features_way, told_features, told_way};
 
 use crate::write::collections::table_of;
 use crate::write::writing::Writing;
@@ -86,7 +86,7 @@ impl ToValue for Features<'_> {
 
     ghost way = { features_way };
 
-    ghost floatless = { features_floatless };
+    ghost lawful = { features_lawful };
 
     fn to_value(&self, alloc: Global) -> Result<Value, Error> {
         let _lists_ascend = self.lists.len();

@@ -13,7 +13,7 @@ loop-key-preserved g c =
     let so_far = subst (λ rest. Gathers g.T.ToValue.way g.T.ToValue.meaning c.args.map.now.entries rest c.loop-key.pairs.items) c.in-Some.ensures.steps c.loop-key.invariant in
     let same : string_bytes c.in_ok-name.name ≡ string_bytes c.in-Some.key.now = search rules in
     gather_step g.T.ToValue.way g.T.ToValue.meaning _ _ _ _ (c.in-Some.key.now, c.in-Some.x.now) c.in_ok-name.name c.in_ok-to_value.field-0
-    so_far c.in_ok-to_value.ensures (g.met.T.ToValue.floatless _ _ c.in_ok-to_value.ensures) same c.in_ok-push.ensures.items
+    so_far c.in_ok-to_value.ensures ((g.met.T.ToValue.lawful.each _).floatless _ c.in_ok-to_value.ensures) same c.in_ok-push.ensures.items
 
 pub returns-in_err-to_value : goal.returns-in_err-to_value
 returns-in_err-to_value g c =

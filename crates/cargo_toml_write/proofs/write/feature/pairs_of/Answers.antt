@@ -3,11 +3,10 @@ use Rattle.std.proofs.lemmas.Result.{err_from_is_err_and}
 use Rattle.toml.specs.View.{view}
 use Rattle.cargo_toml_dependencies.specs.Details.{Detail, detail_of}
 use Rattle.cargo_toml_parts.specs.Reads.{map_meaning}
-use Rattle.cargo_toml_write.specs.Floatless.{feature_floatless}
-use Rattle.cargo_toml_write.specs.WrittenFeatures.{detail_under, feature_way}
+use Rattle.cargo_toml_write.specs.Lawful.{feature_lawful}
 use Rattle.cargo_toml_write.specs.Writes.{IsWriting}
-use Rattle.cargo_toml_write.proofs.Gathered.{Gathers, gather_start, gather_step, gather_end, gather_err}
-use Rattle.cargo_toml_write.proofs.GatheredFeatures.{by_name, detail_at-map, told-by_name, with_detail}
+use Rattle.cargo_toml_write.specs.WrittenDependencies.{detail_under, feature_way}
+use Rattle.cargo_toml_write.proofs.Gathered.{Gathers, gather_start, gather_step, gather_end, gather_err, by_name, detail_at-map, told-by_name, with_detail}
 use Rattle.cargo_toml_write.proofs.write.feature.pairs_of.Goals as goal
 
 pub loop-name-init : goal.loop-name-init
@@ -28,7 +27,7 @@ loop-name-preserved c =
     ∙ ap (λ (n : List ℕ). detail_under n details) c.as_str-in-loop-name.ensures.value in
     let tree = subst (λ (o : Option Detail). feature_way.trees (map string_bytes c.in-Some.enables.now.items, o) (view c.in_ok-feature_value.field-0)) said c.in_ok-feature_value.ensures in
     gather_step feature_way (with_detail details) _ _ _ _ (c.in-Some.name.now, (c.in-Some.name.now, c.in-Some.enables.now)) c.in_ok-key.key c.in_ok-feature_value.field-0
-    so_far tree (feature_floatless _ _ tree) same c.in_ok-push.ensures.items
+    so_far tree ((feature_lawful.each _).floatless _ tree) same c.in_ok-push.ensures.items
 
 pub returns-in_err-feature_value : goal.returns-in_err-feature_value
 returns-in_err-feature_value c =

@@ -7,10 +7,9 @@ use Rattle.cargo_toml_dependencies.specs.Details.{detail_of}
 use Rattle.cargo_toml_dependencies.specs.Features.{features_meaning}
 use Rattle.cargo_toml_write.specs.Pairs.{put_all}
 use Rattle.cargo_toml_write.specs.Ways.{Ascend}
-use Rattle.cargo_toml_write.specs.WrittenFeatures.{feature_way, told_features}
-use Rattle.cargo_toml_write.proofs.Gathered.{map_err}
-use Rattle.cargo_toml_write.proofs.GatheredFeatures.{features_err}
-use Rattle.cargo_toml_write.proofs.ReadAgainFeatures.{same_names}
+use Rattle.cargo_toml_write.specs.WrittenDependencies.{feature_way, told_features}
+use Rattle.cargo_toml_write.proofs.Gathered.{map_err, features_err}
+use Rattle.cargo_toml_write.proofs.ReadAgainDependencies.{same_names}
 use Rattle.cargo_toml_write.proofs.write.feature.FeaturesToValue.to_value.Goals as goal
 
 pub returns-in_err-pairs : goal.returns-in_err-pairs

@@ -1,13 +1,18 @@
 -- Lists and maps that are written entry by entry, and features each with what is said of it.
-use Rattle.std.proofs.Common.{◌≡◌, ◌⊎◌, inl, inr, ℕ, ◌+◌, ◌<◌, List, [], ◌∷◌, ◌++◌, map, length, get_or, drop, refl, sym, ap, ◌∙◌, append_assoc, Option, String, Global, string_bytes, IsTrue, Some, None, Err, Bool, true, false, cond, option_map, Result, Ok, Vec, nat_cmp}
+use Rattle.std.proofs.Common.{◌≡◌, ◌⊎◌, inl, inr, ℕ, ◌+◌, ◌<◌, List, [], ◌∷◌, ◌++◌, map, length, get_or, drop, refl, sym, ap, ◌∙◌, append_assoc, Option, String, Global, string_bytes, IsTrue, Some, None, Err, Bool, true, false, cond, option_map, Result, Ok, Vec, nat_cmp, subst, Ordering, Less, Greater}
 use Rattle.std.proofs.lemmas.List.{drop_more}
+use Rattle.std.specs.List.{AllByRecursion}
+use Rattle.std.specs.List.Sorted.{IsStrictlySortedBy}
 use Rattle.std.specs.Map.{keys_of, lookup}
+use Rattle.std.specs.Ordering.{match_ordering, ordering_reverse}
+use Rattle.std.specs.String.{string_cmp}
+use Rattle.std.proofs.lemmas.Cmp.{nat_list_cmp_total}
 use Rattle.std.specs.BTreeMap.{BTreeMap, get_by, is_at}
 use Rattle.std.specs.Cmp.Lexicographic.{slice_cmp}
 use Rattle.std.specs.Str.{bytes_eq}
 use Rattle.std.proofs.lemmas.Map.Text.{is_eq-slice_cmp}
-use Rattle.toml.specs.Data.{Data, array, Items, no_items, item, Members, no_members}
-use Rattle.toml.specs.View.{view, items_view}
+use Rattle.toml.specs.Data.{Data, array, Items, no_items, item, Members, no_members, member}
+use Rattle.toml.specs.View.{view, items_view, members_view}
 use Rattle.toml.specs.declared.value.Value.{Value}
 use Rattle.toml.proofs.Views.{Entry}
 use Rattle.cargo_toml_dependencies.specs.declared.target.FeatureDetail.{FeatureDetail}
@@ -16,7 +21,7 @@ use Rattle.cargo_toml_dependencies.specs.Features.{FeaturesMeaning}
 use Rattle.cargo_toml_parts.specs.declared.error.Error.{Error, Memory}
 use Rattle.cargo_toml_parts.specs.Floats.{has_no_float}
 use Rattle.cargo_toml_parts.specs.Reads.{map_meaning, pairs_meaning}
-use Rattle.cargo_toml_write.specs.Pairs.{put_all, AreGathered}
+use Rattle.cargo_toml_write.specs.Pairs.{AreGathered}
 use Rattle.cargo_toml_write.specs.Ways.{AreItems, ItemsRefused, list_way, entry_rows, Ascend, map_way, texts_way}
 use Rattle.cargo_toml_write.specs.Writes.{Way, WritesFrom, IsWriting, table_way, IsHeld, AreRefused, AreWritten, required_row, put_member}
 use Rattle.cargo_toml_write.specs.WrittenDependencies.{detail_under, features_way, told_features, feature_way}
@@ -81,32 +86,94 @@ abbrev pub RestWrites : {X M : Type 0} → Way M → (X → M) → List (String 
 RestWrites way meaning es a old rest b mid =
     (c : Option Error) (new : Members) → WritesFrom (entry_rows way (meant meaning rest)) b mid c new → WritesFrom (entry_rows way (meant meaning es)) a old c new
 
-put_last : (ps : List Entry) (p : Entry) (ms : Members) → put_all (ps ++ p ∷ []) ms ≡ put_member (string_bytes p.0) (view p.1) (put_all ps ms)
-put_last [] p ms = refl
-put_last (q ∷ ps) p ms = put_last ps p (put_member (string_bytes q.0) (view q.1) ms)
+-- each of some keys is below a key
+abbrev AreBelow : List (String Global) → String Global → Type 0
+AreBelow ks e = AllByRecursion (λ k. slice_cmp nat_cmp (string_bytes e) (string_bytes k) ≡ Greater) ks
+
+nothing_below : (es : List (String Global)) → AllByRecursion (AreBelow []) es
+nothing_below [] = tt
+nothing_below (e ∷ es) = (tt, nothing_below es)
+
+-- and so they are once another key that is below was put behind them
+below_more : (ks : List (String Global)) (e f k : String Global) → string_bytes k ≡ string_bytes e → string_cmp e f ≡ Less → AreBelow ks f → AreBelow (ks ++ k ∷ []) f
+below_more [] e f k same less h = (rw same (nat_list_cmp_total.antisymm (string_bytes f) (string_bytes e) ∙ ap ordering_reverse less), tt)
+below_more (x ∷ ks) e f k same less h = (h.0, below_more ks e f k same less h.1)
+
+all_below_more : (ks fs : List (String Global)) (e k : String Global) → string_bytes k ≡ string_bytes e → AllByRecursion (λ f. string_cmp e f ≡ Less) fs → AllByRecursion (AreBelow ks) fs
+    → AllByRecursion (AreBelow (ks ++ k ∷ [])) fs
+all_below_more ks [] e k same less h = tt
+all_below_more ks (f ∷ fs) e k same less h = (below_more ks e f k same less.0 h.0, all_below_more ks fs e k same less.1 h.1)
+
+above_last : (x : String Global) (ks : List (String Global)) (k : String Global) → string_cmp x k ≡ Less → AllByRecursion (λ y. string_cmp x y ≡ Less) ks
+    → AllByRecursion (λ y. string_cmp x y ≡ Less) (ks ++ k ∷ [])
+above_last x [] k less h = (less, tt)
+above_last x (y ∷ ks) k less h = (h.0, above_last x ks k less h.1)
+
+ascend_last : (ks : List (String Global)) (e k : String Global) → string_bytes k ≡ string_bytes e → AreBelow ks e → IsStrictlySortedBy string_cmp ks → IsStrictlySortedBy string_cmp (ks ++ k ∷ [])
+unfolding IsStrictlySortedBy
+ascend_last [] e k same h all = (tt, tt)
+ascend_last (x ∷ ks) e k same h all =
+    let above : slice_cmp nat_cmp (string_bytes k) (string_bytes x) ≡ Greater = rw same h.0 in
+    (above_last x ks k (nat_list_cmp_total.antisymm (string_bytes x) (string_bytes k) ∙ ap ordering_reverse above) all.0, ascend_last ks e k same h.1 all.1)
+
+keys_last : (ps : List Entry) (k : String Global) (v : Value) → keys_of ps ++ k ∷ [] ≡ keys_of (ps ++ (k, v) ∷ [])
+keys_last [] k v = refl
+keys_last (p ∷ ps) k v = ap (λ ks. p.0 ∷ ks) (keys_last ps k v)
+
+-- a pair behind others is put at its key, where those are below it
+put_last : (ps : List Entry) (e k : String Global) (v : Value) → string_bytes k ≡ string_bytes e → AreBelow (keys_of ps) e
+    → members_view (ps ++ (k, v) ∷ []) ≡ put_member (string_bytes e) (view v) (members_view ps)
+put_last [] e k v same h = ap (λ bs. member bs (view v) no_members) same
+put_last (p ∷ ps) e k v same h =
+    let rest = members_view ps in
+    let whole = member (string_bytes p.0) (view p.1) rest in
+    ap (member (string_bytes p.0) (view p.1)) (put_last ps e k v same h.1)
+    ∙ sym (ap (λ (o : Ordering). match_ordering o (member (string_bytes e) (view v) whole) (member (string_bytes p.0) (view v) rest) (member (string_bytes p.0) (view p.1) (put_member (string_bytes e) (view v) rest))) h.0)
+
+-- a table that is made of pairs has these as its members
+abbrev members_meant : List (List ℕ × Value) → Members
+members_meant [] = no_members
+members_meant (e ∷ es) = member e.0 (view e.1) (members_meant es)
+
+meant_members : (es : List Entry) → members_view es ≡ members_meant (pairs_meaning (λ x. x) es)
+meant_members [] = refl
+meant_members (e ∷ es) = ap (member (string_bytes e.0) (view e.1)) (meant_members es)
+
+pub same_members : (es fs : List Entry) → pairs_meaning (λ x. x) es ≡ pairs_meaning (λ x. x) fs → members_view es ≡ members_view fs
+same_members es fs same = meant_members es ∙ ap members_meant same ∙ sym (meant_members fs)
 
 module _ {X M : Type 0} (way : Way M) (meaning : X → M) where
-  -- with the rest of a map, what was gathered so far makes the table of the whole
-  abbrev pub Gathers : List (String Global × X) → List (String Global × X) → List Entry → Type 0
-  Gathers es rest ps = RestWrites way meaning es None no_members rest None (put_all ps no_members)
+  -- with the rest of a map, what was gathered so far makes the table of the whole; and keys ascend
+  pub record Gathers (es rest : List (String Global × X)) (ps : List Entry) : Type 0 where
+    pub writes : RestWrites way meaning es None no_members rest None (members_view ps)
+    pub sorted : IsStrictlySortedBy string_cmp (keys_of rest)
+    pub ascend : IsStrictlySortedBy string_cmp (keys_of ps)
+    pub after : AllByRecursion (AreBelow (keys_of ps)) (keys_of rest)
 
-  pub gather_start : (es rest : List (String Global × X)) (ps : List Entry) → rest ≡ es → ps ≡ [] → Gathers es rest ps
-  gather_start es rest ps whole empty = rw (whole, empty) (λ c new h. h)
+  pub gather_start : (es rest : List (String Global × X)) (ps : List Entry) → rest ≡ es → IsStrictlySortedBy string_cmp (keys_of rest) → ps ≡ [] → Gathers es rest ps
+  unfolding IsStrictlySortedBy
+  gather_start es rest ps whole sorted empty =
+      rw (← whole, empty) (record { writes = λ c new h. h; sorted = sorted; ascend = tt; after = nothing_below (keys_of rest) })
 
   pub gather_step : (es rest : List (String Global × X)) (ps ns : List Entry) (e : String Global × X) (k : String Global) (v : Value)
       → Gathers es (e ∷ rest) ps → way.trees (meaning e.1) (view v) → IsTrue (has_no_float (view v)) → string_bytes k ≡ string_bytes e.0 → ns ≡ ps ++ (k, v) ∷ [] → Gathers es rest ns
+  unfolding IsStrictlySortedBy
   gather_step es rest ps ns e k v so_far tree free same more =
-      let mid : Members = put_all ps no_members in
-      let next : put_all ns no_members ≡ put_member (string_bytes e.0) (view v) mid =
-      ap (λ xs. put_all xs no_members) more ∙ put_last ps (k, v) no_members ∙ ap (λ bs. put_member bs (view v) mid) same in
-      λ c new h.
-      so_far c new (both (required_row (string_bytes e.0) way (meaning e.1) ∷ []) (entry_rows way (meant meaning rest)) None None c mid (put_all ns no_members) new
-      (is_put (string_bytes e.0) way (meaning e.1) (view v) None mid (put_all ns no_members) refl tree free next) h)
+      let row = required_row (string_bytes e.0) way (meaning e.1) ∷ [] in
+      let mid : Members = members_view (ps ++ (k, v) ∷ []) in
+      rw more (record {
+        writes = λ c new h. so_far.writes c new (both row (entry_rows way (meant meaning rest)) None None c (members_view ps) mid new
+            (is_put (string_bytes e.0) way (meaning e.1) (view v) None (members_view ps) mid refl tree free (put_last ps e.0 k v same so_far.after.0)) h);
+        sorted = so_far.sorted.1;
+        ascend = subst (λ (ks : List (String Global)). IsStrictlySortedBy string_cmp ks) (keys_last ps k v) (ascend_last (keys_of ps) e.0 k same so_far.after.0 so_far.ascend);
+        after = subst (λ (ks : List (String Global)). AllByRecursion (AreBelow ks) (keys_of rest)) (keys_last ps k v)
+            (all_below_more (keys_of ps) (keys_of rest) e.0 k same so_far.sorted.0 so_far.after.1);
+      })
 
   pub gather_end : (es rest : List (String Global × X)) (ps : List Entry) → Gathers es rest ps → rest ≡ []
-      → AreWritten (entry_rows way (meant meaning es)) no_members (put_all ps no_members)
+      → AreWritten (entry_rows way (meant meaning es)) no_members (members_view ps)
   unfolding WritesFrom
-  gather_end es rest ps so_far nothing = so_far None (put_all ps no_members) (rw nothing refl)
+  gather_end es rest ps so_far nothing = so_far.writes None (members_view ps) (rw nothing refl)
 
   not_held : (x : M) → ((d : Data) → ¬ (way.trees x d)) → (o : Option Data) → ¬ (IsHeld way (Some x) o)
   not_held x none None h = h
@@ -120,7 +187,7 @@ module _ {X M : Type 0} (way : Way M) (meaning : X → M) where
   pub gather_err : (es rest : List (String Global × X)) (ps : List Entry) (e : String Global × X) (fault : Error)
       → Gathers es (e ∷ rest) ps → IsWriting way (meaning e.1) (Err fault) → AreGathered (entry_rows way (meant meaning es)) (Err fault)
   unfolding WritesFrom
-  gather_err es rest ps e fault so_far refused = so_far (Some fault) no_members (stops es rest e fault refused)
+  gather_err es rest ps e fault so_far refused = so_far.writes (Some fault) no_members (stops es rest e fault refused)
 
 -- a map of which an entry is refused has no tree
 pub map_err : {M : Type 0} (way : Way M) (es : List (List ℕ × M)) (fault : Error)
@@ -164,6 +231,10 @@ module _ (details : List (List ℕ × Detail)) where
   -- features as the values of their names
   abbrev pub by_name : List Feature → List (String Global × Feature)
   by_name fs = map (λ f. (f.0, f)) fs
+
+  pub names-by_name : (fs : List Feature) → keys_of fs ≡ keys_of (by_name fs)
+  names-by_name [] = refl
+  names-by_name (f ∷ fs) = ap (λ ks. f.0 ∷ ks) (names-by_name fs)
 
   pub told-by_name : (fs : List Feature) → meant with_detail (by_name fs) ≡ told_features (pairs_meaning (λ v. map string_bytes v.items) fs, details)
   told-by_name [] = refl

@@ -1,4 +1,3 @@
-pub mod Collected
 pub mod Gathered
 pub mod ReadAgain
 pub mod ReadAgainDependencies

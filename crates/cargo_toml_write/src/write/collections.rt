@@ -1,19 +1,21 @@
 //! Lists and maps of what can be written, and values that a workspace may give.
-ghost use Rattle.std.specs.Prelude.{◌≡◌, ℕ, IfOk, List, map};
-ghost use Rattle.toml.specs.Data.{no_members};
-ghost use Rattle.toml.specs.View.{table_view};
+ghost use Rattle.std.specs.Prelude.{ℕ, IfOk, List, map};
+ghost use Rattle.std.specs.List.Sorted.{IsStrictlySortedBy};
+ghost use Rattle.std.specs.Map.{keys_of};
+ghost use Rattle.std.specs.String.{string_cmp};
 ghost use Rattle.cargo_toml_parts.specs.declared.inheritable.Inheritable.{Inheritable};
 ghost use Rattle.cargo_toml_parts.specs.Inherits.{inheritable_map};
 ghost use Rattle.cargo_toml_parts.specs.Reads.{map_meaning};
 ghost use Rattle.cargo_toml_write.specs.Lawful.{inheritable_lawful, list_lawful, map_lawful};
-ghost use Rattle.cargo_toml_write.specs.Pairs.{AreGathered, put_all};
+ghost use Rattle.cargo_toml_write.specs.Pairs.{AreGathered};
 ghost use Rattle.cargo_toml_write.specs.Ways.{entry_rows, map_way, inheritable_way, inherited_tree};
 ghost use Rattle.cargo_toml_write.specs.Ways.{list_way, exactly};
 ghost use Rattle.cargo_toml_write.specs.Writes.{IsWriting};
 
 use crate::write::{LeftOut, ToValue, put};
+use cargo_toml_parts::read::map_of_pairs;
 use cargo_toml_parts::{Error, Inheritable};
-use std::alloc::{AllocError, Global};
+use std::alloc::Global;
 use std::collections::BTreeMap;
 use toml::{Table, Value};
 
@@ -47,7 +49,8 @@ fn pairs_of<T: ToValue>(
     alloc: Global,
     map: &BTreeMap<String, T>,
 ) -> Result<Vec<(String, Value)>, Error>
-    ensures { AreGathered (entry_rows T.way (map_meaning T.meaning map.now)) result }
+    ensures rows { AreGathered (entry_rows T.way (map_meaning T.meaning map.now)) result }
+    ensures ascend { IfOk result (λ v. IsStrictlySortedBy string_cmp (keys_of v.items)) }
 {
     let mut pairs = Vec::with_capacity(alloc, map.len())?;
     for (key, x) in map.iter() {
@@ -55,14 +58,6 @@ fn pairs_of<T: ToValue>(
         pairs.push((name, x.to_value(alloc)?))?;
     }
     Ok(pairs)
-}
-
-// The table of some pairs. It is made in one go: to insert them one by one looks each
-// key up from the root.
-pub(crate) fn table_of(alloc: Global, pairs: Vec<(String, Value)>) -> Result<Table, AllocError>
-    ensures { IfOk result (λ t. table_view t ≡ put_all pairs.items no_members) }
-{
-    pairs.into_iter().collect(alloc)
 }
 
 impl<T: ToValue> ToValue for BTreeMap<String, T> {
@@ -77,7 +72,7 @@ impl<T: ToValue> ToValue for BTreeMap<String, T> {
     fn to_value(&self, alloc: Global) -> Result<Value, Error> {
         let _ascend = self.len();
         let pairs = pairs_of(alloc, self)?;
-        let table = table_of(alloc, pairs)?;
+        let table = map_of_pairs(alloc, pairs)?;
         Ok(Value::Table(table))
     }
 }

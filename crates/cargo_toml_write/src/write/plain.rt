@@ -10,8 +10,8 @@ ghost use Rattle.cargo_toml_write.specs.Lawful.{free_lawful, small_lawful, truth
 ghost use Rattle.cargo_toml_write.specs.Lawful.{number_lawful, requirement_lawful, version_lawful};
 ghost use Rattle.cargo_toml_write.specs.Lawful.{text_lawful};
 ghost use Rattle.cargo_toml_write.specs.Requirements.{CanBeRead};
-ghost use Rattle.cargo_toml_write.specs.Ways.{text_way, free_way, truth_way};
-ghost use Rattle.cargo_toml_write.specs.Ways.{small_way, number_way, version_way, requirement_way};
+ghost use Rattle.cargo_toml_write.specs.Ways.{text_way, free_way, small_way};
+ghost use Rattle.cargo_toml_write.specs.Ways.{truth_way, number_way, version_way, requirement_way};
 ghost use Rattle.cargo_toml_write.specs.Writes.{IsReadAgain, IsWriting};
 
 use crate::write::ToValue;

@@ -19,3 +19,6 @@ pub returns-in-Detailed-clause-read_again : goal.returns-in-Detailed-clause-read
 returns-in-Detailed-clause-read_again c = rw (c.in-Detailed.is, ← c.deref.ensures) (λ told.
     let x = detail_meaning c.deref.result.now in
     reads_again detail_lawful x dependency_of (detailed x) c.to_value-in-Detailed.result c.to_value-in-Detailed.ensures.written (dependency_again (detailed x) told))
+
+pub returns-in-Detailed-clause-memory : goal.returns-in-Detailed-clause-memory
+returns-in-Detailed-clause-memory c = rw (c.in-Detailed.is, ← c.deref.ensures) c.to_value-in-Detailed.ensures.memory

@@ -15,7 +15,7 @@ pub returns : goal.returns
 returns g c =
     let way = g.Metadata.ToValue.way in
     let manifest = manifest_meaning g.Metadata.ToValue.meaning c.args.self.now in
-    let law = manifest_lawful way g.met.Metadata.ToValue.lawful in
+    let lawful = manifest_lawful way g.met.Metadata.ToValue.lawful in
     let features : FeaturesMeaning = all_features manifest in
     let lent : FeaturesMeaning = features_meaning c.of-features.result.lists.now c.of-features.result.details.now in
     let same : lent ≡ features = rw (c.of-features.ensures.lists, c.of-features.ensures.details) refl in
@@ -28,10 +28,10 @@ returns g c =
     record {
       written = written;
       read_again = λ told law.
-          reads_again law manifest (manifest_reads g.Metadata.FromValue.from_tree) (reread (manifest_meaning g.Metadata.FromValue.meaning c.args.self.now)) c.finish.result written
+          reads_again lawful manifest (manifest_reads g.Metadata.FromValue.from_tree) (reread (manifest_meaning g.Metadata.FromValue.meaning c.args.self.now)) c.finish.result written
           (manifest_again way g.Metadata.ToValue.meaning g.Metadata.FromValue.meaning g.Metadata.FromValue.from_tree law c.args.self.now told);
       features_again = λ told.
-          reads_again law manifest features_in features c.finish.result written
+          reads_again lawful manifest features_in features c.finish.result written
           (manifest_features way manifest told);
-      memory = alone law manifest c.finish.result written;
+      memory = alone lawful manifest c.finish.result written;
     }

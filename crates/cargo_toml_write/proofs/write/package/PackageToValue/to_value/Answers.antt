@@ -11,7 +11,7 @@ returns g c =
     let way = g.Metadata.ToValue.way in
     let meaning = g.Metadata.ToValue.meaning in
     let held = package_meaning meaning c.args.self.now in
-    let law = package_lawful way g.met.Metadata.ToValue.lawful in
+    let lawful = package_lawful way g.met.Metadata.ToValue.lawful in
     let written = ends (package_rows way) held c.finish.result c.new-writing.ensures.no_fault c.new-writing.ensures.no_key
     (c.required.ensures then c.required-2.ensures then c.required-3.ensures then c.optional.ensures then
     c.optional-2.ensures then c.optional-3.ensures then c.given.ensures then c.optional-4.ensures then
@@ -24,7 +24,7 @@ returns g c =
     record {
       written = written;
       read_again = λ version metadata.
-          reads_again law held (package_reads g.Metadata.FromValue.from_tree) (package_meaning g.Metadata.FromValue.meaning c.args.self.now) c.finish.result written
+          reads_again lawful held (package_reads g.Metadata.FromValue.from_tree) (package_meaning g.Metadata.FromValue.meaning c.args.self.now) c.finish.result written
           (package_again way meaning g.Metadata.FromValue.meaning g.Metadata.FromValue.from_tree c.args.self.now version metadata);
-      memory = alone law held c.finish.result written;
+      memory = alone lawful held c.finish.result written;
     }

@@ -1,3 +1,4 @@
+pub mod CompletedTold
 pub mod Gathered
 pub mod ReadAgain
 pub mod ReadAgainDependencies

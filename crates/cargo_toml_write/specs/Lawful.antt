@@ -29,24 +29,11 @@ use Rattle.cargo_toml_write.specs.Ways.{exactly, HoldsNoFloat, entry_rows, free_
 use Rattle.cargo_toml_write.specs.Ways.{requirement_way, list_way, map_way, inheritable_way}
 use Rattle.cargo_toml_write.specs.Ways.{AreItems, ItemsAsk, ItemsRefused, Ascend, is_nil}
 use Rattle.cargo_toml_write.specs.Ways.{text_way, truth_way, small_way, version_way, texts_way}
-use Rattle.cargo_toml_write.specs.WrittenDependencies.{inherited_rows, inherited_way, known_rows}
-use Rattle.cargo_toml_write.specs.WrittenDependencies.{detail_rows, detail_way, dependency_way}
-use Rattle.cargo_toml_write.specs.WrittenDependencies.{dependencies_way, target_rows, target_way}
-use Rattle.cargo_toml_write.specs.WrittenDependencies.{told_features, told_rows, told_way}
-use Rattle.cargo_toml_write.specs.WrittenDependencies.{feature_way, features_way}
+use Rattle.cargo_toml_write.specs.WrittenDependencies as dependencies
 use Rattle.cargo_toml_write.specs.WrittenManifests.{manifest_rows, manifest_way}
-use Rattle.cargo_toml_write.specs.WrittenPackages.{package_rows, package_way, template_rows}
-use Rattle.cargo_toml_write.specs.WrittenPackages.{template_way, workspace_rows, workspace_way}
-use Rattle.cargo_toml_write.specs.WrittenSettings.{edition_way, resolver_way, level_way, level_text}
-use Rattle.cargo_toml_write.specs.WrittenSettings.{status_way, status_text, file_way, file_tree}
-use Rattle.cargo_toml_write.specs.WrittenSettings.{is_usual, publish_way, debug_way, debug_tree}
-use Rattle.cargo_toml_write.specs.WrittenSettings.{strip_way, strip_tree, lto_way, lto_tree}
-use Rattle.cargo_toml_write.specs.WrittenTables.{product_rows, profiles_rows, table_lint_way}
-use Rattle.cargo_toml_write.specs.WrittenTables.{product_way, profile_way, badge_rows, badges_rows}
-use Rattle.cargo_toml_write.specs.WrittenTables.{profile_rows, profiles_way, lint_way, has_no_badge}
-use Rattle.cargo_toml_write.specs.WrittenTables.{known_profiles, has_no_profile, is_level_alone}
-use Rattle.cargo_toml_write.specs.WrittenTables.{lint_rows, badge_way, badges_way}
-use Rattle.cargo_toml_write.specs.WrittenTables.{lint_groups_way, maintenance_rows, maintenance_way}
+use Rattle.cargo_toml_write.specs.WrittenPackages as packages
+use Rattle.cargo_toml_write.specs.WrittenSettings as settings
+use Rattle.cargo_toml_write.specs.WrittenTables as tables
 use Rattle.cargo_toml_write.specs.Writes.{Way, IsLawfulAt, AreRefused, AreWritten, plain_table_way}
 use Rattle.cargo_toml_write.specs.Writes.{AreLawful, IsLawful, IsRefused, put_member, table_way}
 use Rattle.cargo_toml_write.specs.Writes.{Row, IsHeld, RowsAsk, put_some, telling}
@@ -284,24 +271,24 @@ version_lawful = word_lawful parts_text
 pub requirement_lawful : IsLawful requirement_way
 requirement_lawful = word_lawful requirement_text
 
-pub edition_lawful : IsLawful edition_way
+pub edition_lawful : IsLawful settings.edition_way
 edition_lawful = word_lawful edition_text
 
-pub resolver_lawful : IsLawful resolver_way
+pub resolver_lawful : IsLawful settings.resolver_way
 resolver_lawful = word_lawful resolver_text
 
-pub level_lawful : IsLawful level_way
-level_lawful = word_lawful level_text
+pub level_lawful : IsLawful settings.level_way
+level_lawful = word_lawful settings.level_text
 
-pub status_lawful : IsLawful status_way
-status_lawful = word_lawful status_text
+pub status_lawful : IsLawful settings.status_way
+status_lawful = word_lawful settings.status_text
 
-pub file_lawful : IsLawful file_way
+pub file_lawful : IsLawful settings.file_way
 file_lawful =
-    leaving_lawful (exactly file_tree) is_usual
-    (exactly_lawful file_tree (elim [ flag b ↦ refl | path p ↦ refl ]))
+    leaving_lawful (exactly settings.file_tree) settings.is_usual
+    (exactly_lawful settings.file_tree (elim [ flag b ↦ refl | path p ↦ refl ]))
 
-published : (x : Registries) → IsLawfulAt publish_way x
+published : (x : Registries) → IsLawfulAt settings.publish_way x
 published (everywhere b) = record {
   floatless = λ d is. subst HoldsNoFloat (sym is) refl;
   only = λ d is. tt;
@@ -313,109 +300,120 @@ published (among names) = record {
   never = λ asked. (texts_lawful.each names).never (texts_lawful.nothing refl names);
 }
 
-pub publish_lawful : IsLawful publish_way
+pub publish_lawful : IsLawful settings.publish_way
 publish_lawful = record { each = published; nothing = λ is x. tt }
 
-pub debug_lawful : IsLawful debug_way
+pub debug_lawful : IsLawful settings.debug_way
 debug_lawful =
-    exactly_lawful debug_tree (elim [ debug.None ↦ refl | debug.Lines ↦ refl | debug.Full ↦ refl ])
+    exactly_lawful settings.debug_tree
+    (elim [ debug.None ↦ refl | debug.Lines ↦ refl | debug.Full ↦ refl ])
 
-pub strip_lawful : IsLawful strip_way
+pub strip_lawful : IsLawful settings.strip_way
 strip_lawful =
-    exactly_lawful strip_tree
+    exactly_lawful settings.strip_tree
     (elim [ strip.None ↦ refl | strip.Debuginfo ↦ refl | strip.Symbols ↦ refl ])
 
-pub lto_lawful : IsLawful lto_way
+pub lto_lawful : IsLawful settings.lto_way
 lto_lawful =
-    exactly_lawful lto_tree
+    exactly_lawful settings.lto_tree
     (elim [ lto.None ↦ refl | lto.ThinLocal ↦ refl | lto.Thin ↦ refl | lto.Fat ↦ refl ])
 
 ruleset values =
     (text_lawful, texts_lawful, truth_lawful, number_lawful, version_lawful, requirement_lawful)
 
-ruleset settings =
-    (edition_lawful, resolver_lawful, file_lawful, publish_lawful, debug_lawful, strip_lawful, lto_lawful)
+ruleset single = (
+  edition_lawful,
+  resolver_lawful,
+  file_lawful,
+  publish_lawful,
+  debug_lawful,
+  strip_lawful,
+  lto_lawful,
+)
 
 -- products, badges, profiles and lints
-pub product_lawful : IsLawful product_way
+pub product_lawful : IsLawful tables.product_way
 product_lawful =
-    plain_lawful product_rows (λ p. search (values, settings) depth 40 fits 4000) (λ p. tt)
+    plain_lawful tables.product_rows (λ p. search (values, single) depth 40 fits 4000) (λ p. tt)
 
-pub badge_lawful : IsLawful badge_way
-badge_lawful = plain_lawful badge_rows (λ b. search text_lawful depth 20) (λ b. tt)
+pub badge_lawful : IsLawful tables.badge_way
+badge_lawful = plain_lawful tables.badge_rows (λ b. search text_lawful depth 20) (λ b. tt)
 
-pub maintenance_lawful : IsLawful maintenance_way
-maintenance_lawful = plain_lawful maintenance_rows (λ s. (status_lawful, tt)) (λ s. tt)
+pub maintenance_lawful : IsLawful tables.maintenance_way
+maintenance_lawful = plain_lawful tables.maintenance_rows (λ s. (status_lawful, tt)) (λ s. tt)
 
-pub badges_lawful : IsLawful badges_way
+pub badges_lawful : IsLawful tables.badges_way
 badges_lawful =
-    leaving_lawful (plain_table_way badges_rows) has_no_badge
-    (plain_lawful badges_rows (λ b. search (badge_lawful, maintenance_lawful) depth 30) (λ b. tt))
+    leaving_lawful (plain_table_way tables.badges_rows) tables.has_no_badge
+    (plain_lawful tables.badges_rows
+    (λ b. search (badge_lawful, maintenance_lawful) depth 30) (λ b. tt))
 
 free_map : IsLawful (map_way free_way)
 free_map = map_lawful free_way free_lawful
 
-pub profile_lawful : IsLawful profile_way
+pub profile_lawful : IsLawful tables.profile_way
 profile_lawful =
-    table_lawful profile_rows
-    (λ p. search (values, settings, free_lawful, free_map) depth 40 fits 4000)
+    table_lawful tables.profile_rows
+    (λ p. search (values, single, free_lawful, free_map) depth 40 fits 4000)
 
-pub profiles_lawful : IsLawful profiles_way
+pub profiles_lawful : IsLawful tables.profiles_way
 profiles_lawful =
-    leaving_lawful _ has_no_profile (telling_lawful (λ p. Ascend (keys_of p.custom)) _
-    (table_lawful profiles_rows (λ p. entries_lawful profile_way profile_lawful p.custom
-    (known_profiles p) (search profile_lawful depth 20))))
+    leaving_lawful _ tables.has_no_profile (telling_lawful (λ p. Ascend (keys_of p.custom)) _
+    (table_lawful tables.profiles_rows
+    (λ p. entries_lawful tables.profile_way profile_lawful p.custom
+    (tables.known_profiles p) (search profile_lawful depth 20))))
 
-table_lint_lawful : IsLawful table_lint_way
+table_lint_lawful : IsLawful tables.table_lint_way
 table_lint_lawful =
-    telling_lawful (λ l. Ascend (keys_of l.config)) _ (table_lawful lint_rows
+    telling_lawful (λ l. Ascend (keys_of l.config)) _ (table_lawful tables.lint_rows
     (λ l. entries_lawful free_way free_lawful l.config _ (level_lawful, (small_lawful, tt))))
 
 lint_at : (b : Bool) (l : LintMeaning)
-    → AreLawful (λ d. MatchBool b (level_way.trees l.level d) (table_lint_way.trees l d))
-    (MatchBool b (Unit {0}) (table_lint_way.asks l))
-    (λ e. MatchBool b (level_way.refuses l.level e) (table_lint_way.refuses l e))
+    → AreLawful
+    (λ d. MatchBool b (settings.level_way.trees l.level d) (tables.table_lint_way.trees l d))
+    (MatchBool b (Unit {0}) (tables.table_lint_way.asks l))
+    (λ e. MatchBool b (settings.level_way.refuses l.level e) (tables.table_lint_way.refuses l e))
 lint_at true l = level_lawful.each l.level
 lint_at false l = table_lint_lawful.each l
 
-pub lint_lawful : IsLawful lint_way
+pub lint_lawful : IsLawful tables.lint_way
 lint_lawful = record {
-  each = λ l. lint_at (is_level_alone l) l;
+  each = λ l. lint_at (tables.is_level_alone l) l;
   nothing = λ is l. absurd (false≢true is);
 }
 
-pub lint_groups_lawful : IsLawful lint_groups_way
-lint_groups_lawful = map_lawful _ (map_lawful lint_way lint_lawful)
+pub lint_groups_lawful : IsLawful tables.lint_groups_way
+lint_groups_lawful = map_lawful _ (map_lawful tables.lint_way lint_lawful)
 
 -- dependencies and features
-pub inherited_lawful : IsLawful inherited_way
-inherited_lawful = plain_lawful inherited_rows (λ i. search values depth 20) (λ i. tt)
+pub inherited_lawful : IsLawful dependencies.inherited_way
+inherited_lawful = plain_lawful dependencies.inherited_rows (λ i. search values depth 20) (λ i. tt)
 
-pub detail_lawful : IsLawful detail_way
+pub detail_lawful : IsLawful dependencies.detail_way
 detail_lawful =
-    telling_lawful (λ d. Ascend (keys_of d.unstable)) _ (table_lawful detail_rows
-    (λ d. entries_lawful free_way free_lawful d.unstable (known_rows d)
+    telling_lawful (λ d. Ascend (keys_of d.unstable)) _ (table_lawful dependencies.detail_rows
+    (λ d. entries_lawful free_way free_lawful d.unstable (dependencies.known_rows d)
     (search values depth 40 fits 4000)))
 
-dependency_at : (x : DependencyMeaning) → IsLawfulAt dependency_way x
+dependency_at : (x : DependencyMeaning) → IsLawfulAt dependencies.dependency_way x
 dependency_at (kind.simple r) = requirement_lawful.each r
 dependency_at (kind.inherited i) = inherited_lawful.each i
 dependency_at (kind.detailed x) = detail_lawful.each x
 
-pub dependency_lawful : IsLawful dependency_way
+pub dependency_lawful : IsLawful dependencies.dependency_way
 dependency_lawful = record { each = dependency_at; nothing = λ is x. absurd (false≢true is) }
 
-pub dependencies_lawful : IsLawful dependencies_way
-dependencies_lawful = map_lawful dependency_way dependency_lawful
+pub dependencies_lawful : IsLawful dependencies.dependencies_way
+dependencies_lawful = map_lawful dependencies.dependency_way dependency_lawful
 
-pub target_lawful : IsLawful target_way
-target_lawful = table_lawful target_rows (λ t. search dependencies_lawful depth 20)
+pub target_lawful : IsLawful dependencies.target_way
+target_lawful = table_lawful dependencies.target_rows (λ t. search dependencies_lawful depth 20)
 
-told_lawful : IsLawful told_way
-told_lawful = plain_lawful told_rows (λ f. search values depth 20) (λ f. tt)
+told_lawful : IsLawful dependencies.told_way
+told_lawful = plain_lawful dependencies.told_rows (λ f. search values depth 20) (λ f. tt)
 
 feature_at : (enables : List (List ℕ)) (detail : Option Detail)
-    → IsLawfulAt feature_way (enables, detail)
+    → IsLawfulAt dependencies.feature_way (enables, detail)
 feature_at enables None = record {
   floatless = (texts_lawful.each enables).floatless;
   only = λ d tree. tt;
@@ -423,22 +421,23 @@ feature_at enables None = record {
 }
 feature_at enables (Some detail) = told_lawful.each (enables, detail)
 
-pub feature_lawful : IsLawful feature_way
+pub feature_lawful : IsLawful dependencies.feature_way
 feature_lawful = record { each = λ f. feature_at f.0 f.1; nothing = λ is f. tt }
 
 no_entry : (es : List (List ℕ × (List (List ℕ) × Option Detail)))
-    → RowsAsk (entry_rows feature_way es)
+    → RowsAsk (entry_rows dependencies.feature_way es)
 no_entry [] = tt
 no_entry (e ∷ es) = no_entry es
 
-pub features_lawful : IsLawful features_way
+pub features_lawful : IsLawful dependencies.features_way
 features_lawful = record {
   each = λ fs.
-      let law = (map_lawful feature_way feature_lawful).each (told_features fs) in
+      let law =
+      (map_lawful dependencies.feature_way feature_lawful).each (dependencies.told_features fs) in
       record {
         floatless = λ d (ascend, tree). law.floatless d tree;
         only = λ d tree. tt;
-        never = λ asked. law.never (no_entry (told_features fs));
+        never = λ asked. law.never (no_entry (dependencies.told_features fs));
       };
   nothing = λ is fs. tt;
 }
@@ -453,52 +452,58 @@ either_texts = inheritable_lawful texts_way texts_lawful
 either_version : IsLawful (inheritable_way version_way)
 either_version = inheritable_lawful version_way version_lawful
 
-either_edition : IsLawful (inheritable_way edition_way)
-either_edition = inheritable_lawful edition_way edition_lawful
+either_edition : IsLawful (inheritable_way settings.edition_way)
+either_edition = inheritable_lawful settings.edition_way edition_lawful
 
-either_file : IsLawful (inheritable_way file_way)
-either_file = inheritable_lawful file_way file_lawful
+either_file : IsLawful (inheritable_way settings.file_way)
+either_file = inheritable_lawful settings.file_way file_lawful
 
-either_publish : IsLawful (inheritable_way publish_way)
-either_publish = inheritable_lawful publish_way publish_lawful
+either_publish : IsLawful (inheritable_way settings.publish_way)
+either_publish = inheritable_lawful settings.publish_way publish_lawful
 
-either_lints : IsLawful (inheritable_way lint_groups_way)
-either_lints = inheritable_lawful lint_groups_way lint_groups_lawful
+either_lints : IsLawful (inheritable_way tables.lint_groups_way)
+either_lints = inheritable_lawful tables.lint_groups_way lint_groups_lawful
 
-pub template_lawful : IsLawful template_way
+pub template_lawful : IsLawful packages.template_way
 template_lawful =
-    plain_lawful template_rows (λ t. search (values, settings) depth 40 fits 4000) (λ t. tt)
+    plain_lawful packages.template_rows (λ t. search (values, single) depth 40 fits 4000) (λ t. tt)
 
-products_lawful : IsLawful (list_way product_way)
-products_lawful = list_lawful product_way product_lawful
+products_lawful : IsLawful (list_way tables.product_way)
+products_lawful = list_lawful tables.product_way product_lawful
 
-targets_lawful : IsLawful (map_way target_way)
-targets_lawful = map_lawful target_way target_lawful
+targets_lawful : IsLawful (map_way dependencies.target_way)
+targets_lawful = map_lawful dependencies.target_way target_lawful
 
-patches_lawful : IsLawful (map_way dependencies_way)
-patches_lawful = map_lawful dependencies_way dependencies_lawful
+patches_lawful : IsLawful (map_way dependencies.dependencies_way)
+patches_lawful = map_lawful dependencies.dependencies_way dependencies_lawful
 
 ruleset eithers =
     (either_text, either_texts, either_version, either_edition, either_file, either_publish)
 
-ruleset tables =
-    (dependencies_lawful, lint_groups_lawful, either_lints, features_lawful, targets_lawful, patches_lawful)
+ruleset many = (
+  dependencies_lawful,
+  targets_lawful,
+  patches_lawful,
+  features_lawful,
+  lint_groups_lawful,
+  either_lints,
+)
 
 ruleset others =
     (template_lawful, product_lawful, products_lawful, profiles_lawful, badges_lawful)
 
 module _ {M : Type 0} (metadata : Way M) (law : IsLawful metadata) where
-  pub package_lawful : IsLawful (package_way metadata)
+  pub package_lawful : IsLawful (packages.package_way metadata)
   package_lawful =
-      table_lawful (package_rows metadata)
-      (λ p. search (law, values, settings, eithers) depth 80 fits 4000 parts 80)
+      table_lawful (packages.package_rows metadata)
+      (λ p. search (law, values, single, eithers) depth 80 fits 4000 parts 80)
 
-  pub workspace_lawful : IsLawful (workspace_way metadata)
+  pub workspace_lawful : IsLawful (packages.workspace_way metadata)
   workspace_lawful =
-      table_lawful (workspace_rows metadata)
-      (λ w. search (law, values, settings, tables, others) depth 40 fits 4000)
+      table_lawful (packages.workspace_rows metadata)
+      (λ w. search (law, values, single, many, others) depth 40 fits 4000)
 
   pub manifest_lawful : IsLawful (manifest_way metadata)
   manifest_lawful =
       table_lawful (manifest_rows metadata)
-      (λ m. search (package_lawful, workspace_lawful, tables, others) depth 60 fits 4000 parts 60)
+      (λ m. search (package_lawful, workspace_lawful, many, others) depth 60 fits 4000 parts 60)

@@ -1,18 +1,24 @@
 //! Laws: which manifests can be written, and what is read again.
-ghost use Rattle.std.specs.Prelude.{◌≡◌, ℕ, List, Option, Some, Ok};
+ghost use Rattle.std.specs.Prelude.{◌≡◌, ◌↔◌, ℕ, List, Option, Some, Ok};
 ghost use Rattle.semver.specs.Parse.{Held, version_parts};
 ghost use Rattle.toml.specs.Data.{Data, Members};
 ghost use Rattle.cargo_toml_dependencies.specs.Dependencies.{DetailMeaning, DependencyMeaning};
 ghost use Rattle.cargo_toml_dependencies.specs.Dependencies.{simple, detailed, dependency_of};
-ghost use Rattle.cargo_toml_manifest.specs.Manifests.{ManifestMeaning, manifest_reads};
+ghost use Rattle.cargo_toml_discovery.specs.Names.{Name};
+ghost use Rattle.cargo_toml_discovery.specs.Told.{Told};
+ghost use Rattle.cargo_toml_manifest.specs.declared.manifest.Manifest.{Manifest};
+ghost use Rattle.cargo_toml_manifest.specs.Choosing.{Choice};
+ghost use Rattle.cargo_toml_manifest.specs.Completing.{complete_by, gives};
+ghost use Rattle.cargo_toml_manifest.specs.Manifests.{ManifestMeaning, manifest_reads, held};
+ghost use Rattle.cargo_toml_manifest.specs.Manifests.{manifest_meaning};
 ghost use Rattle.cargo_toml_manifest.specs.Texts.{any_tree, document_reads};
 ghost use Rattle.cargo_toml_parts.specs.Floats.{without_floats};
 ghost use Rattle.cargo_toml_parts.specs.Reads.{array_of, map_of};
 ghost use Rattle.cargo_toml_parts.specs.Versions.{Parts};
 ghost use Rattle.cargo_toml_tables.specs.Lints.{LintMeaning, lint_of};
 ghost use Rattle.cargo_toml_write.specs.Asked.{EachValue, ManifestMeets};
-ghost use Rattle.cargo_toml_write.specs.Reread.{IsTold, each_value, reread_dependency, says_true};
-ghost use Rattle.cargo_toml_write.specs.Reread.{reread};
+ghost use Rattle.cargo_toml_write.specs.Reread.{IsTold, says_true, reread};
+ghost use Rattle.cargo_toml_write.specs.Reread.{each_value, reread_dependency, ChoiceIsTold};
 ghost use Rattle.cargo_toml_write.specs.Ways.{free_way, list_way, map_way};
 ghost use Rattle.cargo_toml_write.specs.WrittenDependencies.{dependencies_way, DependencyAgain};
 ghost use Rattle.cargo_toml_write.specs.WrittenManifests.{manifest_way};
@@ -20,6 +26,7 @@ ghost use Rattle.cargo_toml_write.specs.WrittenPackages.{IsVersionAgain};
 ghost use Rattle.cargo_toml_write.specs.WrittenTables.{lint_groups_way, IsApart};
 
 use crate::write::ToValue;
+use cargo_toml_parts::FromValue;
 
 /// The requirements and details that were read of a dependency are such as are read again, and so
 /// is a version that a text says.
@@ -72,4 +79,13 @@ pub fn read_manifests_are_told()
     ensures stays { (document : Option Members) (m : ManifestMeaning Data)
         → document_reads (manifest_reads any_tree) document ≡ Some m
         → ManifestMeets says_true m → reread m ≡ m }
+{}
+
+/// What completion gives of a manifest that is told, from a workspace that is, is told, so that it
+/// is read again too. That doesn't depend on how its metadata are seen.
+pub fn completed_manifests_are_told<Metadata: FromValue>()
+    ensures completed { (m n : ManifestMeaning Metadata) (by : Choice) (folders : Name → Told)
+        → IsTold m → ChoiceIsTold by → complete_by m by folders ≡ gives n → IsTold n }
+    ensures alike { (m : Manifest Metadata)
+        → IsTold (held m) ↔ IsTold (manifest_meaning Metadata.meaning m) }
 {}

@@ -321,15 +321,7 @@ lto_lawful =
 ruleset values =
     (text_lawful, texts_lawful, truth_lawful, number_lawful, version_lawful, requirement_lawful)
 
-ruleset single = (
-  edition_lawful,
-  resolver_lawful,
-  file_lawful,
-  publish_lawful,
-  debug_lawful,
-  strip_lawful,
-  lto_lawful,
-)
+ruleset single = (edition_lawful, resolver_lawful, file_lawful, publish_lawful)
 
 -- products, badges, profiles and lints
 pub product_lawful : IsLawful tables.product_way
@@ -354,7 +346,8 @@ free_map = map_lawful free_way free_lawful
 pub profile_lawful : IsLawful tables.profile_way
 profile_lawful =
     table_lawful tables.profile_rows
-    (λ p. search (values, single, free_lawful, free_map) depth 40 fits 4000)
+    (λ p. search (values, debug_lawful, strip_lawful, lto_lawful, free_lawful, free_map)
+    depth 40 fits 4000)
 
 pub profiles_lawful : IsLawful tables.profiles_way
 profiles_lawful =
@@ -480,14 +473,8 @@ patches_lawful = map_lawful dependencies.dependencies_way dependencies_lawful
 ruleset eithers =
     (either_text, either_texts, either_version, either_edition, either_file, either_publish)
 
-ruleset many = (
-  dependencies_lawful,
-  targets_lawful,
-  patches_lawful,
-  features_lawful,
-  lint_groups_lawful,
-  either_lints,
-)
+ruleset many =
+    (dependencies_lawful, targets_lawful, patches_lawful, features_lawful, lint_groups_lawful)
 
 ruleset others =
     (template_lawful, product_lawful, products_lawful, profiles_lawful, badges_lawful)
@@ -506,4 +493,5 @@ module _ {M : Type 0} (metadata : Way M) (law : IsLawful metadata) where
   pub manifest_lawful : IsLawful (manifest_way metadata)
   manifest_lawful =
       table_lawful (manifest_rows metadata)
-      (λ m. search (package_lawful, workspace_lawful, many, others) depth 60 fits 4000 parts 60)
+      (λ m. search (package_lawful, workspace_lawful, either_lints, many, others)
+      depth 60 fits 4000 parts 60)

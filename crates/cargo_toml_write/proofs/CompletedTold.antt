@@ -55,7 +55,7 @@ yields_ok {P = P} x h = record { each_is = λ y e. subst P (ap (or_else x) e) h 
 yields_err : {A : Type 0} {P : A → Type 0} (e : Fault) → Yields P (Err e)
 yields_err e = record { each_is = λ x is. absurd cc }
 
-then_yields : {A B : Type 0} {Q : A → Type 0} {P : B → Type 0} (r : Result A Fault) (f : A → Result B Fault) → Yields Q r → ((x : A) → Q x → Yields P (f x)) → Yields P (r >>= f)
+then_yields : {A B : Type 0} {Q : A → Type 0} {P : B → Type 0} (r : Result A Fault) (f : A → Result B Fault) → Yields Q r → ((x : A) → Q x → Yields P (f x)) → Yields P (◌>>=◌ r f)
 then_yields (Ok x) f h k = k x (h.each_is x refl)
 then_yields (Err e) f h k = yields_err e
 

@@ -1,7 +1,8 @@
 -- Which trees say who may rely on a package, and how that is written.
 use Rattle.std.specs.Prelude.{◌≡◌, ◌⊎◌, ℕ, List, codes, IsTrue, Option, Some}
 use Rattle.std.specs.Prelude.{None, Err, option_and_then, if◌then◌else◌, IsUtf8, refl}
-use Rattle.std.proofs.Common.{sym, subst}
+use Rattle.std.proofs.Common.{false, sym, subst}
+use Rattle.std.proofs.lemmas.Bool.{false≢true}
 use Rattle.std.specs.Str.{bytes_eq}
 use Rattle.toml.specs.Data.{Data, string, as_str}
 use Rattle.toml.specs.Parse.{parse_document}
@@ -10,7 +11,7 @@ use Rattle.cargo_toml.specs.Faults.{IsOther}
 use Rattle.cargo_toml.specs.Manifests.{ManifestMeaning, manifest_reads, ManifestRefuses}
 use Rattle.cargo_toml.specs.Texts.{document_reads, DocumentRefuses}
 use Rattle.cargo_toml.specs.Floats.{has_no_float}
-use Rattle.cargo_toml.specs.Writes.{Way, IsFloatless, IsWriting, never_left_out}
+use Rattle.cargo_toml.specs.Writes.{Way, IsLawful, IsLawfulAt, IsWriting, never_left_out}
 use Rattle.cargo_toml.specs.WrittenManifests.{manifest_way}
 use Rattle.cargo_toml_caller.specs.declared.audience.Audience.{Audience}
 use Rattle.cargo_toml_caller.specs.declared.audience.Audience.TheVariants.{Everyone, Team}
@@ -38,15 +39,32 @@ IsAudienceTree Undecided d = ⊥
 abbrev pub audience_way : Way Audience
 audience_way = record {
   trees = IsAudienceTree;
-  refuses = λ x e. IsOther (codes "undecided audience") e;
+  refuses = λ x e. (x ≡ Undecided) × IsOther (codes "undecided audience") e;
   left_out = never_left_out;
+  asks = λ x. ¬ (x ≡ Undecided);
+  asks_nothing = false;
 }
 
--- none of these trees holds a float
-pub audience_floatless : IsFloatless audience_way
-audience_floatless Everyone d is = subst (λ tree. IsTrue (has_no_float tree)) (sym is) refl
-audience_floatless Team d is = subst (λ tree. IsTrue (has_no_float tree)) (sym is) refl
-audience_floatless Undecided d tree = absurd tree
+-- none of these trees holds a float, and only what is settled has one
+settled : (x : Audience) → IsLawfulAt audience_way x
+settled Everyone = record {
+  floatless = λ d is. subst (λ tree. IsTrue (has_no_float tree)) (sym is) refl;
+  only = λ d is x. absurd cc;
+  never = λ asked e refused. asked refused.0;
+}
+settled Team = record {
+  floatless = λ d is. subst (λ tree. IsTrue (has_no_float tree)) (sym is) refl;
+  only = λ d is x. absurd cc;
+  never = λ asked e refused. asked refused.0;
+}
+settled Undecided = record {
+  floatless = λ d tree. absurd tree;
+  only = λ d tree. absurd tree;
+  never = λ asked e refused. asked refl;
+}
+
+pub audience_lawful : IsLawful audience_way
+audience_lawful = record { each = settled; nothing = λ is x. absurd (false≢true is) }
 
 -- what the metadata of a manifest's package say
 abbrev pub audience_in : ManifestMeaning Audience → Option Audience

@@ -4,7 +4,7 @@ ghost use Rattle.std.specs.Prelude.{codes};
 ghost use Rattle.cargo_toml.specs.Faults.{IsOther};
 ghost use Rattle.cargo_toml_caller.specs.declared.audience.Audience.{Audience};
 ghost use Rattle.cargo_toml_caller.specs.Audiences.{audience_reads, AudienceRefuses};
-ghost use Rattle.cargo_toml_caller.specs.Audiences.{audience_way, audience_floatless};
+ghost use Rattle.cargo_toml_caller.specs.Audiences.{audience_way, audience_lawful};
 
 use cargo_toml::{Error, FromValue, ToValue, Value};
 use std::alloc::Global;
@@ -47,7 +47,7 @@ impl ToValue for Audience {
 
     ghost way = { audience_way };
 
-    ghost floatless = { audience_floatless };
+    ghost lawful = { audience_lawful };
 
     fn to_value(&self, alloc: Global) -> Result<Value, Error> {
         match self {

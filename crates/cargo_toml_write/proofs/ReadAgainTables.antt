@@ -1,31 +1,214 @@
--- Written profiles and lints read as themselves.
-use Rattle.std.proofs.Common.{◌≡◌, ◌∙◌, refl, sym, ap, ℕ, ℤ, pos, List, [], ◌∷◌, codes, Bool, true, false, ◌&&◌, inl, inr, Some, is_none, MatchBool, Result, Ok, Err}
+-- Written settings, products, badges, profiles and lints read as themselves.
+use Rattle.std.proofs.Common.{◌≡◌, ◌∙◌, refl, ap, ℕ, ℤ, true, option_map, option_and_then, List, [], codes, Bool, false, Option, Some, None, is_none, sym, pos, ◌∷◌, inl, inr, MatchBool, Result, Ok, Err}
+use Rattle.std.proofs.lemmas.Bool.{and_parts, false≢true}
 use Rattle.std.specs.Ordering.{int_eq}
-use Rattle.std.proofs.lemmas.Bool.{and_parts}
 use Rattle.std.proofs.lemmas.Bool.Decides.{Decides-int_eq}
 use Rattle.std.proofs.lemmas.List.Elements.{recursion_from_All}
 use Rattle.std.specs.Map.{keys_of}
-use Rattle.toml.specs.Data.{Data, as_bool, as_str, string, Members, no_members}
+use Rattle.toml.specs.Data.{as_str, Data, as_bool, as_table, Members, no_members, get_member, string}
 use Rattle.toml.specs.declared.value.Value.{Value}
-use Rattle.cargo_toml_parts.proofs.Steps.{then}
-use Rattle.cargo_toml_parts.specs.declared.error.Error.{Error}
+use Rattle.cargo_toml_manifest.specs.Manifests.{badges_reads, no_badges, no_profiles, profiles_reads}
 use Rattle.cargo_toml_parts.specs.Numbers.{i8_of, u16_of}
-use Rattle.cargo_toml_parts.specs.Reads.{is_among, map_of, others_read}
+use Rattle.cargo_toml_parts.proofs.Steps.{then}
+use Rattle.cargo_toml_parts.specs.Reads.{given_of, list_of, is_among, map_of, others_read}
+use Rattle.cargo_toml_parts.specs.declared.error.Error.{Error}
+use Rattle.cargo_toml_tables.specs.declared.profile_settings.DebugSetting.{DebugSetting}
+use Rattle.cargo_toml_tables.specs.declared.profile_settings.DebugSetting.TheVariants as debug
+use Rattle.cargo_toml_tables.specs.declared.profile_settings.LtoSetting.{LtoSetting}
+use Rattle.cargo_toml_tables.specs.declared.profile_settings.LtoSetting.TheVariants as lto
+use Rattle.cargo_toml_tables.specs.declared.profile_settings.StripSetting.{StripSetting}
+use Rattle.cargo_toml_tables.specs.declared.profile_settings.StripSetting.TheVariants as strip
 use Rattle.cargo_toml_tables.specs.ProfileSettings.{debug_of, strip_of, lto_of}
+use Rattle.cargo_toml_tables.specs.declared.settings.Edition.{Edition}
+use Rattle.cargo_toml_tables.specs.declared.settings.Edition.TheVariants.{E2015, E2018, E2021, E2024}
+use Rattle.cargo_toml_tables.specs.declared.settings.Resolver.{Resolver}
+use Rattle.cargo_toml_tables.specs.declared.settings.Resolver.TheVariants.{V1, V2, V3}
+use Rattle.cargo_toml_tables.specs.Settings.{edition_of, resolver_of, File, flag, path, file_of, Registries, everywhere, among, publish_of}
+use Rattle.cargo_toml_tables.specs.Products.{ProductMeaning, either_flag, product_of}
+use Rattle.cargo_toml_tables.specs.declared.badge.MaintenanceStatus.{MaintenanceStatus}
+use Rattle.cargo_toml_tables.specs.declared.badge.MaintenanceStatus.TheVariants as status
+use Rattle.cargo_toml_tables.specs.Badges.{BadgeMeaning, BadgesMeaning, badges_of, badge_of, badge_reads, or_none, status_of, maintenance_of, maintenance_reads}
 use Rattle.cargo_toml_tables.specs.declared.lint.LintLevel.{LintLevel}
 use Rattle.cargo_toml_tables.specs.declared.lint.LintLevel.TheVariants.{Allow, Warn, ForceWarn, Deny, Forbid}
 use Rattle.cargo_toml_tables.specs.Lints.{LintMeaning, lint_keys, level_of, level_alone, table_lint, lint_of}
 use Rattle.cargo_toml_tables.specs.Profiles.{ProfileMeaning, ProfilesMeaning, profile_keys, profile_of, profile_reads, profiles_of}
-use Rattle.cargo_toml_manifest.specs.Manifests.{no_profiles, profiles_reads}
 use Rattle.cargo_toml_write.specs.Asked.{EachValue}
-use Rattle.cargo_toml_write.specs.Ways.{Ascend, text_way, truth_way, number_way, small_way, free_way, map_way, is_nil}
-use Rattle.cargo_toml_write.specs.WrittenLints.{is_level_alone, lint_rows, lint_way, table_lint_way, IsApart}
-use Rattle.cargo_toml_write.specs.WrittenProfiles.{AreApart, has_no_profile, known_profiles, profile_rows, profile_way, profiles_rows, profiles_way}
-use Rattle.cargo_toml_write.specs.WrittenSettings.{debug_way, level_text, level_way, lto_way, strip_way}
-use Rattle.cargo_toml_write.specs.Writes.{AreWritten, IsWriting, required_row}
-use Rattle.cargo_toml_write.proofs.MapAgain.{at_known, each_read, map_same, others_same}
-use Rattle.cargo_toml_write.proofs.ReadAgain.{ReadsAs, got, free_again, given_again, nil_left, none_of, optional_again, required_again, required_given, text_again, truth_again}
-use Rattle.cargo_toml_write.proofs.ReadAgainSettings.{debug_again, lto_again, number_again, small_again, strip_again}
+use Rattle.cargo_toml_write.specs.Ways.{number_way, small_way, text_way, texts_way, Ascend, map_way, is_nil, truth_way, free_way}
+use Rattle.cargo_toml_write.specs.Writes.{AreWritten, IsHeld, IsWriting, required_row}
+use Rattle.cargo_toml_write.specs.WrittenSettings.{edition_way, resolver_way, is_unrestricted, file_way, publish_way, debug_way, strip_way, is_usual, lto_way, status_way, level_text, level_way}
+use Rattle.cargo_toml_write.specs.WrittenTables.{product_way, product_rows, badge_way, badges_way, badge_rows, badges_rows, has_no_badge, is_unstated, has_no_service, maintenance_way, maintenance_rows, is_level_alone, table_lint_way, has_no_profile, lint_rows, lint_way, profile_way, profiles_way, IsApart, AreApart, known_profiles, profile_rows, profiles_rows}
+use Rattle.cargo_toml_write.proofs.ReadAgain.{at_known, each_read, map_same, others_same, ReadsAs, texts_again, got, flag_again, text_again, required_given, optional_again, given_again, nil_left, Holds, required_again, holds, none_of, free_again, truth_again}
+
+-- editions, resolvers, files, registries, numbers and settings of profiles
+pub edition_again : (x : Edition) → ReadsAs edition_way (λ d. option_and_then edition_of (as_str d)) x x
+edition_again E2015 d is = ap (λ t. option_and_then edition_of (as_str t)) is
+edition_again E2018 d is = ap (λ t. option_and_then edition_of (as_str t)) is
+edition_again E2021 d is = ap (λ t. option_and_then edition_of (as_str t)) is
+edition_again E2024 d is = ap (λ t. option_and_then edition_of (as_str t)) is
+
+pub resolver_again : (x : Resolver) → ReadsAs resolver_way (λ d. option_and_then resolver_of (as_str d)) x x
+resolver_again V1 d is = ap (λ t. option_and_then resolver_of (as_str t)) is
+resolver_again V2 d is = ap (λ t. option_and_then resolver_of (as_str t)) is
+resolver_again V3 d is = ap (λ t. option_and_then resolver_of (as_str t)) is
+
+pub file_again : (x : File) → ReadsAs file_way file_of x x
+file_again (flag b) d is = ap file_of is
+file_again (path p) d is = ap file_of is
+
+pub usual_file : (x : File) → is_usual x ≡ true → x ≡ flag true
+usual_file (flag b) h = ap flag h
+usual_file (path p) h = absurd cc
+
+pub publish_again : (x : Registries) → ReadsAs publish_way publish_of x x
+publish_again (everywhere b) d is = ap publish_of is
+publish_again (among names) d (ds, is, items) = ap publish_of is ∙ ap (option_map among) (texts_again names _ (ds, refl, items))
+
+pub published_everywhere : (x : Registries) → is_unrestricted x ≡ true → x ≡ everywhere true
+published_everywhere (everywhere b) h = ap everywhere h
+published_everywhere (among names) h = absurd cc
+
+pub number_again : (n : ℕ) → ReadsAs number_way u16_of n n
+number_again n d (fits, is) = ap u16_of is ∙ fits
+
+pub small_again : (z : ℤ) → ReadsAs small_way i8_of z z
+small_again z d (fits, is) = ap i8_of is ∙ fits
+
+pub debug_again : (x : DebugSetting) → ReadsAs debug_way debug_of x x
+debug_again debug.None d is = ap debug_of is
+debug_again debug.Lines d is = ap debug_of is
+debug_again debug.Full d is = ap debug_of is
+
+pub strip_again : (x : StripSetting) → ReadsAs strip_way strip_of x x
+strip_again strip.None d is = ap strip_of is
+strip_again strip.Debuginfo d is = ap strip_of is
+strip_again strip.Symbols d is = ap strip_of is
+
+pub lto_again : (x : LtoSetting) → ReadsAs lto_way lto_of x x
+lto_again lto.None d is = ap lto_of is
+lto_again lto.ThinLocal d is = ap lto_of is
+lto_again lto.Thin d is = ap lto_of is
+lto_again lto.Fat d is = ap lto_of is
+
+-- products
+-- a truth value of which the other spelling is missing
+one_spelling : (o other : Option Data) (b : Bool) → other ≡ None → given_of as_bool false o ≡ Some b → either_flag o other ≡ Some b
+one_spelling None other b none h = rw none h
+one_spelling (Some d) other b none h = rw none h
+
+product_members : (p : ProductMeaning) (ms : Members) → AreWritten (product_rows p) no_members ms → product_of ms ≡ Some p
+product_members p ms written =
+    let at = λ (k : List ℕ). got k (product_rows p) no_members ms written in
+    then _ _ _ _ (optional_again "path" text_way as_str p.path ms text_again (at (codes "path")))
+    (then _ _ _ _ (optional_again "name" text_way as_str p.name ms text_again (at (codes "name")))
+    (then _ _ _ _ (flag_again "test" true p.test ms (at (codes "test")))
+    (then _ _ _ _ (flag_again "doctest" true p.doctest ms (at (codes "doctest")))
+    (then _ _ _ _ (flag_again "bench" true p.bench ms (at (codes "bench")))
+    (then _ _ _ _ (flag_again "doc" true p.doc ms (at (codes "doc")))
+    (then _ _ _ _ (flag_again "harness" true p.harness ms (at (codes "harness")))
+    (then _ _ _ _ (flag_again "plugin" false p.plugin ms (at (codes "plugin")))
+    (then _ _ _ _ (one_spelling (get_member (codes "proc-macro") ms) _ p.proc_macro (at (codes "proc_macro")) (flag_again "proc-macro" false p.proc_macro ms (at (codes "proc-macro"))))
+    (then _ _ _ _ (optional_again "edition" edition_way (λ d. option_and_then edition_of (as_str d)) p.edition ms edition_again (at (codes "edition")))
+    (then _ _ _ _ (given_again "crate-type" texts_way list_of [] p.crate_type p.crate_type ms (texts_again p.crate_type) (nil_left p.crate_type) (at (codes "crate-type")))
+    (then _ _ _ _ (required_given "required-features" texts_way list_of [] p.required_features p.required_features ms (texts_again p.required_features) (at (codes "required-features"))) refl)))))))))))
+
+pub product_again : (p : ProductMeaning) (d : Data) → product_way.trees p d → option_and_then product_of (as_table d) ≡ Some p
+product_again p d (ms, is, written) = rw is (product_members p ms written)
+
+-- badges, and how a package is cared for
+badge_members : (b : BadgeMeaning) (ms : Members) → AreWritten (badge_rows b) no_members ms → badge_of ms ≡ Some b
+badge_members b ms written =
+    let at = λ (k : List ℕ). got k (badge_rows b) no_members ms written in
+    then _ _ _ _ (required_again "repository" text_way as_str b.repository b.repository ms (text_again b.repository) (at (codes "repository")))
+    (then _ _ _ _ (required_given "branch" text_way as_str (codes "master") b.branch b.branch ms (text_again b.branch) (at (codes "branch")))
+    (then _ _ _ _ (optional_again "service" text_way as_str b.service ms text_again (at (codes "service")))
+    (then _ _ _ _ (optional_again "id" text_way as_str b.id ms text_again (at (codes "id")))
+    (then _ _ _ _ (optional_again "project-name" text_way as_str b.project_name ms text_again (at (codes "project-name"))) refl))))
+
+pub badge_again : (b : BadgeMeaning) (d : Data) → badge_way.trees b d → badge_reads d ≡ Some b
+badge_again b d (ms, is, written) = rw is (badge_members b ms written)
+
+status_again : (s : MaintenanceStatus) → ReadsAs status_way status_of s s
+status_again status.None d is = ap status_of is
+status_again status.ActivelyDeveloped d is = ap status_of is
+status_again status.PassivelyMaintained d is = ap status_of is
+status_again status.AsIs d is = ap status_of is
+status_again status.Experimental d is = ap status_of is
+status_again status.LookingForMaintainer d is = ap status_of is
+status_again status.Deprecated d is = ap status_of is
+
+maintenance_members : (s : MaintenanceStatus) (ms : Members) → AreWritten (maintenance_rows s) no_members ms → maintenance_of ms ≡ Some s
+maintenance_members s ms written = required_again "status" status_way status_of s s ms (status_again s) (got (codes "status") (maintenance_rows s) no_members ms written)
+
+pub maintenance_again : (s : MaintenanceStatus) (d : Data) → maintenance_way.trees s d → maintenance_reads d ≡ Some s
+maintenance_again s d (ms, is, written) = rw is (maintenance_members s ms written)
+
+-- all badges: one that is not there is none
+badge_or_none : (x : Option BadgeMeaning) (o : Option Data) → IsHeld badge_way x o → option_and_then badge_reads o ≡ x
+badge_or_none None o is = ap (option_and_then badge_reads) is
+badge_or_none (Some b) None is = absurd is
+badge_or_none (Some b) (Some d) is = badge_again b d is
+
+status_read : (s : MaintenanceStatus) (o : Option Data) → IsHeld maintenance_way (Some s) o → or_none (option_and_then maintenance_reads o) ≡ s
+status_read s None is = absurd is
+status_read s (Some d) is = ap or_none (maintenance_again s d is)
+
+badges_members : (b : BadgesMeaning) (ms : Members) → AreWritten (badges_rows b) no_members ms → badges_of ms ≡ b
+badges_members b ms written =
+    let at = λ (k : List ℕ). got k (badges_rows b) no_members ms written in
+    let badge = λ (x : Option BadgeMeaning) (o : Option Data) (h : Holds badge_way x o). badge_or_none x o (holds badge_way x o h) in
+    rw (
+      badge b.appveyor _ (at (codes "appveyor")),
+      badge b.circle_ci _ (at (codes "circle-ci")),
+      badge b.gitlab _ (at (codes "gitlab")),
+      badge b.travis_ci _ (at (codes "travis-ci")),
+      badge b.codecov _ (at (codes "codecov")),
+      badge b.coveralls _ (at (codes "coveralls")),
+      badge b.is_it_maintained_issue_resolution _ (at (codes "is-it-maintained-issue-resolution")),
+      badge b.is_it_maintained_open_issues _ (at (codes "is-it-maintained-open-issues")),
+      status_read b.maintenance _ (holds maintenance_way (Some b.maintenance) _ (at (codes "maintenance"))),
+    ) refl
+
+pub badges_again : (b : BadgesMeaning) → ReadsAs badges_way badges_reads b b
+badges_again b d (ms, is, written) = rw is (ap Some (badges_members b ms written))
+
+unstated : (s : MaintenanceStatus) → is_unstated s ≡ true → s ≡ status.None
+unstated status.None h = refl
+unstated _ h = absurd (false≢true h)
+
+pub no_badge : (b : BadgesMeaning) → has_no_badge b ≡ true → b ≡ no_badges
+no_badge b h =
+    let status = and_parts _ (is_unstated b.maintenance) h in
+    let open_issues = and_parts _ (is_none b.is_it_maintained_open_issues) status.0 in
+    let resolution = and_parts (has_no_service b) (is_none b.is_it_maintained_issue_resolution) open_issues.0 in
+    let coveralls = and_parts _ (is_none b.coveralls) resolution.0 in
+    let codecov = and_parts _ (is_none b.codecov) coveralls.0 in
+    let travis = and_parts _ (is_none b.travis_ci) codecov.0 in
+    let gitlab = and_parts _ (is_none b.gitlab) travis.0 in
+    let circle = and_parts (is_none b.appveyor) (is_none b.circle_ci) gitlab.0 in
+    let whole : BadgesMeaning = record {
+      appveyor = b.appveyor;
+      circle_ci = b.circle_ci;
+      gitlab = b.gitlab;
+      travis_ci = b.travis_ci;
+      codecov = b.codecov;
+      coveralls = b.coveralls;
+      is_it_maintained_issue_resolution = b.is_it_maintained_issue_resolution;
+      is_it_maintained_open_issues = b.is_it_maintained_open_issues;
+      maintenance = b.maintenance;
+    } in
+    let same : whole ≡ no_badges =
+    rw (
+      none_of b.appveyor circle.0,
+      none_of b.circle_ci circle.1,
+      none_of b.gitlab gitlab.1,
+      none_of b.travis_ci travis.1,
+      none_of b.codecov codecov.1,
+      none_of b.coveralls coveralls.1,
+      none_of b.is_it_maintained_issue_resolution resolution.1,
+      none_of b.is_it_maintained_open_issues open_issues.1,
+      unstated b.maintenance status.1,
+    ) refl in
+    same
 
 -- profiles
 profile_members : (p : ProfileMeaning) (ms : Members) → AreWritten (profile_rows p) no_members ms → profile_of ms ≡ Some p

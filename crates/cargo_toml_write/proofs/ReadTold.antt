@@ -1,11 +1,13 @@
--- What was read of each part of a manifest: it holds no float, it is told so that it is read again, and then it stays.
-use Rattle.std.proofs.Common.{◌≡◌, ◌∙◌, refl, sym, ap, ℕ, Bool, true, false, cond, not, List, [], ◌∷◌, codes, lit<, IsTrue, Option, Some, None, IfSome, option_map, option_and_then, Result, Ok, Err, if◌then◌else◌}
+-- What was read of each part of a manifest: it is as asked of what is written, it is told so that it is read again, and then it stays.
+use Prim.Native.String.{String as Words}
+use Rattle.std.proofs.Common.{◌≡◌, ◌∙◌, refl, sym, ap, ℕ, Bool, true, false, cond, not, List, [], ◌∷◌, ◌++◌, codes, lit<, IsTrue, Option, Some, None, IfSome, option_map, option_and_then, Result, Ok, Err, if◌then◌else◌}
 use Rattle.std.specs.List.{All, AllByRecursion}
 use Rattle.std.specs.Map.{keys_of}
 use Rattle.std.specs.Result.{result_ok}
 use Rattle.std.specs.Str.{bytes_eq}
 use Rattle.std.proofs.lemmas.Bool.{false≢true}
-use Rattle.std.proofs.lemmas.List.Elements.{All-from_recursion}
+use Rattle.std.specs.Bool.{MatchBool}
+use Rattle.std.proofs.lemmas.List.Elements.{All-from_recursion, recursion_from_All}
 use Rattle.std.proofs.lemmas.Slice.Eq.{bytes_eq-Decides}
 use Rattle.semver.specs.Parse.{Held, req_of, version_parts}
 use Rattle.semver.specs.declared.error.Error.{Error}
@@ -15,6 +17,7 @@ use Rattle.cargo_toml_dependencies.specs.Dependencies.{InheritedMeaning, DetailM
 use Rattle.cargo_toml_dependencies.specs.Details.{Detail, is_plain}
 use Rattle.cargo_toml_dependencies.specs.Features.{apart, details_of, feature_of, features_of, lists_of, no_features}
 use Rattle.cargo_toml_manifest.specs.Manifests.{by_zero_rule, zero_rule_applies}
+use Rattle.cargo_toml_manifest.specs.Texts.{any_tree}
 use Rattle.cargo_toml_package.specs.Packages.{PackageMeaning, package_of_table, package_reads}
 use Rattle.cargo_toml_package.specs.Templates.{TemplateMeaning, template_of, template_reads}
 use Rattle.cargo_toml_parts.specs.declared.inheritable.Inheritable.TheVariants.{Set}
@@ -25,104 +28,147 @@ use Rattle.cargo_toml_parts.specs.Versions.{Parts, requirement_of, version_of}
 use Rattle.cargo_toml_tables.specs.Settings.{everywhere}
 use Rattle.cargo_toml_tables.specs.Lints.{LintMeaning, level_alone, level_of, lint_keys, lint_of, table_lint}
 use Rattle.cargo_toml_tables.specs.Profiles.{ProfileMeaning, ProfilesMeaning, profile_keys, profile_of, profile_reads, profiles_of}
-use Rattle.cargo_toml_write.specs.Asked.{EachValue}
-use Rattle.cargo_toml_write.specs.NoFloats.{DependencyHoldsNoFloat, DetailHoldsNoFloat, LintHoldsNoFloat, PackageHoldsNoFloat, ProfileHoldsNoFloat, ProfilesHoldsNoFloat, no_floats}
+use Rattle.cargo_toml_write.specs.Asked.{Asked, EachValue}
+use Rattle.cargo_toml_write.specs.Lawful.{asked_with}
 use Rattle.cargo_toml_write.specs.Requirements.{CanBeRead}
 use Rattle.cargo_toml_write.specs.Reread.{SaysTrue, reread_dependency, told}
-use Rattle.cargo_toml_write.specs.Ways.{members_of}
-use Rattle.cargo_toml_write.specs.WrittenDependencies.{DetailAgain, DependencyAgain}
-use Rattle.cargo_toml_write.specs.WrittenFeatures.{AreTold}
-use Rattle.cargo_toml_write.specs.WrittenLints.{IsApart}
-use Rattle.cargo_toml_write.specs.WrittenPackages.{IsVersionAgain, TemplateAgain, VersionAgain}
-use Rattle.cargo_toml_write.specs.WrittenProfiles.{AreApart}
-use Rattle.cargo_toml_write.proofs.Gives.{Gives, gives_none, gives_some, anything, bind, skip, mapped, Reads, Floatless, MembersFloatless, optional_reads, given_reads, inheritable_reads, others_reads, no_entries, map_at_reads, table_reads, tree_reads}
-use Rattle.cargo_toml_write.proofs.Others.{other_member}
-use Rattle.cargo_toml_write.proofs.ReadParts.{Leaves}
+use Rattle.cargo_toml_write.specs.Ways.{entry_rows, free_way, is_nil, map_way, members_of}
+use Rattle.cargo_toml_write.specs.Writes.{Row, RowsAsk, Way, unless}
+use Rattle.cargo_toml_write.specs.WrittenDependencies.{DetailAgain, DependencyAgain, dependency_way, AreTold, detail_way, known_rows}
+use Rattle.cargo_toml_write.specs.WrittenPackages.{IsVersionAgain, TemplateAgain, VersionAgain, package_way}
+use Rattle.cargo_toml_write.specs.WrittenTables.{IsApart, AreApart, is_level_alone, lint_way, profiles_way, profile_way, table_lint_way}
+use Rattle.cargo_toml_write.proofs.ReadParts.{Gives, anything, mapped, Reads, bind, skip, MembersFloatless, optional_reads, inheritable_reads, gives_none, gives_some, Floatless, no_entries, tree_reads, given_reads, others_reads, map_at_reads, table_reads, Leaves, public_reads}
+use Rattle.cargo_toml_write.proofs.Tables.{other_member}
 
--- no float
-detail_holds : (d : DetailMeaning) → EachValue Floatless d.unstable → Gives DetailHoldsNoFloat (Some d)
-detail_holds d unstable = gives_some {P = DetailHoldsNoFloat} d (record { unstable = unstable })
+-- what was read of a tree without floats is as asked of what is written
+pub unless_asked : {X : Type 0} (P : X → Type 0) (b : Bool) (x : X) → P x → IfSome (unless b x) P
+unless_asked P true x h = tt
+unless_asked P false x h = h
 
-detail_members : (ms : Members) → MembersFloatless ms → Gives DetailHoldsNoFloat (detail_of_table ms)
+module _ {X : Type 0} (way : Way X) (P : X → Type 0) (f : (x : X) → P x → way.asks x) where
+  entries_asked : (es : List (List ℕ × X)) → AllByRecursion (λ (e : List ℕ × X). P e.1) es → RowsAsk (entry_rows way es)
+  entries_asked [] h = tt
+  entries_asked (e ∷ es) h = asked_with way.asks_nothing _ _ (f e.1 h.0) (entries_asked es h.1)
+
+  -- a map, and the entries of one with the rows behind them
+  pub map_asked : (es : List (List ℕ × X)) → EachValue P es → RowsAsk (entry_rows way es)
+  map_asked es h = entries_asked es (recursion_from_All (λ (e : List ℕ × X). P e.1) es h)
+
+  asked_before : (es : List (List ℕ × X)) (rows : List Row) → AllByRecursion (λ (e : List ℕ × X). P e.1) es → RowsAsk rows → RowsAsk (entry_rows way es ++ rows)
+  asked_before [] rows h rest = rest
+  asked_before (e ∷ es) rows h rest = asked_with way.asks_nothing _ _ (f e.1 h.0) (asked_before es rows h.1 rest)
+
+  pub map_before : (es : List (List ℕ × X)) (rows : List Row) → EachValue P es → RowsAsk rows → RowsAsk (entry_rows way es ++ rows)
+  map_before es rows h rest = asked_before es rows (recursion_from_All (λ (e : List ℕ × X). P e.1) es h) rest
+
+itself_asked : {X : Type 0} (way : Way X) (x : X) → way.asks x → way.asks x
+itself_asked way x h = h
+
+detail_holds : (d : DetailMeaning) → EachValue Floatless d.unstable → Gives detail_way.asks (Some d)
+detail_holds d unstable = gives_some {P = detail_way.asks} d (map_before free_way Floatless (itself_asked free_way) d.unstable (known_rows d) unstable tt)
+
+detail_members : (ms : Members) → MembersFloatless ms → Gives detail_way.asks (detail_of_table ms)
 detail_members ms h =
     let unstable : Gives (EachValue Floatless) (others_read detail_keys (λ d. Some d) ms) = others_reads {P = Floatless} detail_keys (λ d. Some d) tree_reads ms h in
     search (bind, skip, detail_holds) depth 60 fits 4000
 
-inherited_gives : (i : Option InheritedMeaning) (d : Option DetailMeaning) → Gives DetailHoldsNoFloat d → Gives DependencyHoldsNoFloat (inherited_or i d)
-inherited_gives (Some i) d h = gives_some {P = DependencyHoldsNoFloat} (inherited i) tt
-inherited_gives None d h = mapped {Q = DetailHoldsNoFloat} {P = DependencyHoldsNoFloat} d detailed h (λ x p. p)
+inherited_gives : (i : Option InheritedMeaning) (d : Option DetailMeaning) → Gives detail_way.asks d → Gives dependency_way.asks (inherited_or i d)
+inherited_gives (Some i) d h = gives_some {P = dependency_way.asks} (inherited i) tt
+inherited_gives None d h = mapped {Q = detail_way.asks} {P = dependency_way.asks} d detailed h (λ x p. p)
 
-dependency_read : Reads DependencyHoldsNoFloat dependency_of
+dependency_read : Reads dependency_way.asks dependency_of
 unfolding dependency_of
-dependency_read (string s) h = mapped {P = DependencyHoldsNoFloat} (result_ok (req_of s)) simple (anything _) (λ x p. tt)
+dependency_read (string s) h = mapped {P = dependency_way.asks} (result_ok (req_of s)) simple (anything _) (λ x p. tt)
 dependency_read (table ms) h = inherited_gives (strict_of ms) (detail_of_table ms) (detail_members ms h)
 dependency_read _ h = gives_none
 
-profile_holds : (p : ProfileMeaning) → IfSome p.opt_level Floatless → EachValue Floatless p.«package» → IfSome p.build_override Floatless → Gives ProfileHoldsNoFloat (Some p)
+profile_holds : (p : ProfileMeaning) → IfSome p.opt_level Floatless → EachValue Floatless p.«package» → IfSome p.build_override Floatless → Gives profile_way.asks (Some p)
 profile_holds p opt_level its_package build_override =
-    gives_some {P = ProfileHoldsNoFloat} p (record { opt_level = opt_level; «package» = its_package; build_override = build_override })
+    let whole = map_asked free_way Floatless (itself_asked free_way) p.«package» its_package in
+    gives_some {P = profile_way.asks} p (opt_level, (unless_asked (map_way free_way).asks (is_nil p.«package») p.«package» whole, (build_override, tt)))
 
-profile_members : (ms : Members) → MembersFloatless ms → Gives ProfileHoldsNoFloat (profile_of ms)
+profile_members : (ms : Members) → MembersFloatless ms → Gives profile_way.asks (profile_of ms)
 profile_members ms h =
     let opt_level : Gives (λ x. IfSome x Floatless) (optional_at "opt-level" (λ d. Some d) ms) = optional_reads {P = Floatless} "opt-level" (λ d. Some d) tree_reads ms h in
     let its_package : Gives (EachValue Floatless) (map_at "package" (λ d. Some d) ms) = map_at_reads {P = Floatless} "package" (λ d. Some d) tree_reads ms h in
     let build_override : Gives (λ x. IfSome x Floatless) (optional_at "build-override" (λ d. Some d) ms) = optional_reads {P = Floatless} "build-override" (λ d. Some d) tree_reads ms h in
     search (bind, skip, profile_holds) depth 60 fits 4000
 
-profile_read : Reads ProfileHoldsNoFloat profile_reads
+profile_read : Reads profile_way.asks profile_reads
 profile_read d h = table_reads profile_of profile_members d h
 
-profiles_members : (ms : Members) → MembersFloatless ms → Gives ProfilesHoldsNoFloat (profiles_of ms)
+profiles_members : (ms : Members) → MembersFloatless ms → Gives profiles_way.asks (profiles_of ms)
 profiles_members ms h =
-    (bind {P = ProfilesHoldsNoFloat} (optional_at "release" profile_reads ms) _ (optional_reads {P = ProfileHoldsNoFloat} "release" profile_reads profile_read ms h) (λ release h_release.
-    (bind {P = ProfilesHoldsNoFloat} (optional_at "dev" profile_reads ms) _ (optional_reads {P = ProfileHoldsNoFloat} "dev" profile_reads profile_read ms h) (λ dev h_dev.
-    (bind {P = ProfilesHoldsNoFloat} (optional_at "test" profile_reads ms) _ (optional_reads {P = ProfileHoldsNoFloat} "test" profile_reads profile_read ms h) (λ test h_test.
-    (bind {P = ProfilesHoldsNoFloat} (optional_at "bench" profile_reads ms) _ (optional_reads {P = ProfileHoldsNoFloat} "bench" profile_reads profile_read ms h) (λ bench h_bench.
-    (bind {P = ProfilesHoldsNoFloat} (optional_at "doc" profile_reads ms) _ (optional_reads {P = ProfileHoldsNoFloat} "doc" profile_reads profile_read ms h) (λ doc h_doc.
-    (bind {P = ProfilesHoldsNoFloat} (others_read profile_keys profile_reads ms) _ (others_reads {P = ProfileHoldsNoFloat} profile_keys profile_reads profile_read ms h) (λ custom h_custom.
-    gives_some {P = ProfilesHoldsNoFloat} _ (record { release = h_release; dev = h_dev; test = h_test; bench = h_bench; doc = h_doc; custom = h_custom })))))))))))))
+    let one = λ (key : Words). optional_reads {P = profile_way.asks} key profile_reads profile_read ms h in
+    (bind {P = profiles_way.asks} (optional_at "release" profile_reads ms) _ (one "release") (λ release h_release.
+    (bind {P = profiles_way.asks} (optional_at "dev" profile_reads ms) _ (one "dev") (λ dev h_dev.
+    (bind {P = profiles_way.asks} (optional_at "test" profile_reads ms) _ (one "test") (λ test h_test.
+    (bind {P = profiles_way.asks} (optional_at "bench" profile_reads ms) _ (one "bench") (λ bench h_bench.
+    (bind {P = profiles_way.asks} (optional_at "doc" profile_reads ms) _ (one "doc") (λ doc h_doc.
+    (bind {P = profiles_way.asks} (others_read profile_keys profile_reads ms) _ (others_reads {P = profile_way.asks} profile_keys profile_reads profile_read ms h) (λ custom h_custom.
+    gives_some {P = profiles_way.asks} _ (map_before profile_way profile_way.asks (itself_asked profile_way) custom _ h_custom (h_release, (h_dev, (h_test, (h_bench, (h_doc, tt))))))))))))))))))
 
-lint_holds : (l : LintMeaning) → EachValue Floatless l.config → Gives LintHoldsNoFloat (Some l)
-lint_holds l config = gives_some {P = LintHoldsNoFloat} l (record { config = config })
+lint_asked : (b : Bool) (l : LintMeaning) → EachValue Floatless l.config → MatchBool b (Unit {0}) (table_lint_way.asks l)
+lint_asked true l config = tt
+lint_asked false l config = map_before free_way Floatless (itself_asked free_way) l.config _ config tt
 
-lint_members : (ms : Members) → MembersFloatless ms → Gives LintHoldsNoFloat (table_lint ms)
+lint_holds : (l : LintMeaning) → EachValue Floatless l.config → Gives lint_way.asks (Some l)
+lint_holds l config = gives_some {P = lint_way.asks} l (lint_asked (is_level_alone l) l config)
+
+lint_members : (ms : Members) → MembersFloatless ms → Gives lint_way.asks (table_lint ms)
 lint_members ms h =
     let config : Gives (EachValue Floatless) (others_read lint_keys (λ d. Some d) ms) = others_reads {P = Floatless} lint_keys (λ d. Some d) tree_reads ms h in
     search (bind, skip, lint_holds) depth 30
 
-lint_read : Reads LintHoldsNoFloat lint_of
+lint_read : Reads lint_way.asks lint_of
 lint_read (table ms) h = lint_members ms h
-lint_read d h = mapped {P = LintHoldsNoFloat} (level_of d) level_alone (anything _) (λ x p. record { config = no_entries Floatless })
+lint_read d h = mapped {P = lint_way.asks} (level_of d) level_alone (anything _) (λ x p. lint_asked (is_level_alone (level_alone x)) (level_alone x) (no_entries Floatless))
 
-module _ {M : Type 0} (Metadata : M → Type 0) (metadata_of : Data → Option M) (metadata_read : Reads Metadata metadata_of) where
-  -- the rule of version 0.0.0 leaves the metadata
-  ruled : (b : Bool) (p : PackageMeaning M) → IfSome p.metadata Metadata → PackageHoldsNoFloat Metadata (if b then record p { publish = Set (everywhere false) } else p)
-  ruled true p metadata = record { metadata = metadata }
-  ruled false p metadata = record { metadata = metadata }
+-- the rule of version 0.0.0 leaves the metadata
+abbrev PackageAsked : PackageMeaning Data → Type 0
+PackageAsked p = (package_way free_way).asks (by_zero_rule p)
 
-  package_holds : (p : PackageMeaning M) → IfSome p.metadata Metadata → Gives (λ q. PackageHoldsNoFloat Metadata (by_zero_rule q)) (Some p)
-  package_holds p metadata = gives_some {P = λ q. PackageHoldsNoFloat Metadata (by_zero_rule q)} p (ruled (zero_rule_applies p) p metadata)
+ruled : (b : Bool) (p : PackageMeaning Data) → IfSome p.metadata Floatless → (package_way free_way).asks (if b then record p { publish = Set (everywhere false) } else p)
+ruled true p metadata = (metadata, tt)
+ruled false p metadata = (metadata, tt)
 
-  package_members : (ms : Members) → MembersFloatless ms → Gives (λ q. PackageHoldsNoFloat Metadata (by_zero_rule q)) (package_of_table metadata_of ms)
-  package_members ms h =
-      let metadata : Gives (λ x. IfSome x Metadata) (optional_at "metadata" metadata_of ms) = optional_reads {P = Metadata} "metadata" metadata_of metadata_read ms h in
-      search (bind, skip, package_holds) depth 80 fits 4000
+package_holds : (p : PackageMeaning Data) → IfSome p.metadata Floatless → Gives PackageAsked (Some p)
+package_holds p metadata = gives_some {P = PackageAsked} p (ruled (zero_rule_applies p) p metadata)
 
-  package_read : Reads (λ q. PackageHoldsNoFloat Metadata (by_zero_rule q)) (package_reads metadata_of)
-  unfolding package_reads
-  package_read d h = table_reads (package_of_table metadata_of) package_members d h
+any_read : Reads Floatless any_tree
+any_read d h = public_reads (λ t. Some t) tree_reads d
 
-  pub no_float_leaves : Leaves (no_floats Metadata) metadata_of
-  no_float_leaves = record {
-    metadata = metadata_read;
-    «package» = package_read;
-    template = λ o. anything _;
-    dependency = dependency_read;
-    lint = lint_read;
-    profiles = λ d h. table_reads profiles_of profiles_members d h;
-    no_profile = record { release = tt; dev = tt; test = tt; bench = tt; doc = tt; custom = no_entries ProfileHoldsNoFloat };
-    features = λ o. anything _;
-  }
+package_members : (ms : Members) → MembersFloatless ms → Gives PackageAsked (package_of_table any_tree ms)
+package_members ms h =
+    let metadata : Gives (λ x. IfSome x Floatless) (optional_at "metadata" any_tree ms) = optional_reads {P = Floatless} "metadata" any_tree any_read ms h in
+    search (bind, skip, package_holds) depth 80 fits 4000
+
+package_read : Reads PackageAsked (package_reads any_tree)
+unfolding package_reads
+package_read d h = table_reads (package_of_table any_tree) package_members d h
+
+abbrev pub as_asked : Asked Data
+as_asked = record {
+  metadata = Floatless;
+  «package» = (package_way free_way).asks;
+  template = λ t. Unit {0};
+  dependency = dependency_way.asks;
+  lint = lint_way.asks;
+  profiles = profiles_way.asks;
+  features = λ fs. Unit {0};
+}
+
+pub asked_leaves : Leaves as_asked any_tree
+asked_leaves = record {
+  metadata = any_read;
+  «package» = package_read;
+  template = λ o. anything _;
+  dependency = dependency_read;
+  lint = lint_read;
+  profiles = λ d h. table_reads profiles_of profiles_members d h;
+  no_profile = (tt, (tt, (tt, (tt, (tt, tt)))));
+  features = λ o. anything _;
+}
 
 -- versions and requirements that a text says
 pub version_text : (text : List ℕ) (v : Parts) → version_parts text ≡ Ok v → IsVersionAgain v

@@ -5,7 +5,7 @@ use Rattle.toml.specs.Data.{Data, Members, no_members}
 use Rattle.toml.specs.declared.value.Value.{Value}
 use Rattle.cargo_toml_parts.specs.declared.error.Error.{Error, Memory}
 use Rattle.cargo_toml_parts.specs.Floats.{has_no_float}
-use Rattle.cargo_toml_write.specs.Writes.{Way, IsWriting, Refuses, Row, required_row, optional_row, given_row, AreWritten, AreRefused, WritesFrom, WritingEnds, put_member, table_way, telling}
+use Rattle.cargo_toml_write.specs.Writes.{Way, required_row, optional_row, AreWritten, WritingEnds, IsWriting, given_row, AreRefused, WritesFrom, put_member, Refuses, Row, table_way, telling}
 
 -- some rows and then others
 are_both : (rs qs : List Row) (old mid new : Members) → AreWritten rs old mid → AreWritten qs mid new → AreWritten (rs ++ qs) old new

@@ -1,6 +1,5 @@
 -- What is read of what was written of a manifest, and of which manifests that is said.
-use Rattle.std.specs.Prelude.{◌≡◌, ℕ, List, map, true, false, if◌then◌else◌}
-use Rattle.std.specs.Prelude.{IfSome, option_map}
+use Rattle.std.specs.Prelude.{◌≡◌, ℕ, List, map, true, false, if◌then◌else◌, IfSome, option_map}
 use Rattle.cargo_toml_dependencies.specs.Dependencies.{DependencyMeaning, no_detail}
 use Rattle.cargo_toml_dependencies.specs.Dependencies as kind
 use Rattle.cargo_toml_dependencies.specs.Targets.{TargetMeaning}
@@ -10,11 +9,9 @@ use Rattle.cargo_toml_manifest.specs.Manifests.{ManifestMeaning, by_zero_rule}
 use Rattle.cargo_toml_package.specs.Sharing.{Shared}
 use Rattle.cargo_toml_package.specs.Workspaces.{WorkspaceMeaning}
 use Rattle.cargo_toml_write.specs.Asked.{Asked, EachValue, ManifestMeets}
-use Rattle.cargo_toml_write.specs.WrittenDependencies.{DependencyAgain}
-use Rattle.cargo_toml_write.specs.WrittenFeatures.{AreTold}
-use Rattle.cargo_toml_write.specs.WrittenLints.{IsApart}
+use Rattle.cargo_toml_write.specs.WrittenDependencies.{DependencyAgain, AreTold}
 use Rattle.cargo_toml_write.specs.WrittenPackages.{TemplateAgain, VersionAgain}
-use Rattle.cargo_toml_write.specs.WrittenProfiles.{AreApart}
+use Rattle.cargo_toml_write.specs.WrittenTables.{AreApart, IsApart}
 
 -- a dependency as it is read again: nothing says that it was inherited once, and one that says that
 -- it isn't is a detail

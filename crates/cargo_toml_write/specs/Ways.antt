@@ -16,6 +16,7 @@ use Rattle.cargo_toml_parts.specs.Faults.{IsOther, floats_unsupported}
 use Rattle.cargo_toml_parts.specs.Floats.{has_no_float}
 use Rattle.cargo_toml_parts.specs.Numbers.{fits_u16, fits_i8}
 use Rattle.cargo_toml_parts.specs.Versions.{Parts}
+use Rattle.cargo_toml_write.specs.Asked.{IfSet}
 use Rattle.cargo_toml_write.specs.Requirements.{requirement_text}
 use Rattle.cargo_toml_write.specs.Writes.{Way, Row, required_row, optional_row, table_way}
 use Rattle.cargo_toml_write.specs.Writes.{never_left_out, telling}
@@ -26,6 +27,8 @@ exactly tree = record {
   trees = λ x d. d ≡ tree x;
   refuses = λ x e. ⊥;
   left_out = never_left_out;
+  asks = λ x. Unit {0};
+  asks_nothing = true;
 }
 
 abbrev pub text_way : Way (List ℕ)
@@ -49,11 +52,16 @@ abbrev pub requirement_way : Way (List Held)
 requirement_way = exactly (λ held. string (requirement_text held))
 
 -- a tree itself, unless it holds a float
+abbrev pub HoldsNoFloat : Data → Type 0
+HoldsNoFloat tree = IsTrue (has_no_float tree)
+
 abbrev pub free_way : Way Data
 free_way = record {
-  trees = λ tree d. IsTrue (has_no_float tree) × (d ≡ tree);
-  refuses = λ tree e. IsOther floats_unsupported e;
+  trees = λ tree d. HoldsNoFloat tree × (d ≡ tree);
+  refuses = λ tree e. (¬ (HoldsNoFloat tree)) × IsOther floats_unsupported e;
   left_out = never_left_out;
+  asks = HoldsNoFloat;
+  asks_nothing = false;
 }
 
 -- a list: a tree for each element; an empty one is left out
@@ -71,11 +79,17 @@ ItemsRefused way [] e = ⊥
 ItemsRefused way (x ∷ xs) e =
     (((d : Data) → ¬ (way.trees x d)) × way.refuses x e) ⊎ ItemsRefused way xs e
 
+abbrev pub ItemsAsk : {X : Type 0} → Way X → List X → Type 0
+ItemsAsk way [] = Unit {0}
+ItemsAsk way (x ∷ xs) = way.asks x × ItemsAsk way xs
+
 abbrev pub list_way : {X : Type 0} → Way X → Way (List X)
 list_way way = record {
   trees = λ xs d. (ds : Items) × (d ≡ array ds) × AreItems way xs ds;
   refuses = ItemsRefused way;
   left_out = is_nil;
+  asks = ItemsAsk way;
+  asks_nothing = way.asks_nothing;
 }
 
 abbrev pub texts_way : Way (List (List ℕ))
@@ -122,6 +136,8 @@ inheritable_way way = record {
   trees = InheritableTree way;
   refuses = InheritableRefused way;
   left_out = is_set_and way.left_out;
+  asks = IfSet way.asks;
+  asks_nothing = way.asks_nothing;
 }
 
 -- a truth value that is left out where it is that of a missing key

@@ -1,6 +1,6 @@
 -- What a writer answers, and how a table is written key by key.
 use Rattle.std.specs.Prelude.{◌≡◌, ◌⊎◌, ℕ, List, [], ◌∷◌, Bool, true, false}
-use Rattle.std.specs.Prelude.{IsTrue, Result, Ok, Err, IfOk, Option, Some, None, IfSome}
+use Rattle.std.specs.Prelude.{IsTrue, Result, Ok, Err, IfOk, Option, Some, None, IfSome, MatchBool}
 use Rattle.std.specs.Cmp.Lexicographic.{slice_cmp}
 use Rattle.std.specs.Ordering.{nat_cmp, match_ordering}
 use Rattle.toml.specs.Data.{Data, table, Members, no_members, member}
@@ -10,20 +10,15 @@ use Rattle.cargo_toml_parts.specs.declared.error.Error.{Error, Memory}
 use Rattle.cargo_toml_parts.specs.Floats.{has_no_float, without_floats}
 use Rattle.cargo_toml_write.specs.declared.write.writing.Writing.{Writing}
 
--- how what values hold is written: the trees of each, and the faults of one that has no tree; and
--- which value is left out of a table, since a missing key stands for it
+-- how what values hold is written: the trees of each, and the faults of one that has no tree; which
+-- value is left out of a table, since a missing key stands for it; and what is asked of a value so
+-- that it has a tree, as that no free value in it holds a float. Of some types nothing is asked
 pub record Way (X : Type 0) : Type 1 where
   pub trees : X → Data → Type 0
   pub refuses : X → Error → Type 0
   pub left_out : X → Bool
-
--- there is a tree of what is held
-abbrev pub HasTree : {X : Type 0} → Way X → X → Type 0
-HasTree way x = (d : Data) × way.trees x d
-
--- what is written in this way holds no float
-abbrev pub IsFloatless : {X : Type 0} → Way X → Type 0
-IsFloatless {X = X} way = (x : X) (d : Data) → way.trees x d → IsTrue (has_no_float d)
+  pub asks : X → Type 0
+  pub asks_nothing : Bool
 
 abbrev pub never_left_out : {X : Type 0} → X → Bool
 never_left_out x = false
@@ -32,10 +27,19 @@ never_left_out x = false
 abbrev pub Refuses : {X : Type 0} → Way X → X → Error → Type 0
 Refuses way x e = ((d : Data) → ¬ (way.trees x d)) × way.refuses x e
 
--- values such as these are never refused, and no others have a tree
-pub record Exact {X : Type 0} (way : Way X) (P : X → Type 0) : Type 0 where
-  pub never : (x : X) → P x → (e : Error) → ¬ (Refuses way x e)
-  pub only : (x : X) (d : Data) → way.trees x d → P x
+-- no tree holds a float, and a value has one only if it is as asked; then it is never refused
+pub record AreLawful (trees : Data → Type 0) (asks : Type 0)
+    (refuses : Error → Type 0) : Type 0 where
+  pub floatless : (d : Data) → trees d → IsTrue (has_no_float d)
+  pub only : (d : Data) → trees d → asks
+  pub never : asks → (e : Error) → ¬ (refuses e)
+
+abbrev pub IsLawfulAt : {X : Type 0} → Way X → X → Type 0
+IsLawfulAt way x = AreLawful (way.trees x) (way.asks x) (way.refuses x)
+
+pub record IsLawful {X : Type 0} (way : Way X) : Type 0 where
+  pub each : (x : X) → IsLawfulAt way x
+  pub nothing : IsTrue way.asks_nothing → (x : X) → way.asks x
 
 -- the answer is a tree of what is held; where there is none, it is a fault that says why; or
 -- there was no memory
@@ -131,10 +135,21 @@ abbrev pub WritingEnds : Option Error → Members → Result Value Error → Typ
 WritingEnds fault ms (Ok v) = (fault ≡ None) × (view v ≡ table ms)
 WritingEnds fault ms (Err e) = fault ≡ Some e
 
--- a table of rows
+-- what is asked of the values of rows: nothing where nothing is asked of any value of the type
+abbrev pub RowsAsk : List Row → Type 0
+RowsAsk [] = Unit {0}
+RowsAsk (row ∷ rows) =
+    MatchBool row.way.asks_nothing (RowsAsk rows) (IfSome row.value row.way.asks × RowsAsk rows)
+
+-- a table of rows, and one of rows of which nothing is asked
 abbrev pub table_way : {X : Type 0} → (X → List Row) → Way X
 table_way rows = record {
   trees = λ x d. (ms : Members) × (d ≡ table ms) × AreWritten (rows x) no_members ms;
   refuses = λ x e. AreRefused (rows x) e;
   left_out = never_left_out;
+  asks = λ x. RowsAsk (rows x);
+  asks_nothing = false;
 }
+
+abbrev pub plain_table_way : {X : Type 0} → (X → List Row) → Way X
+plain_table_way rows = record (table_way rows) { asks_nothing = true }

@@ -1,20 +1,23 @@
--- How dependencies are written, and which are read again as they were.
-use Rattle.std.specs.Prelude.{◌≡◌, ℕ, List, [], ◌∷◌, ◌++◌, codes, true, false}
-use Rattle.std.specs.Prelude.{Option, None, IfSome, option_and_then, All}
+-- How dependencies and features are written, and which are read again as they were.
+use Rattle.std.specs.Prelude.{◌≡◌, ℕ, List, [], ◌∷◌, ◌++◌, true, None, All, map, Some}
+use Rattle.std.specs.Prelude.{codes, false, Option, IfSome, option_and_then, if◌then◌else◌, IsTrue}
 use Rattle.std.specs.Map.{keys_of}
+use Rattle.std.specs.Str.{bytes_eq}
 use Rattle.toml.specs.Data.{Data, as_bool, as_table}
-use Rattle.cargo_toml_dependencies.specs.Dependencies.{InheritedMeaning, DetailMeaning}
-use Rattle.cargo_toml_dependencies.specs.Dependencies.{DependencyMeaning, inherited_of}
-use Rattle.cargo_toml_dependencies.specs.Dependencies.{detail_keys, detail_of_table}
+use Rattle.cargo_toml_dependencies.specs.Dependencies.{InheritedMeaning, DependencyMeaning}
+use Rattle.cargo_toml_dependencies.specs.Dependencies.{DetailMeaning, inherited_of, detail_of_table}
+use Rattle.cargo_toml_dependencies.specs.Dependencies.{detail_keys}
 use Rattle.cargo_toml_dependencies.specs.Dependencies as kind
 use Rattle.cargo_toml_dependencies.specs.Targets.{TargetMeaning}
+use Rattle.cargo_toml_dependencies.specs.Details.{Detail, is_plain}
+use Rattle.cargo_toml_dependencies.specs.Features.{FeaturesMeaning, features_of, no_features}
 use Rattle.cargo_toml_parts.specs.declared.error.Error.{Error}
-use Rattle.cargo_toml_parts.specs.Reads.{is_among, required_at}
+use Rattle.cargo_toml_parts.specs.Reads.{is_among, required_at, given_at}
 use Rattle.cargo_toml_write.specs.Requirements.{CanBeRead}
-use Rattle.cargo_toml_write.specs.Ways.{text_way, texts_way, requirement_way}
-use Rattle.cargo_toml_write.specs.Ways.{Ascend, free_way, map_way, entry_rows, flag_row, members_of}
-use Rattle.cargo_toml_write.specs.Writes.{Way, Row, required_row, optional_row}
-use Rattle.cargo_toml_write.specs.Writes.{given_row, table_way, never_left_out, telling}
+use Rattle.cargo_toml_write.specs.Ways.{text_way, Ascend, free_way, flag_row, is_nil}
+use Rattle.cargo_toml_write.specs.Ways.{texts_way, requirement_way, map_way, entry_rows, members_of}
+use Rattle.cargo_toml_write.specs.Writes.{Way, Row, table_way, plain_table_way, telling}
+use Rattle.cargo_toml_write.specs.Writes.{required_row, optional_row, given_row, never_left_out}
 
 abbrev pub inherited_rows : InheritedMeaning → List Row
 inherited_rows i =
@@ -24,7 +27,7 @@ inherited_rows i =
     ∷ []
 
 abbrev pub inherited_way : Way InheritedMeaning
-inherited_way = table_way inherited_rows
+inherited_way = plain_table_way inherited_rows
 
 -- the keys that a detail knows
 abbrev pub known_rows : DetailMeaning → List Row
@@ -61,11 +64,17 @@ DependencyRefused (kind.simple r) e = requirement_way.refuses r e
 DependencyRefused (kind.inherited i) e = inherited_way.refuses i e
 DependencyRefused (kind.detailed x) e = detail_way.refuses x e
 
+abbrev pub DependencyAsks : DependencyMeaning → Type 0
+DependencyAsks (kind.detailed x) = detail_way.asks x
+DependencyAsks other = Unit {0}
+
 abbrev pub dependency_way : Way DependencyMeaning
 dependency_way = record {
   trees = DependencyTree;
   refuses = DependencyRefused;
   left_out = never_left_out;
+  asks = DependencyAsks;
+  asks_nothing = false;
 }
 
 -- the public readers of both tables
@@ -104,3 +113,60 @@ target_rows t =
 
 abbrev pub target_way : Way TargetMeaning
 target_way = table_way target_rows
+
+-- the table of a feature that has a detail
+abbrev pub told_rows : List (List ℕ) × Detail → List Row
+told_rows f =
+    given_row (codes "enables") texts_way f.0
+    ∷ flag_row (codes "public") true f.1.public
+    ∷ optional_row (codes "doc") text_way f.1.doc
+    ∷ []
+
+abbrev pub told_way : Way (List (List ℕ) × Detail)
+told_way = plain_table_way told_rows
+
+-- the list of a feature, or its table where it has a detail
+abbrev pub FeatureTree : List (List ℕ) → Option Detail → Data → Type 0
+FeatureTree enables None d = texts_way.trees enables d
+FeatureTree enables (Some detail) d = told_way.trees (enables, detail) d
+
+abbrev pub FeatureRefused : List (List ℕ) → Option Detail → Error → Type 0
+FeatureRefused enables None e = texts_way.refuses enables e
+FeatureRefused enables (Some detail) e = told_way.refuses (enables, detail) e
+
+abbrev pub feature_way : Way (List (List ℕ) × Option Detail)
+feature_way = record {
+  trees = λ f d. FeatureTree f.0 f.1 d;
+  refuses = λ f e. FeatureRefused f.0 f.1 e;
+  left_out = never_left_out;
+  asks = λ f. Unit {0};
+  asks_nothing = true;
+}
+
+-- the detail of a name
+abbrev pub detail_under : List ℕ → List (List ℕ × Detail) → Option Detail
+detail_under name [] = None
+detail_under name (e ∷ es) = if bytes_eq name e.0 then Some e.1 else detail_under name es
+
+-- each feature with its detail; those of other names are passed over
+abbrev pub told_features : FeaturesMeaning → List (List ℕ × (List (List ℕ) × Option Detail))
+told_features fs = map (λ f. (f.0, (f.1, detail_under f.0 fs.1))) fs.0
+
+-- the features of a manifest, which are left out where there is none
+abbrev pub features_way : Way FeaturesMeaning
+features_way = record {
+  trees = λ fs d. Ascend (keys_of fs.1) × (map_way feature_way).trees (told_features fs) d;
+  refuses = λ fs e. (map_way feature_way).refuses (told_features fs) e;
+  left_out = λ fs. is_nil fs.0;
+  asks = λ fs. Unit {0};
+  asks_nothing = true;
+}
+
+-- each detail is of a feature that is there, and says something
+pub record AreTold (fs : FeaturesMeaning) : Type 0 where
+  pub named : All (λ e. IsTrue (is_among (keys_of fs.0) e.0)) fs.1
+  pub told : All (λ e. is_plain e.1 ≡ false) fs.1
+
+-- the features of the manifest that a tree is
+abbrev pub features_in : Data → Option FeaturesMeaning
+features_in d = option_and_then (given_at "features" no_features features_of) (as_table d)

@@ -3,14 +3,10 @@ use Rattle.std.specs.Prelude.{List, [], ◌∷◌, codes}
 use Rattle.cargo_toml_dependencies.specs.Features.{FeaturesMeaning}
 use Rattle.cargo_toml_manifest.specs.Manifests.{ManifestMeaning}
 use Rattle.cargo_toml_write.specs.Ways.{list_way, map_way, inheritable_way}
-use Rattle.cargo_toml_write.specs.WrittenBadges.{badges_way}
-use Rattle.cargo_toml_write.specs.WrittenDependencies.{dependencies_way, target_way}
-use Rattle.cargo_toml_write.specs.WrittenFeatures.{features_way}
-use Rattle.cargo_toml_write.specs.WrittenLints.{lint_groups_way}
-use Rattle.cargo_toml_write.specs.WrittenPackages.{package_way}
-use Rattle.cargo_toml_write.specs.WrittenProducts.{product_way}
-use Rattle.cargo_toml_write.specs.WrittenProfiles.{profiles_way}
-use Rattle.cargo_toml_write.specs.WrittenWorkspaces.{workspace_way}
+use Rattle.cargo_toml_write.specs.WrittenDependencies.{dependencies_way, target_way, features_way}
+use Rattle.cargo_toml_write.specs.WrittenPackages.{package_way, workspace_way}
+use Rattle.cargo_toml_write.specs.WrittenTables.{badges_way, lint_groups_way}
+use Rattle.cargo_toml_write.specs.WrittenTables.{product_way, profiles_way}
 use Rattle.cargo_toml_write.specs.Writes.{Way, Row, optional_row, given_row, table_way}
 
 -- its features, and what is said of them

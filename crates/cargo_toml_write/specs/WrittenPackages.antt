@@ -1,17 +1,20 @@
--- How packages and their templates are written, and when a package is read again.
+-- How packages, templates and workspaces are written, and which packages are read again.
 use Rattle.std.specs.Prelude.{◌≡◌, List, [], ◌∷◌, codes, true, Ok, Option, Some, None, IfSome}
 use Rattle.semver.specs.Identifiers.{parts_text}
 use Rattle.semver.specs.Parse.{version_parts}
 use Rattle.toml.specs.Data.{Data}
 use Rattle.cargo_toml_package.specs.Packages.{PackageMeaning}
 use Rattle.cargo_toml_package.specs.Templates.{TemplateMeaning}
+use Rattle.cargo_toml_package.specs.Workspaces.{WorkspaceMeaning}
 use Rattle.cargo_toml_parts.specs.declared.inheritable.Inheritable.{Inheritable}
 use Rattle.cargo_toml_parts.specs.Versions.{Parts}
 use Rattle.cargo_toml_write.specs.Asked.{IfSet}
 use Rattle.cargo_toml_write.specs.Ways.{text_way, texts_way, version_way, inheritable_way, flag_row}
 use Rattle.cargo_toml_write.specs.WrittenSettings.{edition_way, resolver_way, file_way, publish_way}
-use Rattle.cargo_toml_write.specs.Writes.{Way, Row, required_row}
-use Rattle.cargo_toml_write.specs.Writes.{optional_row, given_row, table_way}
+use Rattle.cargo_toml_write.specs.Writes.{Way, Row, required_row, optional_row, given_row}
+use Rattle.cargo_toml_write.specs.Writes.{table_way, plain_table_way}
+use Rattle.cargo_toml_write.specs.WrittenDependencies.{dependencies_way}
+use Rattle.cargo_toml_write.specs.WrittenTables.{lint_groups_way}
 
 -- the rows of a package, whose metadata are written in the given way
 abbrev pub package_rows : {M : Type 0} → Way M → PackageMeaning M → List Row
@@ -93,4 +96,20 @@ template_rows t =
     ∷ []
 
 abbrev pub template_way : Way TemplateMeaning
-template_way = table_way template_rows
+template_way = plain_table_way template_rows
+
+-- the rows of a workspace, whose metadata are written in the given way
+abbrev pub workspace_rows : {M : Type 0} → Way M → WorkspaceMeaning M → List Row
+workspace_rows metadata w =
+    required_row (codes "members") texts_way w.members
+    ∷ given_row (codes "default-members") texts_way w.default_members
+    ∷ optional_row (codes "package") template_way w.«package»
+    ∷ given_row (codes "exclude") texts_way w.exclude
+    ∷ optional_row (codes "metadata") metadata w.metadata
+    ∷ optional_row (codes "resolver") resolver_way w.resolver
+    ∷ given_row (codes "dependencies") dependencies_way w.dependencies
+    ∷ given_row (codes "lints") lint_groups_way w.lints
+    ∷ []
+
+abbrev pub workspace_way : {M : Type 0} → Way M → Way (WorkspaceMeaning M)
+workspace_way metadata = table_way (workspace_rows metadata)

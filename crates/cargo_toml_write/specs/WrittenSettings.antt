@@ -58,11 +58,7 @@ is_usual (flag b) = b
 is_usual _ = false
 
 abbrev pub file_way : Way File
-file_way = record {
-  trees = λ x d. d ≡ file_tree x;
-  refuses = λ x e. ⊥;
-  left_out = is_usual;
-}
+file_way = record (exactly file_tree) { left_out = is_usual }
 
 -- everywhere or nowhere, or the registries; it is left out where it is everywhere
 abbrev pub PublishTree : Registries → Data → Type 0
@@ -82,6 +78,8 @@ publish_way = record {
   trees = PublishTree;
   refuses = PublishRefused;
   left_out = is_unrestricted;
+  asks = λ x. Unit {0};
+  asks_nothing = true;
 }
 
 abbrev pub debug_tree : DebugSetting → Data

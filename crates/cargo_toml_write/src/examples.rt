@@ -7,11 +7,11 @@ ghost use Rattle.cargo_toml_package.specs.Packages.{package_of_table, new_packag
 ghost use Rattle.cargo_toml_parts.specs.declared.inheritable.Inheritable.TheVariants.{Set};
 ghost use Rattle.cargo_toml_parts.specs.declared.inheritable.Inheritable.TheVariants.{Inherited};
 ghost use Rattle.cargo_toml_tables.specs.Settings.{everywhere};
-ghost use Rattle.cargo_toml_write.specs.Examples.{path_dependency, path_dependency_tree};
-ghost use Rattle.cargo_toml_write.specs.Examples.{untested_binary, untested_binary_tree, only_name};
+ghost use Rattle.cargo_toml_write.specs.Examples.{path_dependency, untested_binary, only_name};
+ghost use Rattle.cargo_toml_write.specs.Examples.{path_dependency_tree, untested_binary_tree};
 ghost use Rattle.cargo_toml_write.specs.Ways.{text_way, inheritable_way};
 ghost use Rattle.cargo_toml_write.specs.WrittenDependencies.{dependency_way};
-ghost use Rattle.cargo_toml_write.specs.WrittenProducts.{product_way};
+ghost use Rattle.cargo_toml_write.specs.WrittenTables.{product_way};
 
 /// `{ features = ["std"], optional = true, path = "../log" }`: what a missing key stands for is
 /// left out, as the default features are, and the keys stand in their order.

@@ -1,67 +1,32 @@
-//! Laws: what can be written, and what is read again. A value that holds no float in what it may
-//! hold freely is never refused, and no other has a tree.
-ghost use Rattle.std.specs.Prelude.{◌≡◌, ℕ, List, Option, Some, Ok};
+//! Laws: which manifests can be written, and what is read again.
+ghost use Rattle.std.specs.Prelude.{◌≡◌, ◌↔◌, ℕ, List, Option, Some, Ok};
 ghost use Rattle.semver.specs.Parse.{Held, version_parts};
 ghost use Rattle.toml.specs.Data.{Data, Members};
 ghost use Rattle.cargo_toml_dependencies.specs.Dependencies.{DetailMeaning, DependencyMeaning};
 ghost use Rattle.cargo_toml_dependencies.specs.Dependencies.{simple, detailed, dependency_of};
-ghost use Rattle.cargo_toml_manifest.specs.Manifests.{ManifestMeaning, manifest_reads};
+ghost use Rattle.cargo_toml_discovery.specs.Names.{Name};
+ghost use Rattle.cargo_toml_discovery.specs.Told.{Told};
+ghost use Rattle.cargo_toml_manifest.specs.declared.manifest.Manifest.{Manifest};
+ghost use Rattle.cargo_toml_manifest.specs.Choosing.{Choice};
+ghost use Rattle.cargo_toml_manifest.specs.Completing.{complete_by, gives};
+ghost use Rattle.cargo_toml_manifest.specs.Manifests.{ManifestMeaning, manifest_reads, held};
+ghost use Rattle.cargo_toml_manifest.specs.Manifests.{manifest_meaning};
 ghost use Rattle.cargo_toml_manifest.specs.Texts.{any_tree, document_reads};
 ghost use Rattle.cargo_toml_parts.specs.Floats.{without_floats};
 ghost use Rattle.cargo_toml_parts.specs.Reads.{array_of, map_of};
 ghost use Rattle.cargo_toml_parts.specs.Versions.{Parts};
 ghost use Rattle.cargo_toml_tables.specs.Lints.{LintMeaning, lint_of};
 ghost use Rattle.cargo_toml_write.specs.Asked.{EachValue, ManifestMeets};
-ghost use Rattle.cargo_toml_write.specs.NoFloats.{HoldsNoFloat, DetailHoldsNoFloat};
-ghost use Rattle.cargo_toml_write.specs.NoFloats.{DependencyHoldsNoFloat, TargetHoldsNoFloat};
-ghost use Rattle.cargo_toml_write.specs.NoFloats.{ProfileHoldsNoFloat, ProfilesHoldsNoFloat};
-ghost use Rattle.cargo_toml_write.specs.NoFloats.{LintHoldsNoFloat, PackageHoldsNoFloat};
-ghost use Rattle.cargo_toml_write.specs.NoFloats.{WorkspaceHoldsNoFloat, ManifestHoldsNoFloat};
-ghost use Rattle.cargo_toml_write.specs.Reread.{IsTold, each_value, reread, reread_dependency};
-ghost use Rattle.cargo_toml_write.specs.Reread.{says_true};
+ghost use Rattle.cargo_toml_write.specs.Reread.{IsTold, says_true, reread};
+ghost use Rattle.cargo_toml_write.specs.Reread.{each_value, reread_dependency, ChoiceIsTold};
 ghost use Rattle.cargo_toml_write.specs.Ways.{free_way, list_way, map_way};
-ghost use Rattle.cargo_toml_write.specs.WrittenDependencies.{detail_way, dependency_way};
-ghost use Rattle.cargo_toml_write.specs.WrittenDependencies.{dependencies_way, target_way};
-ghost use Rattle.cargo_toml_write.specs.WrittenDependencies.{DependencyAgain};
-ghost use Rattle.cargo_toml_write.specs.WrittenLints.{lint_way, lint_groups_way, IsApart};
+ghost use Rattle.cargo_toml_write.specs.WrittenDependencies.{dependencies_way, DependencyAgain};
 ghost use Rattle.cargo_toml_write.specs.WrittenManifests.{manifest_way};
-ghost use Rattle.cargo_toml_write.specs.WrittenPackages.{package_way, IsVersionAgain};
-ghost use Rattle.cargo_toml_write.specs.WrittenProfiles.{profile_way, profiles_way};
-ghost use Rattle.cargo_toml_write.specs.WrittenWorkspaces.{workspace_way};
-ghost use Rattle.cargo_toml_write.specs.Writes.{Exact, HasTree};
+ghost use Rattle.cargo_toml_write.specs.WrittenPackages.{IsVersionAgain};
+ghost use Rattle.cargo_toml_write.specs.WrittenTables.{lint_groups_way, IsApart};
 
 use crate::write::ToValue;
-
-/// The dependencies that hold no float.
-pub fn dependencies_without_floats()
-    ensures detail { Exact detail_way DetailHoldsNoFloat }
-    ensures dependency { Exact dependency_way DependencyHoldsNoFloat }
-    ensures target { Exact target_way TargetHoldsNoFloat }
-{}
-
-/// The profiles and lints that hold no float.
-pub fn tables_without_floats()
-    ensures profile { Exact profile_way ProfileHoldsNoFloat }
-    ensures profiles { Exact profiles_way ProfilesHoldsNoFloat }
-    ensures lint { Exact lint_way LintHoldsNoFloat }
-{}
-
-/// The packages, workspaces and manifests that hold no float, where metadata are a free value.
-pub fn manifests_without_floats()
-    ensures packages { Exact (package_way free_way) (PackageHoldsNoFloat HoldsNoFloat) }
-    ensures workspaces { Exact (workspace_way free_way) (WorkspaceHoldsNoFloat HoldsNoFloat) }
-    ensures manifests { Exact (manifest_way free_way) (ManifestHoldsNoFloat HoldsNoFloat) }
-{}
-
-/// The same, where metadata are of any type: each has to have a tree.
-pub fn manifests_of_any_metadata<Metadata: ToValue>()
-    ensures packages { Exact (package_way Metadata.way)
-        (PackageHoldsNoFloat (HasTree Metadata.way)) }
-    ensures workspaces { Exact (workspace_way Metadata.way)
-        (WorkspaceHoldsNoFloat (HasTree Metadata.way)) }
-    ensures manifests { Exact (manifest_way Metadata.way)
-        (ManifestHoldsNoFloat (HasTree Metadata.way)) }
-{}
+use cargo_toml_parts::FromValue;
 
 /// The requirements and details that were read of a dependency are such as are read again, and so
 /// is a version that a text says.
@@ -94,18 +59,14 @@ pub fn collections_are_read_again<T: ToValue>()
         → map_of (map_of lint_of) d ≡ Some groups }
 {}
 
-/// A manifest that was read, of a tree or of a document, with metadata as a free value, is never
-/// refused, since it holds no float: what it was read of holds none.
+/// A manifest that was read, of a tree or of a document, with metadata as a free value, is as asked
+/// of one that is written, and so is never refused: what it was read of holds no float.
 pub fn read_manifests_are_written()
-    ensures no_float { (d : Data) (m : ManifestMeaning Data)
-        → without_floats (manifest_reads any_tree) d ≡ Some m
-        → ManifestHoldsNoFloat HoldsNoFloat m }
     ensures of_tree { (d : Data) (m : ManifestMeaning Data)
-        → without_floats (manifest_reads any_tree) d ≡ Some m
-        → ManifestHoldsNoFloat (HasTree free_way) m }
+        → without_floats (manifest_reads any_tree) d ≡ Some m → (manifest_way free_way).asks m }
     ensures of_document { (document : Option Members) (m : ManifestMeaning Data)
         → document_reads (manifest_reads any_tree) document ≡ Some m
-        → ManifestHoldsNoFloat (HasTree free_way) m }
+        → (manifest_way free_way).asks m }
 {}
 
 /// A manifest that was read, with metadata as a free value, is told, so that it is read again from
@@ -118,4 +79,13 @@ pub fn read_manifests_are_told()
     ensures stays { (document : Option Members) (m : ManifestMeaning Data)
         → document_reads (manifest_reads any_tree) document ≡ Some m
         → ManifestMeets says_true m → reread m ≡ m }
+{}
+
+/// What completion gives of a manifest that is told, from a workspace that is, is told, so that it
+/// is read again too. That doesn't depend on how its metadata are seen.
+pub fn completed_manifests_are_told<Metadata: FromValue>()
+    ensures completed { (m n : ManifestMeaning Metadata) (by : Choice) (folders : Name → Told)
+        → IsTold m → ChoiceIsTold by → complete_by m by folders ≡ gives n → IsTold n }
+    ensures alike { (m : Manifest Metadata)
+        → IsTold (held m) ↔ IsTold (manifest_meaning Metadata.meaning m) }
 {}

@@ -2,7 +2,7 @@
 ghost use Rattle.std.specs.Prelude.{◌≡◌, OnOk, IfErr};
 ghost use Rattle.toml.specs.View.{view, table_view};
 ghost use Rattle.cargo_toml_parts.specs.declared.error.Error.{Error};
-ghost use Rattle.cargo_toml_write.specs.Writes.{Way, IsWriting, IsFloatless, put_member};
+ghost use Rattle.cargo_toml_write.specs.Writes.{Way, IsWriting, put_member, IsLawful};
 
 pub mod badge;
 pub mod collections;
@@ -27,8 +27,9 @@ use toml::{Table, Value};
 /// metadata is any such type.
 ///
 /// A type says what its values mean, and the way in which that is written: which trees it is
-/// written to, and which faults a value that has none may be refused with. By the law `floatless`
-/// no tree holds a float, so that no reader refuses one for that.
+/// written to, which faults a value that has none may be refused with, and what is asked of a value
+/// so that it has one. By the law `lawful` a value that is as asked is never refused, and no other
+/// has a tree; and no tree holds a float, so that no reader refuses one for that.
 pub trait ToValue {
     // what its values mean: the type of meanings
     ghost Meaning: { Type 0 };
@@ -50,8 +51,8 @@ pub trait ToValue {
     fn to_value(&self, alloc: Global) -> Result<Value, Error>
         ensures { IsWriting way (meaning self.now) result };
 
-    // no tree holds a float
-    ghost floatless: { IsFloatless way };
+    // no tree holds a float, and a value has one exactly if it is as asked
+    ghost lawful: { IsLawful way };
 }
 
 /// What is left out of a table where it is what a missing key stands for.

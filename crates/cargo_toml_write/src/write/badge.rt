@@ -5,11 +5,10 @@ ghost use Rattle.cargo_toml_parts.specs.declared.error.Error.{Error};
 ghost use Rattle.cargo_toml_tables.specs.declared.badge.MaintenanceStatus.{MaintenanceStatus};
 ghost use Rattle.cargo_toml_tables.specs.Badges.{BadgeMeaning, BadgesMeaning, badge_meaning};
 ghost use Rattle.cargo_toml_tables.specs.Badges.{badges_meaning, badge_reads, maintenance_reads};
-ghost use Rattle.cargo_toml_write.specs.Floatless.{table_floatless};
-ghost use Rattle.cargo_toml_write.specs.WrittenBadges.{badge_way, maintenance_way, badges_way};
-ghost use Rattle.cargo_toml_write.specs.WrittenBadges.{badge_rows, maintenance_rows};
-ghost use Rattle.cargo_toml_write.specs.WrittenBadges.{badges_rows, has_no_service, is_unstated};
+ghost use Rattle.cargo_toml_write.specs.Lawful.{badge_lawful, badges_lawful, maintenance_lawful};
 ghost use Rattle.cargo_toml_write.specs.Writes.{IsWriting, IsReadAgain};
+ghost use Rattle.cargo_toml_write.specs.WrittenTables.{badge_way, is_unstated};
+ghost use Rattle.cargo_toml_write.specs.WrittenTables.{maintenance_way, badges_way, has_no_service};
 
 use crate::write::writing::Writing;
 use crate::write::{LeftOut, ToValue};
@@ -25,7 +24,7 @@ impl ToValue for Badge {
 
     ghost way = { badge_way };
 
-    ghost floatless = { table_floatless badge_rows };
+    ghost lawful = { badge_lawful };
 
     fn to_value(&self, alloc: Global) -> Result<Value, Error>
         ensures written { IsWriting badge_way (badge_meaning self.now) result }
@@ -49,7 +48,7 @@ impl ToValue for Maintenance {
 
     ghost way = { maintenance_way };
 
-    ghost floatless = { table_floatless maintenance_rows };
+    ghost lawful = { maintenance_lawful };
 
     fn to_value(&self, alloc: Global) -> Result<Value, Error>
         ensures written { IsWriting maintenance_way self.now.status result }
@@ -69,7 +68,7 @@ impl ToValue for Badges {
 
     ghost way = { badges_way };
 
-    ghost floatless = { table_floatless badges_rows };
+    ghost lawful = { badges_lawful };
 
     fn to_value(&self, alloc: Global) -> Result<Value, Error>
         ensures written { IsWriting badges_way (badges_meaning self.now) result }

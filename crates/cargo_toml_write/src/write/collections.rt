@@ -1,20 +1,21 @@
 //! Lists and maps of what can be written, and values that a workspace may give.
-ghost use Rattle.std.specs.Prelude.{◌≡◌, ℕ, IfOk, List, map};
-ghost use Rattle.toml.specs.Data.{no_members};
-ghost use Rattle.toml.specs.View.{table_view};
+ghost use Rattle.std.specs.Prelude.{ℕ, IfOk, List, map};
+ghost use Rattle.std.specs.List.Sorted.{IsStrictlySortedBy};
+ghost use Rattle.std.specs.Map.{keys_of};
+ghost use Rattle.std.specs.String.{string_cmp};
 ghost use Rattle.cargo_toml_parts.specs.declared.inheritable.Inheritable.{Inheritable};
 ghost use Rattle.cargo_toml_parts.specs.Inherits.{inheritable_map};
 ghost use Rattle.cargo_toml_parts.specs.Reads.{map_meaning};
-ghost use Rattle.cargo_toml_write.specs.Floatless.{inheritable_floatless, list_floatless};
-ghost use Rattle.cargo_toml_write.specs.Floatless.{map_floatless};
-ghost use Rattle.cargo_toml_write.specs.Pairs.{AreGathered, put_all};
-ghost use Rattle.cargo_toml_write.specs.Ways.{entry_rows, list_way, map_way};
-ghost use Rattle.cargo_toml_write.specs.Ways.{inheritable_way, exactly, inherited_tree};
+ghost use Rattle.cargo_toml_write.specs.Lawful.{inheritable_lawful, list_lawful, map_lawful};
+ghost use Rattle.cargo_toml_write.specs.Pairs.{AreGathered};
+ghost use Rattle.cargo_toml_write.specs.Ways.{entry_rows, map_way, inheritable_way, inherited_tree};
+ghost use Rattle.cargo_toml_write.specs.Ways.{list_way, exactly};
 ghost use Rattle.cargo_toml_write.specs.Writes.{IsWriting};
 
 use crate::write::{LeftOut, ToValue, put};
+use cargo_toml_parts::read::map_of_pairs;
 use cargo_toml_parts::{Error, Inheritable};
-use std::alloc::{AllocError, Global};
+use std::alloc::Global;
 use std::collections::BTreeMap;
 use toml::{Table, Value};
 
@@ -25,7 +26,7 @@ impl<T: ToValue> ToValue for Vec<T> {
 
     ghost way = { list_way T.way };
 
-    ghost floatless = { list_floatless T.way T.floatless };
+    ghost lawful = { list_lawful T.way T.lawful };
 
     fn to_value(&self, alloc: Global) -> Result<Value, Error> {
         let mut values = Vec::with_capacity(alloc, self.len())?;
@@ -48,7 +49,8 @@ fn pairs_of<T: ToValue>(
     alloc: Global,
     map: &BTreeMap<String, T>,
 ) -> Result<Vec<(String, Value)>, Error>
-    ensures { AreGathered (entry_rows T.way (map_meaning T.meaning map.now)) result }
+    ensures rows { AreGathered (entry_rows T.way (map_meaning T.meaning map.now)) result }
+    ensures ascend { IfOk result (λ v. IsStrictlySortedBy string_cmp (keys_of v.items)) }
 {
     let mut pairs = Vec::with_capacity(alloc, map.len())?;
     for (key, x) in map.iter() {
@@ -58,14 +60,6 @@ fn pairs_of<T: ToValue>(
     Ok(pairs)
 }
 
-// The table of some pairs. It is made in one go: to insert them one by one looks each
-// key up from the root.
-pub(crate) fn table_of(alloc: Global, pairs: Vec<(String, Value)>) -> Result<Table, AllocError>
-    ensures { IfOk result (λ t. table_view t ≡ put_all pairs.items no_members) }
-{
-    pairs.into_iter().collect(alloc)
-}
-
 impl<T: ToValue> ToValue for BTreeMap<String, T> {
     ghost Meaning = { List (List ℕ × T.Meaning) };
 
@@ -73,12 +67,12 @@ impl<T: ToValue> ToValue for BTreeMap<String, T> {
 
     ghost way = { map_way T.way };
 
-    ghost floatless = { map_floatless T.way };
+    ghost lawful = { map_lawful T.way T.lawful };
 
     fn to_value(&self, alloc: Global) -> Result<Value, Error> {
         let _ascend = self.len();
         let pairs = pairs_of(alloc, self)?;
-        let table = table_of(alloc, pairs)?;
+        let table = map_of_pairs(alloc, pairs)?;
         Ok(Value::Table(table))
     }
 }
@@ -107,7 +101,7 @@ impl<T: ToValue> ToValue for Inheritable<T> {
 
     ghost way = { inheritable_way T.way };
 
-    ghost floatless = { inheritable_floatless T.way T.floatless };
+    ghost lawful = { inheritable_lawful T.way T.lawful };
 
     fn to_value(&self, alloc: Global) -> Result<Value, Error> {
         match self {

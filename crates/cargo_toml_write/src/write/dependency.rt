@@ -7,18 +7,15 @@ ghost use Rattle.cargo_toml_dependencies.specs.Dependencies.{dependency_of};
 ghost use Rattle.cargo_toml_dependencies.specs.Targets.{TargetMeaning, target_meaning};
 ghost use Rattle.cargo_toml_manifest.specs.Manifests.{target_reads};
 ghost use Rattle.cargo_toml_parts.specs.declared.error.Error.{Error};
-ghost use Rattle.cargo_toml_write.specs.Floatless.{dependency_floatless, detail_floatless};
-ghost use Rattle.cargo_toml_write.specs.Floatless.{table_floatless};
-ghost use Rattle.cargo_toml_write.specs.NoFloats.{DetailHoldsNoFloat, DependencyHoldsNoFloat};
-ghost use Rattle.cargo_toml_write.specs.NoFloats.{TargetHoldsNoFloat};
 ghost use Rattle.cargo_toml_write.specs.Asked.{TargetMeets};
+ghost use Rattle.cargo_toml_write.specs.Lawful.{dependency_lawful, detail_lawful, inherited_lawful};
+ghost use Rattle.cargo_toml_write.specs.Lawful.{target_lawful};
 ghost use Rattle.cargo_toml_write.specs.Reread.{reread_dependency, reread_target};
-ghost use Rattle.cargo_toml_write.specs.WrittenDependencies.{inherited_way, detail_way};
-ghost use Rattle.cargo_toml_write.specs.WrittenDependencies.{dependency_way, target_way};
-ghost use Rattle.cargo_toml_write.specs.WrittenDependencies.{inherited_rows, target_rows};
-ghost use Rattle.cargo_toml_write.specs.WrittenDependencies.{inherited_reads, detail_reads};
-ghost use Rattle.cargo_toml_write.specs.WrittenDependencies.{DetailAgain, DependencyAgain};
 ghost use Rattle.cargo_toml_write.specs.Writes.{IsWriting, IsReadAgain};
+ghost use Rattle.cargo_toml_write.specs.WrittenDependencies.{inherited_way, dependency_way};
+ghost use Rattle.cargo_toml_write.specs.WrittenDependencies.{detail_way, detail_reads, DetailAgain};
+ghost use Rattle.cargo_toml_write.specs.WrittenDependencies.{target_way};
+ghost use Rattle.cargo_toml_write.specs.WrittenDependencies.{inherited_reads, DependencyAgain};
 
 use crate::write::ToValue;
 use crate::write::writing::Writing;
@@ -34,7 +31,7 @@ impl ToValue for InheritedDependencyDetail {
 
     ghost way = { inherited_way };
 
-    ghost floatless = { table_floatless inherited_rows };
+    ghost lawful = { inherited_lawful };
 
     fn to_value(&self, alloc: Global) -> Result<Value, Error>
         ensures written { IsWriting inherited_way (inherited_meaning self.now) result }
@@ -58,13 +55,13 @@ impl ToValue for DependencyDetail {
 
     ghost way = { detail_way };
 
-    ghost floatless = { detail_floatless };
+    ghost lawful = { detail_lawful };
 
     fn to_value(&self, alloc: Global) -> Result<Value, Error>
         ensures written { IsWriting detail_way (detail_meaning self.now) result }
         ensures read_again { DetailAgain (detail_meaning self.now)
             → IsReadAgain detail_reads (detail_meaning self.now) result }
-        ensures memory { DetailHoldsNoFloat (detail_meaning self.now)
+        ensures memory { detail_way.asks (detail_meaning self.now)
             → IfErr result (λ e. e ≡ Error.Memory) }
     {
         let mut writing = Writing::new(alloc);
@@ -92,13 +89,13 @@ impl ToValue for Dependency {
 
     ghost way = { dependency_way };
 
-    ghost floatless = { dependency_floatless };
+    ghost lawful = { dependency_lawful };
 
     fn to_value(&self, alloc: Global) -> Result<Value, Error>
         ensures written { IsWriting dependency_way (dependency_meaning self.now) result }
         ensures read_again { DependencyAgain (dependency_meaning self.now)
             → IsReadAgain dependency_of (dependency_meaning self.now) result }
-        ensures memory { DependencyHoldsNoFloat (dependency_meaning self.now)
+        ensures memory { dependency_way.asks (dependency_meaning self.now)
             → IfErr result (λ e. e ≡ Error.Memory) }
     {
         match self {
@@ -117,14 +114,14 @@ impl ToValue for Target {
 
     ghost way = { target_way };
 
-    ghost floatless = { table_floatless target_rows };
+    ghost lawful = { target_lawful };
 
     fn to_value(&self, alloc: Global) -> Result<Value, Error>
         ensures written { IsWriting target_way (target_meaning self.now) result }
         ensures read_again { TargetMeets (λ d. DependencyAgain (reread_dependency d))
             (target_meaning self.now)
             → IsReadAgain target_reads (reread_target (target_meaning self.now)) result }
-        ensures memory { TargetHoldsNoFloat (target_meaning self.now)
+        ensures memory { target_way.asks (target_meaning self.now)
             → IfErr result (λ e. e ≡ Error.Memory) }
     {
         let mut writing = Writing::new(alloc);

@@ -1,19 +1,22 @@
 //! The writer of features, each with its detail.
-ghost use Rattle.std.specs.Prelude.{◌≡◌, map, option_copied, option_map, string_bytes};
+ghost use Rattle.std.specs.Prelude.{◌≡◌, IfOk, map, option_copied, option_map, string_bytes};
+ghost use Rattle.std.specs.List.Sorted.{IsStrictlySortedBy};
+ghost use Rattle.std.specs.Map.{keys_of};
+ghost use Rattle.std.specs.String.{string_cmp};
 ghost use Rattle.cargo_toml_dependencies.specs.Details.{detail_of};
 ghost use Rattle.cargo_toml_dependencies.specs.Features.{FeaturesMeaning, features_meaning};
-ghost use Rattle.cargo_toml_write.specs.Floatless.{features_floatless};
+ghost use Rattle.cargo_toml_write.specs.Lawful.{features_lawful};
 ghost use Rattle.cargo_toml_write.specs.Pairs.{AreGathered};
 ghost use Rattle.cargo_toml_write.specs.Ways.{entry_rows};
 ghost use Rattle.cargo_toml_write.specs.Writes.{IsWriting};
-ghost use Rattle.cargo_toml_write.specs.WrittenFeatures.{feature_way, features_way};
-ghost use Rattle.cargo_toml_write.specs.WrittenFeatures.{told_features, told_way};
+ghost use Rattle.cargo_toml_write.specs.WrittenDependencies.{feature_way};
+ghost use Rattle.cargo_toml_write.specs.WrittenDependencies.{features_way, told_features, told_way};
 
-use crate::write::collections::table_of;
 use crate::write::writing::Writing;
 use crate::write::{LeftOut, ToValue};
 use cargo_toml_dependencies::{FeatureDetail, FeatureDetails, FeatureSet};
 use cargo_toml_parts::Error;
+use cargo_toml_parts::read::map_of_pairs;
 use std::alloc::Global;
 use toml::Value;
 
@@ -50,8 +53,9 @@ fn pairs_of(
     lists: &FeatureSet,
     details: &FeatureDetails,
 ) -> Result<Vec<(String, Value)>, Error>
-    ensures { AreGathered (entry_rows feature_way
+    ensures rows { AreGathered (entry_rows feature_way
         (told_features (features_meaning lists.now details.now))) result }
+    ensures ascend { IfOk result (λ v. IsStrictlySortedBy string_cmp (keys_of v.items)) }
 {
     let mut pairs = Vec::with_capacity(alloc, lists.len())?;
     for (name, enables) in lists.iter() {
@@ -86,13 +90,13 @@ impl ToValue for Features<'_> {
 
     ghost way = { features_way };
 
-    ghost floatless = { features_floatless };
+    ghost lawful = { features_lawful };
 
     fn to_value(&self, alloc: Global) -> Result<Value, Error> {
         let _lists_ascend = self.lists.len();
         let _details_ascend = self.details.len();
         let pairs = pairs_of(alloc, self.lists, self.details)?;
-        let table = table_of(alloc, pairs)?;
+        let table = map_of_pairs(alloc, pairs)?;
         Ok(Value::Table(table))
     }
 }

@@ -2,11 +2,10 @@
 ghost use Rattle.std.specs.Prelude.{◌≡◌, IfErr};
 ghost use Rattle.cargo_toml_parts.specs.declared.error.Error.{Error};
 ghost use Rattle.cargo_toml_tables.specs.Lints.{LintMeaning, lint_meaning, lint_of};
-ghost use Rattle.cargo_toml_write.specs.Floatless.{lint_floatless};
-ghost use Rattle.cargo_toml_write.specs.NoFloats.{LintHoldsNoFloat};
+ghost use Rattle.cargo_toml_write.specs.Lawful.{lint_lawful};
 ghost use Rattle.cargo_toml_write.specs.Writes.{IsWriting, IsReadAgain};
-ghost use Rattle.cargo_toml_write.specs.WrittenLints.{is_level_alone, table_lint_way};
-ghost use Rattle.cargo_toml_write.specs.WrittenLints.{lint_way, IsApart};
+ghost use Rattle.cargo_toml_write.specs.WrittenTables.{is_level_alone, table_lint_way, lint_way};
+ghost use Rattle.cargo_toml_write.specs.WrittenTables.{IsApart};
 
 use crate::write::ToValue;
 use crate::write::writing::Writing;
@@ -42,13 +41,13 @@ impl ToValue for Lint {
 
     ghost way = { lint_way };
 
-    ghost floatless = { lint_floatless };
+    ghost lawful = { lint_lawful };
 
     fn to_value(&self, alloc: Global) -> Result<Value, Error>
         ensures written { IsWriting lint_way (lint_meaning self.now) result }
         ensures read_again { IsApart (lint_meaning self.now)
             → IsReadAgain lint_of (lint_meaning self.now) result }
-        ensures memory { LintHoldsNoFloat (lint_meaning self.now)
+        ensures memory { lint_way.asks (lint_meaning self.now)
             → IfErr result (λ e. e ≡ Error.Memory) }
     {
         if is_level_alone(self) {

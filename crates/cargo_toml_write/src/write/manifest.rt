@@ -3,14 +3,12 @@ ghost use Rattle.std.specs.Prelude.{◌≡◌, IfErr};
 ghost use Rattle.cargo_toml_manifest.specs.Manifests.{ManifestMeaning, manifest_meaning};
 ghost use Rattle.cargo_toml_manifest.specs.Manifests.{manifest_reads};
 ghost use Rattle.cargo_toml_parts.specs.declared.error.Error.{Error};
-ghost use Rattle.cargo_toml_write.specs.Floatless.{table_floatless};
-ghost use Rattle.cargo_toml_write.specs.NoFloats.{ManifestHoldsNoFloat};
+ghost use Rattle.cargo_toml_write.specs.Lawful.{manifest_lawful};
 ghost use Rattle.cargo_toml_write.specs.Reread.{IsTold, reread};
-ghost use Rattle.cargo_toml_write.specs.WrittenFeatures.{AreTold, features_in};
-ghost use Rattle.cargo_toml_write.specs.WrittenManifests.{all_features, manifest_rows};
-ghost use Rattle.cargo_toml_write.specs.WrittenManifests.{manifest_way};
+ghost use Rattle.cargo_toml_write.specs.Writes.{IsReadAgain, IsWriting};
+ghost use Rattle.cargo_toml_write.specs.WrittenDependencies.{AreTold, features_in};
+ghost use Rattle.cargo_toml_write.specs.WrittenManifests.{all_features, manifest_way};
 ghost use Rattle.cargo_toml_write.specs.WrittenPackages.{AreReadAgain};
-ghost use Rattle.cargo_toml_write.specs.Writes.{HasTree, IsReadAgain, IsWriting};
 
 use crate::write::ToValue;
 use crate::write::feature::Features;
@@ -33,7 +31,7 @@ impl<Metadata: FromValue + ToValue> ToValue for Manifest<Metadata> {
 
     ghost way = { manifest_way Metadata.way };
 
-    ghost floatless = { table_floatless (manifest_rows Metadata.way) };
+    ghost lawful = { manifest_lawful Metadata.way Metadata.lawful };
 
     fn to_value(&self, alloc: Global) -> Result<Value, Error>
         ensures written { IsWriting (manifest_way Metadata.way)
@@ -47,7 +45,7 @@ impl<Metadata: FromValue + ToValue> ToValue for Manifest<Metadata> {
             (all_features (manifest_meaning Metadata.ToValue.meaning self.now))
             → IsReadAgain features_in
             (all_features (manifest_meaning Metadata.ToValue.meaning self.now)) result }
-        ensures memory { ManifestHoldsNoFloat (HasTree Metadata.way)
+        ensures memory { (manifest_way Metadata.way).asks
             (manifest_meaning Metadata.ToValue.meaning self.now)
             → IfErr result (λ e. e ≡ Error.Memory) }
     {

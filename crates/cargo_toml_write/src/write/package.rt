@@ -8,15 +8,11 @@ ghost use Rattle.cargo_toml_package.specs.Templates.{TemplateMeaning, template_m
 ghost use Rattle.cargo_toml_package.specs.Templates.{template_reads};
 ghost use Rattle.cargo_toml_parts.specs.declared.error.Error.{Error};
 ghost use Rattle.cargo_toml_parts.specs.Inherits.{inheritable_map};
-ghost use Rattle.cargo_toml_write.specs.Floatless.{table_floatless};
-ghost use Rattle.cargo_toml_write.specs.NoFloats.{PackageHoldsNoFloat};
+ghost use Rattle.cargo_toml_write.specs.Lawful.{package_lawful, template_lawful};
 ghost use Rattle.cargo_toml_write.specs.Ways.{free_way};
-ghost use Rattle.cargo_toml_write.specs.WrittenPackages.{package_rows};
-ghost use Rattle.cargo_toml_write.specs.WrittenPackages.{package_way, VersionAgain, MetadataAgain};
-ghost use Rattle.cargo_toml_write.specs.WrittenPackages.{TemplateAgain, template_rows};
-ghost use Rattle.cargo_toml_write.specs.WrittenPackages.{template_way};
-ghost use Rattle.cargo_toml_write.specs.WrittenPackages.{AreReadAgain};
-ghost use Rattle.cargo_toml_write.specs.Writes.{IsWriting, IsReadAgain, HasTree};
+ghost use Rattle.cargo_toml_write.specs.Writes.{IsWriting, IsReadAgain};
+ghost use Rattle.cargo_toml_write.specs.WrittenPackages.{package_way, MetadataAgain, TemplateAgain};
+ghost use Rattle.cargo_toml_write.specs.WrittenPackages.{VersionAgain, template_way, AreReadAgain};
 
 use crate::write::ToValue;
 use crate::write::writing::Writing;
@@ -35,7 +31,7 @@ impl<Metadata: FromValue + ToValue> ToValue for Package<Metadata> {
 
     ghost way = { package_way Metadata.way };
 
-    ghost floatless = { table_floatless (package_rows Metadata.way) };
+    ghost lawful = { package_lawful Metadata.way Metadata.lawful };
 
     fn to_value(&self, alloc: Global) -> Result<Value, Error>
         ensures written { IsWriting (package_way Metadata.way)
@@ -45,7 +41,7 @@ impl<Metadata: FromValue + ToValue> ToValue for Package<Metadata> {
             Metadata.from_tree self.now.metadata
             → IsReadAgain (package_reads Metadata.from_tree)
             (package_meaning Metadata.FromValue.meaning self.now) result }
-        ensures memory { PackageHoldsNoFloat (HasTree Metadata.way)
+        ensures memory { (package_way Metadata.way).asks
             (package_meaning Metadata.ToValue.meaning self.now)
             → IfErr result (λ e. e ≡ Error.Memory) }
     {
@@ -96,7 +92,7 @@ impl ToValue for PackageTemplate {
 
     ghost way = { template_way };
 
-    ghost floatless = { table_floatless template_rows };
+    ghost lawful = { template_lawful };
 
     fn to_value(&self, alloc: Global) -> Result<Value, Error>
         ensures written { IsWriting template_way (template_meaning self.now) result }

@@ -1,18 +1,17 @@
 //! Writers of texts, truth values, numbers, versions and free values.
-ghost use Rattle.std.specs.Prelude.{◌≡◌, ℕ, ℤ, pos, List, Bool, Some, IfErr, string_bytes, refl};
-ghost use Rattle.semver.specs.Identifiers.{parts_of, parts_text};
+ghost use Rattle.std.specs.Prelude.{◌≡◌, ℕ, ℤ, List, Bool, IfErr, string_bytes};
+ghost use Rattle.semver.specs.Identifiers.{parts_of};
 ghost use Rattle.semver.specs.Parse.{Held};
-ghost use Rattle.toml.specs.Data.{Data, boolean, integer};
+ghost use Rattle.toml.specs.Data.{Data};
 ghost use Rattle.toml.specs.View.{view};
 ghost use Rattle.cargo_toml_parts.specs.declared.error.Error.{Error};
 ghost use Rattle.cargo_toml_parts.specs.Versions.{Parts, requirement_meaning, requirement_of};
-ghost use Rattle.cargo_toml_parts.specs.Numbers.{fits_u16, fits_i8};
-ghost use Rattle.cargo_toml_write.specs.Floatless.{exactly_floatless, free_floatless};
-ghost use Rattle.cargo_toml_write.specs.Floatless.{requirement_floatless, word_floatless};
-ghost use Rattle.cargo_toml_write.specs.Floatless.{telling_floatless};
+ghost use Rattle.cargo_toml_write.specs.Lawful.{free_lawful, small_lawful, truth_lawful};
+ghost use Rattle.cargo_toml_write.specs.Lawful.{number_lawful, requirement_lawful, version_lawful};
+ghost use Rattle.cargo_toml_write.specs.Lawful.{text_lawful};
 ghost use Rattle.cargo_toml_write.specs.Requirements.{CanBeRead};
-ghost use Rattle.cargo_toml_write.specs.Ways.{exactly, text_way, truth_way, number_way, small_way};
-ghost use Rattle.cargo_toml_write.specs.Ways.{version_way, requirement_way, free_way};
+ghost use Rattle.cargo_toml_write.specs.Ways.{text_way, free_way, small_way};
+ghost use Rattle.cargo_toml_write.specs.Ways.{truth_way, number_way, version_way, requirement_way};
 ghost use Rattle.cargo_toml_write.specs.Writes.{IsReadAgain, IsWriting};
 
 use crate::write::ToValue;
@@ -29,7 +28,7 @@ impl ToValue for bool {
 
     ghost way = { truth_way };
 
-    ghost floatless = { exactly_floatless boolean (λ b. refl) };
+    ghost lawful = { truth_lawful };
 
     fn to_value(&self, _alloc: Global) -> Result<Value, Error> {
         Ok(Value::Boolean(*self))
@@ -43,8 +42,7 @@ impl ToValue for u16 {
 
     ghost way = { number_way };
 
-    ghost floatless = { telling_floatless (λ n. fits_u16 (pos n) ≡ Some n)
-        (exactly (λ n. integer (pos n))) (exactly_floatless (λ n. integer (pos n)) (λ n. refl)) };
+    ghost lawful = { number_lawful };
 
     fn to_value(&self, _alloc: Global) -> Result<Value, Error> {
         Ok(Value::Integer(i64::from(*self)))
@@ -58,8 +56,7 @@ impl ToValue for i8 {
 
     ghost way = { small_way };
 
-    ghost floatless = { telling_floatless (λ z. fits_i8 z ≡ Some z) (exactly integer)
-        (exactly_floatless integer (λ z. refl)) };
+    ghost lawful = { small_lawful };
 
     fn to_value(&self, _alloc: Global) -> Result<Value, Error> {
         Ok(Value::Integer(i64::from(*self)))
@@ -73,7 +70,7 @@ impl ToValue for String {
 
     ghost way = { text_way };
 
-    ghost floatless = { word_floatless (λ t. t) };
+    ghost lawful = { text_lawful };
 
     fn to_value(&self, _alloc: Global) -> Result<Value, Error> {
         Ok(Value::String(self.clone()?))
@@ -87,7 +84,7 @@ impl ToValue for SemVer {
 
     ghost way = { version_way };
 
-    ghost floatless = { word_floatless parts_text };
+    ghost lawful = { version_lawful };
 
     fn to_value(&self, alloc: Global) -> Result<Value, Error> {
         Ok(Value::String(self.to_string(alloc)?))
@@ -101,7 +98,7 @@ impl ToValue for VersionReq {
 
     ghost way = { requirement_way };
 
-    ghost floatless = { requirement_floatless };
+    ghost lawful = { requirement_lawful };
 
     fn to_value(&self, alloc: Global) -> Result<Value, Error>
         ensures written { IsWriting requirement_way (requirement_meaning self.now) result }
@@ -121,7 +118,7 @@ impl ToValue for Value {
 
     ghost way = { free_way };
 
-    ghost floatless = { free_floatless };
+    ghost lawful = { free_lawful };
 
     fn to_value(&self, _alloc: Global) -> Result<Value, Error> {
         if !has_no_float(self) {

@@ -3,9 +3,9 @@ ghost use Rattle.std.specs.Prelude.{◌≡◌, IfErr};
 ghost use Rattle.cargo_toml_manifest.specs.Manifests.{product_reads};
 ghost use Rattle.cargo_toml_parts.specs.declared.error.Error.{Error};
 ghost use Rattle.cargo_toml_tables.specs.Products.{ProductMeaning, product_meaning};
-ghost use Rattle.cargo_toml_write.specs.Floatless.{table_floatless};
-ghost use Rattle.cargo_toml_write.specs.WrittenProducts.{product_rows, product_way};
+ghost use Rattle.cargo_toml_write.specs.Lawful.{product_lawful};
 ghost use Rattle.cargo_toml_write.specs.Writes.{IsWriting, IsReadAgain};
+ghost use Rattle.cargo_toml_write.specs.WrittenTables.{product_way};
 
 use crate::write::ToValue;
 use crate::write::writing::Writing;
@@ -21,7 +21,7 @@ impl ToValue for Product {
 
     ghost way = { product_way };
 
-    ghost floatless = { table_floatless product_rows };
+    ghost lawful = { product_lawful };
 
     fn to_value(&self, alloc: Global) -> Result<Value, Error>
         ensures written { IsWriting product_way (product_meaning self.now) result }

@@ -2,14 +2,11 @@
 ghost use Rattle.std.specs.Prelude.{◌≡◌, IfErr};
 ghost use Rattle.cargo_toml_manifest.specs.Manifests.{profiles_reads};
 ghost use Rattle.cargo_toml_parts.specs.declared.error.Error.{Error};
-ghost use Rattle.cargo_toml_tables.specs.Profiles.{ProfileMeaning, ProfilesMeaning};
-ghost use Rattle.cargo_toml_tables.specs.Profiles.{profile_meaning, profile_reads};
-ghost use Rattle.cargo_toml_tables.specs.Profiles.{profiles_meaning};
-ghost use Rattle.cargo_toml_write.specs.Floatless.{profiles_floatless, table_floatless};
-ghost use Rattle.cargo_toml_write.specs.NoFloats.{ProfileHoldsNoFloat, ProfilesHoldsNoFloat};
+ghost use Rattle.cargo_toml_tables.specs.Profiles.{ProfileMeaning, profile_meaning, profile_reads};
+ghost use Rattle.cargo_toml_tables.specs.Profiles.{ProfilesMeaning, profiles_meaning};
+ghost use Rattle.cargo_toml_write.specs.Lawful.{profile_lawful, profiles_lawful};
 ghost use Rattle.cargo_toml_write.specs.Writes.{IsWriting, IsReadAgain};
-ghost use Rattle.cargo_toml_write.specs.WrittenProfiles.{profile_rows, profile_way};
-ghost use Rattle.cargo_toml_write.specs.WrittenProfiles.{profiles_way, AreApart};
+ghost use Rattle.cargo_toml_write.specs.WrittenTables.{profile_way, profiles_way, AreApart};
 
 use crate::write::writing::Writing;
 use crate::write::{LeftOut, ToValue};
@@ -25,12 +22,12 @@ impl ToValue for Profile {
 
     ghost way = { profile_way };
 
-    ghost floatless = { table_floatless profile_rows };
+    ghost lawful = { profile_lawful };
 
     fn to_value(&self, alloc: Global) -> Result<Value, Error>
         ensures written { IsWriting profile_way (profile_meaning self.now) result }
         ensures read_again { IsReadAgain profile_reads (profile_meaning self.now) result }
-        ensures memory { ProfileHoldsNoFloat (profile_meaning self.now)
+        ensures memory { profile_way.asks (profile_meaning self.now)
             → IfErr result (λ e. e ≡ Error.Memory) }
     {
         let mut writing = Writing::new(alloc);
@@ -61,13 +58,13 @@ impl ToValue for Profiles {
 
     ghost way = { profiles_way };
 
-    ghost floatless = { profiles_floatless };
+    ghost lawful = { profiles_lawful };
 
     fn to_value(&self, alloc: Global) -> Result<Value, Error>
         ensures written { IsWriting profiles_way (profiles_meaning self.now) result }
         ensures read_again { AreApart (profiles_meaning self.now)
             → IsReadAgain profiles_reads (profiles_meaning self.now) result }
-        ensures memory { ProfilesHoldsNoFloat (profiles_meaning self.now)
+        ensures memory { profiles_way.asks (profiles_meaning self.now)
             → IfErr result (λ e. e ≡ Error.Memory) }
     {
         let mut writing = Writing::new(alloc);

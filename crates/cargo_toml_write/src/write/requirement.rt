@@ -3,8 +3,8 @@
 ghost use Rattle.std.specs.Prelude.{◌≡◌, ◌++◌, IfOk, OnOk, string_bytes};
 ghost use Rattle.semver.specs.Identifiers.{comparator_view, marked, pre_text};
 ghost use Rattle.cargo_toml_parts.specs.Versions.{requirement_meaning};
-ghost use Rattle.cargo_toml_write.specs.Requirements.{after_major, comparator_text};
-ghost use Rattle.cargo_toml_write.specs.Requirements.{requirement_text, sign_of, star_of};
+ghost use Rattle.cargo_toml_write.specs.Requirements.{after_major, star_of};
+ghost use Rattle.cargo_toml_write.specs.Requirements.{sign_of, comparator_text, requirement_text};
 
 use semver::{Comparator, Op, Prerelease, VersionReq};
 use std::alloc::{AllocError, Global};

@@ -7,26 +7,27 @@ ghost use Rattle.cargo_toml_tables.specs.declared.profile_settings.StripSetting.
 ghost use Rattle.cargo_toml_tables.specs.declared.settings.Edition.{Edition};
 ghost use Rattle.cargo_toml_tables.specs.declared.settings.Resolver.{Resolver};
 ghost use Rattle.cargo_toml_tables.specs.ProfileSettings.{debug_of, strip_of, lto_of};
-ghost use Rattle.cargo_toml_tables.specs.Settings.{File, Registries, edition_reads, edition_text};
-ghost use Rattle.cargo_toml_tables.specs.Settings.{resolver_reads, resolver_text, file_of};
-ghost use Rattle.cargo_toml_tables.specs.Settings.{file_meaning};
-ghost use Rattle.cargo_toml_tables.specs.Settings.{publish_of, publish_meaning};
+ghost use Rattle.cargo_toml_tables.specs.Settings.{File};
+ghost use Rattle.cargo_toml_tables.specs.Settings.{Registries, file_of, file_meaning, publish_of};
+ghost use Rattle.cargo_toml_tables.specs.Settings.{edition_reads, resolver_reads, publish_meaning};
 ghost use Rattle.cargo_toml_tables.specs.declared.badge.MaintenanceStatus.{MaintenanceStatus};
 ghost use Rattle.cargo_toml_tables.specs.declared.lint.LintLevel.{LintLevel};
 ghost use Rattle.cargo_toml_tables.specs.Badges.{status_of};
 ghost use Rattle.cargo_toml_tables.specs.Lints.{level_of};
-ghost use Rattle.cargo_toml_write.specs.Floatless.{debug_floatless, file_floatless};
-ghost use Rattle.cargo_toml_write.specs.Floatless.{lto_floatless, publish_floatless};
-ghost use Rattle.cargo_toml_write.specs.Floatless.{strip_floatless, word_floatless};
+ghost use Rattle.cargo_toml_write.specs.Lawful.{debug_lawful, level_lawful, status_lawful};
+ghost use Rattle.cargo_toml_write.specs.Lawful.{edition_lawful, publish_lawful, resolver_lawful};
+ghost use Rattle.cargo_toml_write.specs.Lawful.{file_lawful, lto_lawful, strip_lawful};
 ghost use Rattle.cargo_toml_write.specs.Writes.{IsWriting, IsReadAgain};
-ghost use Rattle.cargo_toml_write.specs.WrittenSettings.{edition_way, resolver_way, level_way};
-ghost use Rattle.cargo_toml_write.specs.WrittenSettings.{status_way, file_way, publish_way};
-ghost use Rattle.cargo_toml_write.specs.WrittenSettings.{debug_way, strip_way, lto_way};
-ghost use Rattle.cargo_toml_write.specs.WrittenSettings.{level_text, status_text};
+ghost use Rattle.cargo_toml_write.specs.WrittenSettings.{edition_way, resolver_way, publish_way};
+ghost use Rattle.cargo_toml_write.specs.WrittenSettings.{level_way, status_way, debug_way, lto_way};
+ghost use Rattle.cargo_toml_write.specs.WrittenSettings.{file_way, strip_way};
 
 use crate::write::{LeftOut, ToValue};
 use cargo_toml_parts::Error;
-use cargo_toml_tables::{DebugSetting, Edition, LintLevel, LtoSetting, MaintenanceStatus, OptionalFile, Publish, Resolver, StripSetting};
+use cargo_toml_tables::{
+    DebugSetting, Edition, LintLevel, LtoSetting, MaintenanceStatus, OptionalFile, Publish,
+    Resolver, StripSetting,
+};
 use std::alloc::Global;
 use toml::Value;
 
@@ -37,7 +38,7 @@ impl ToValue for Edition {
 
     ghost way = { edition_way };
 
-    ghost floatless = { word_floatless edition_text };
+    ghost lawful = { edition_lawful };
 
     fn to_value(&self, alloc: Global) -> Result<Value, Error>
         ensures written { IsWriting edition_way self.now result }
@@ -55,7 +56,7 @@ impl ToValue for Resolver {
 
     ghost way = { resolver_way };
 
-    ghost floatless = { word_floatless resolver_text };
+    ghost lawful = { resolver_lawful };
 
     fn to_value(&self, alloc: Global) -> Result<Value, Error>
         ensures written { IsWriting resolver_way self.now result }
@@ -73,7 +74,7 @@ impl ToValue for LintLevel {
 
     ghost way = { level_way };
 
-    ghost floatless = { word_floatless level_text };
+    ghost lawful = { level_lawful };
 
     fn to_value(&self, alloc: Global) -> Result<Value, Error>
         ensures written { IsWriting level_way self.now result }
@@ -98,7 +99,7 @@ impl ToValue for MaintenanceStatus {
 
     ghost way = { status_way };
 
-    ghost floatless = { word_floatless status_text };
+    ghost lawful = { status_lawful };
 
     fn to_value(&self, alloc: Global) -> Result<Value, Error>
         ensures written { IsWriting status_way self.now result }
@@ -125,7 +126,7 @@ impl ToValue for OptionalFile {
 
     ghost way = { file_way };
 
-    ghost floatless = { file_floatless };
+    ghost lawful = { file_lawful };
 
     fn to_value(&self, _alloc: Global) -> Result<Value, Error>
         ensures written { IsWriting file_way (file_meaning self.now) result }
@@ -156,7 +157,7 @@ impl ToValue for Publish {
 
     ghost way = { publish_way };
 
-    ghost floatless = { publish_floatless };
+    ghost lawful = { publish_lawful };
 
     fn to_value(&self, alloc: Global) -> Result<Value, Error>
         ensures written { IsWriting publish_way (publish_meaning self.now) result }
@@ -187,7 +188,7 @@ impl ToValue for DebugSetting {
 
     ghost way = { debug_way };
 
-    ghost floatless = { debug_floatless };
+    ghost lawful = { debug_lawful };
 
     fn to_value(&self, _alloc: Global) -> Result<Value, Error>
         ensures written { IsWriting debug_way self.now result }
@@ -209,7 +210,7 @@ impl ToValue for StripSetting {
 
     ghost way = { strip_way };
 
-    ghost floatless = { strip_floatless };
+    ghost lawful = { strip_lawful };
 
     fn to_value(&self, alloc: Global) -> Result<Value, Error>
         ensures written { IsWriting strip_way self.now result }
@@ -231,7 +232,7 @@ impl ToValue for LtoSetting {
 
     ghost way = { lto_way };
 
-    ghost floatless = { lto_floatless };
+    ghost lawful = { lto_lawful };
 
     fn to_value(&self, alloc: Global) -> Result<Value, Error>
         ensures written { IsWriting lto_way self.now result }

@@ -4,18 +4,16 @@ ghost use Rattle.toml.specs.Data.{Data};
 ghost use Rattle.cargo_toml_package.specs.Workspaces.{WorkspaceMeaning, workspace_meaning};
 ghost use Rattle.cargo_toml_package.specs.Workspaces.{workspace_reads};
 ghost use Rattle.cargo_toml_parts.specs.declared.error.Error.{Error};
-ghost use Rattle.cargo_toml_write.specs.Floatless.{table_floatless};
 ghost use Rattle.cargo_toml_write.specs.Asked.{WorkspaceMeets};
-ghost use Rattle.cargo_toml_write.specs.NoFloats.{WorkspaceHoldsNoFloat};
+ghost use Rattle.cargo_toml_write.specs.Lawful.{workspace_lawful};
 ghost use Rattle.cargo_toml_write.specs.Reread.{reread_workspace, told};
-ghost use Rattle.cargo_toml_write.specs.WrittenPackages.{AreReadAgain};
-ghost use Rattle.cargo_toml_write.specs.WrittenWorkspaces.{workspace_rows, workspace_way};
-ghost use Rattle.cargo_toml_write.specs.Writes.{HasTree, IsReadAgain, IsWriting};
+ghost use Rattle.cargo_toml_write.specs.Writes.{IsReadAgain, IsWriting};
+ghost use Rattle.cargo_toml_write.specs.WrittenPackages.{AreReadAgain, workspace_way};
 
 use crate::write::ToValue;
 use crate::write::writing::Writing;
-use cargo_toml_parts::Error;
 use cargo_toml_package::Workspace;
+use cargo_toml_parts::Error;
 use std::alloc::Global;
 use toml::Value;
 
@@ -28,7 +26,7 @@ impl<Metadata: ToValue> ToValue for Workspace<Metadata> {
 
     ghost way = { workspace_way Metadata.way };
 
-    ghost floatless = { table_floatless (workspace_rows Metadata.way) };
+    ghost lawful = { workspace_lawful Metadata.way Metadata.lawful };
 
     fn to_value(&self, alloc: Global) -> Result<Value, Error>
         ensures written { IsWriting (workspace_way Metadata.way)
@@ -38,7 +36,7 @@ impl<Metadata: ToValue> ToValue for Workspace<Metadata> {
             → WorkspaceMeets told (workspace_meaning Metadata.meaning self.now)
             → IsReadAgain (workspace_reads reads)
             (reread_workspace (workspace_meaning Metadata.meaning self.now)) result }
-        ensures memory { WorkspaceHoldsNoFloat (HasTree Metadata.way)
+        ensures memory { (workspace_way Metadata.way).asks
             (workspace_meaning Metadata.meaning self.now)
             → IfErr result (λ e. e ≡ Error.Memory) }
     {

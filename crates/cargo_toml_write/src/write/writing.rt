@@ -9,8 +9,8 @@ ghost use Rattle.toml.specs.Data.{no_members};
 ghost use Rattle.toml.specs.View.{table_view};
 ghost use Rattle.cargo_toml_parts.specs.Reads.{map_meaning};
 ghost use Rattle.cargo_toml_write.specs.Ways.{entry_rows, flag_row};
-ghost use Rattle.cargo_toml_write.specs.Writes.{WritesRows, WritingEnds, optional_row};
-ghost use Rattle.cargo_toml_write.specs.Writes.{required_row, given_row};
+ghost use Rattle.cargo_toml_write.specs.Writes.{WritesRows};
+ghost use Rattle.cargo_toml_write.specs.Writes.{WritingEnds, optional_row, required_row, given_row};
 
 use crate::write::{LeftOut, ToValue, put};
 use cargo_toml_parts::Error;

@@ -1,7 +1,7 @@
 use Rattle.std.proofs.Common.{refl}
 use Rattle.toml.specs.Data.{no_members}
 use Rattle.cargo_toml_write.specs.Examples.{untested_binary, untested_binary_members}
-use Rattle.cargo_toml_write.specs.WrittenProducts.{product_rows}
+use Rattle.cargo_toml_write.specs.WrittenTables.{product_rows}
 use Rattle.cargo_toml_write.proofs.Told.{Told, nothing, one, texts, finished}
 use Rattle.cargo_toml_write.proofs.examples.a_product_is_written.Goals as goal
 

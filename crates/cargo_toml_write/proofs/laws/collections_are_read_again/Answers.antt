@@ -1,5 +1,4 @@
-use Rattle.cargo_toml_write.proofs.MapAgain.{each_read}
-use Rattle.cargo_toml_write.proofs.ReadAgain.{list_again}
+use Rattle.cargo_toml_write.proofs.ReadAgain.{each_read, list_again}
 use Rattle.cargo_toml_write.proofs.ReadAgainManifests.{entries_again}
 use Rattle.cargo_toml_write.proofs.ReadAgainTables.{groups_again}
 use Rattle.cargo_toml_write.proofs.laws.collections_are_read_again.Goals as goal

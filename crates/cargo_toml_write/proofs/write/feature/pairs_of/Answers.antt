@@ -1,20 +1,24 @@
-use Rattle.std.proofs.Common.{◌≡◌, ◌∙◌, ap, sym, rules, subst, ℕ, List, map, Option, Err, option_copied, option_map, string_bytes}
+use Rattle.std.proofs.Common.{◌≡◌, ◌∙◌, ap, sym, rules, subst, ℕ, List, map, Option, Err, option_copied, option_map, string_bytes, String, Global}
 use Rattle.std.proofs.lemmas.Result.{err_from_is_err_and}
+use Rattle.std.specs.List.Sorted.{IsStrictlySortedBy}
+use Rattle.std.specs.Map.{keys_of}
+use Rattle.std.specs.String.{string_cmp}
 use Rattle.toml.specs.View.{view}
 use Rattle.cargo_toml_dependencies.specs.Details.{Detail, detail_of}
 use Rattle.cargo_toml_parts.specs.Reads.{map_meaning}
-use Rattle.cargo_toml_write.specs.Floatless.{feature_floatless}
-use Rattle.cargo_toml_write.specs.WrittenFeatures.{detail_under, feature_way}
+use Rattle.cargo_toml_write.specs.Lawful.{feature_lawful}
 use Rattle.cargo_toml_write.specs.Writes.{IsWriting}
-use Rattle.cargo_toml_write.proofs.Gathered.{Gathers, gather_start, gather_step, gather_end, gather_err}
-use Rattle.cargo_toml_write.proofs.GatheredFeatures.{by_name, detail_at-map, told-by_name, with_detail}
+use Rattle.cargo_toml_write.specs.WrittenDependencies.{detail_under, feature_way}
+use Rattle.cargo_toml_write.proofs.Gathered.{Gathers, gather_start, gather_step, gather_end, gather_err, by_name, detail_at-map, told-by_name, with_detail, names-by_name}
 use Rattle.cargo_toml_write.proofs.write.feature.pairs_of.Goals as goal
 
 pub loop-name-init : goal.loop-name-init
 loop-name-init c =
     let details = map_meaning detail_of c.args.details.now in
     let whole : c.into_iter-name-iterator.result ≡ c.args.lists.now.entries = search rules in
-    gather_start feature_way (with_detail details) _ _ _ (ap (by_name details) whole) c.in_ok-pairs.ensures.items
+    let sorted : IsStrictlySortedBy string_cmp (keys_of c.into_iter-name-iterator.result) = search rules in
+    gather_start feature_way (with_detail details) _ _ _ (ap (by_name details) whole)
+    (subst (λ (ks : List (String Global)). IsStrictlySortedBy string_cmp ks) (names-by_name details c.into_iter-name-iterator.result) sorted) c.in_ok-pairs.ensures.items
 
 pub loop-name-preserved : goal.loop-name-preserved
 loop-name-preserved c =
@@ -28,10 +32,10 @@ loop-name-preserved c =
     ∙ ap (λ (n : List ℕ). detail_under n details) c.as_str-in-loop-name.ensures.value in
     let tree = subst (λ (o : Option Detail). feature_way.trees (map string_bytes c.in-Some.enables.now.items, o) (view c.in_ok-feature_value.field-0)) said c.in_ok-feature_value.ensures in
     gather_step feature_way (with_detail details) _ _ _ _ (c.in-Some.name.now, (c.in-Some.name.now, c.in-Some.enables.now)) c.in_ok-key.key c.in_ok-feature_value.field-0
-    so_far tree (feature_floatless _ _ tree) same c.in_ok-push.ensures.items
+    so_far tree ((feature_lawful.each _).floatless _ tree) same c.in_ok-push.ensures.items
 
-pub returns-in_err-feature_value : goal.returns-in_err-feature_value
-returns-in_err-feature_value c =
+pub returns-in_err-feature_value-clause-rows : goal.returns-in_err-feature_value-clause-rows
+returns-in_err-feature_value-clause-rows c =
     let details = map_meaning detail_of c.args.details.now in
     let name : List ℕ = string_bytes c.in-Some.name.now in
     let so_far = subst (λ rest. Gathers feature_way (with_detail details) (by_name details c.args.lists.now.entries) (by_name details rest) c.loop-name.pairs.items) c.in-Some.ensures.steps c.loop-name.invariant in
@@ -43,8 +47,11 @@ returns-in_err-feature_value c =
     let refused = subst (λ (o : Option Detail). IsWriting feature_way (map string_bytes c.in-Some.enables.now.items, o) (Err c.in_err-feature_value.field-0.0)) said c.in_err-feature_value.ensures in
     rw (p.1, p.2, ← told-by_name details c.args.lists.now.entries) (gather_err feature_way (with_detail details) _ _ c.loop-name.pairs.items (c.in-Some.name.now, (c.in-Some.name.now, c.in-Some.enables.now)) _ so_far refused)
 
-pub returns : goal.returns
-returns c =
+pub returns-clause-ascend : goal.returns-clause-ascend
+returns-clause-ascend c = c.loop-name.invariant.ascend
+
+pub returns-clause-rows : goal.returns-clause-rows
+returns-clause-rows c =
     let details = map_meaning detail_of c.args.details.now in
     rw (← told-by_name details c.args.lists.now.entries)
     (gather_end feature_way (with_detail details) _ _ c.loop-name.pairs.items c.loop-name.invariant (ap (by_name details) c.in-None.ensures.steps.0))

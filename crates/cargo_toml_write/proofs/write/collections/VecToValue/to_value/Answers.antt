@@ -1,7 +1,7 @@
 use Rattle.std.proofs.Common.{arith}
 use Rattle.std.proofs.lemmas.Result.{err_from_is_err_and}
 use Rattle.toml.proofs.Views.{view-Array}
-use Rattle.cargo_toml_write.proofs.Items.{items_start, items_step, items_end, items_err}
+use Rattle.cargo_toml_write.proofs.Gathered.{items_start, items_step, items_end, items_err}
 use Rattle.cargo_toml_write.proofs.write.collections.VecToValue.to_value.Goals as goal
 
 pub loop-x-init : goal.loop-x-init

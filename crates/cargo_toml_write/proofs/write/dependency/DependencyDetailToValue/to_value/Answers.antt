@@ -2,14 +2,12 @@ use Rattle.std.specs.Map.{keys_of}
 use Rattle.toml.specs.View.{view}
 use Rattle.cargo_toml_dependencies.proofs.Apart.{ascend-bytes}
 use Rattle.cargo_toml_dependencies.specs.Dependencies.{DetailMeaning, detail_meaning}
-use Rattle.cargo_toml_write.specs.Floatless.{detail_floatless}
+use Rattle.cargo_toml_write.specs.Lawful.{detail_lawful}
 use Rattle.cargo_toml_write.specs.Ways.{Ascend}
-use Rattle.cargo_toml_write.specs.WrittenDependencies.{detail_reads, detail_rows, detail_way}
-use Rattle.cargo_toml_write.specs.Writes.{IsWriting, table_way}
-use Rattle.cargo_toml_write.proofs.FloatlessAgain.{reads_again}
+use Rattle.cargo_toml_write.specs.Writes.{table_way}
+use Rattle.cargo_toml_write.specs.WrittenDependencies.{detail_reads, detail_rows}
+use Rattle.cargo_toml_write.proofs.ReadAgain.{reads_again, alone}
 use Rattle.cargo_toml_write.proofs.ReadAgainDependencies.{detail_again}
-use Rattle.cargo_toml_write.proofs.FreeTrees.{detail_exact}
-use Rattle.cargo_toml_write.proofs.Trees.{exact_alone}
 use Rattle.cargo_toml_write.proofs.Rows.{◌then◌, also_told, done, ends, entries_then}
 use Rattle.cargo_toml_write.proofs.write.dependency.DependencyDetailToValue.to_value.Goals as goal
 
@@ -17,13 +15,13 @@ pub returns : goal.returns
 returns c =
     let detail = detail_meaning c.args.self.now in
     let ascend = ascend-bytes view c.args.self.now.unstable.entries c.entries.ensures.ordered in
-    let written : IsWriting detail_way detail c.finish.result = also_told (λ (d : DetailMeaning). Ascend (keys_of d.unstable)) (table_way detail_rows) detail c.finish.result ascend (ends detail_rows detail c.finish.result c.new-writing.ensures.no_fault c.new-writing.ensures.no_key
+    let written = also_told (λ (d : DetailMeaning). Ascend (keys_of d.unstable)) (table_way detail_rows) detail c.finish.result ascend (ends detail_rows detail c.finish.result c.new-writing.ensures.no_fault c.new-writing.ensures.no_key
     (entries_then _ c.entries.ensures.written (c.optional.ensures then c.optional-2.ensures then c.optional-3.ensures then c.optional-4.ensures then
     c.optional-5.ensures then c.optional-6.ensures then c.optional-7.ensures then c.optional-8.ensures then
     c.optional-9.ensures then c.given.ensures then c.flag.ensures then c.flag-2.ensures then done))
     c.finish.ensures) in
     record {
       written = written;
-      read_again = λ again. reads_again detail_way detail detail_reads detail c.finish.result detail_floatless written (detail_again detail again);
-      memory = exact_alone detail_exact detail c.finish.result written;
+      read_again = λ again. reads_again detail_lawful detail detail_reads detail c.finish.result written (detail_again detail again);
+      memory = alone detail_lawful detail c.finish.result written;
     }

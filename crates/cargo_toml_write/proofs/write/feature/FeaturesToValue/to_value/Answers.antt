@@ -1,23 +1,22 @@
 use Rattle.std.proofs.Common.{◌∙◌, ap, map, string_bytes, subst}
 use Rattle.std.proofs.lemmas.Result.{err_from_is_err_and}
-use Rattle.toml.specs.Data.{no_members, table}
+use Rattle.toml.specs.Data.{table}
+use Rattle.toml.specs.View.{members_view}
 use Rattle.toml.proofs.Views.{view-Table}
 use Rattle.cargo_toml_dependencies.proofs.Apart.{ascend-bytes}
 use Rattle.cargo_toml_dependencies.specs.Details.{detail_of}
 use Rattle.cargo_toml_dependencies.specs.Features.{features_meaning}
-use Rattle.cargo_toml_write.specs.Pairs.{put_all}
 use Rattle.cargo_toml_write.specs.Ways.{Ascend}
-use Rattle.cargo_toml_write.specs.WrittenFeatures.{feature_way, told_features}
-use Rattle.cargo_toml_write.proofs.Gathered.{map_err}
-use Rattle.cargo_toml_write.proofs.GatheredFeatures.{features_err}
-use Rattle.cargo_toml_write.proofs.ReadAgainFeatures.{same_names}
+use Rattle.cargo_toml_write.specs.WrittenDependencies.{feature_way, told_features}
+use Rattle.cargo_toml_write.proofs.Gathered.{map_err, features_err, same_members}
+use Rattle.cargo_toml_write.proofs.ReadAgainDependencies.{same_names}
 use Rattle.cargo_toml_write.proofs.write.feature.FeaturesToValue.to_value.Goals as goal
 
 pub returns-in_err-pairs : goal.returns-in_err-pairs
 returns-in_err-pairs c =
     let p = err_from_is_err_and c.from_residual.result c.from_residual.ensures.1 in
     let fs = features_meaning c.args.self.now.lists.now c.args.self.now.details.now in
-    rw (p.1, p.2) (features_err fs _ (map_err feature_way (told_features fs) _ c.in_err-pairs.ensures))
+    rw (p.1, p.2) (features_err fs _ (map_err feature_way (told_features fs) _ c.in_err-pairs.ensures.rows))
 
 pub returns : goal.returns
 returns c =
@@ -25,6 +24,6 @@ returns c =
       ascend-bytes detail_of c.args.self.now.details.now.entries c.len-details_ascend.ensures.ordered,
       (
         subst Ascend (same_names fs.0 fs.1) (ascend-bytes (λ v. map string_bytes v.items) c.args.self.now.lists.now.entries c.len-lists_ascend.ensures.ordered),
-        (put_all c.in_ok-pairs.pairs.items no_members, view-Table c.in_ok-table.table ∙ ap table c.in_ok-table.ensures, c.in_ok-pairs.ensures),
+        (members_view c.in_ok-pairs.pairs.items, view-Table c.in_ok-table.table ∙ ap table (same_members c.in_ok-table.table.entries c.in_ok-pairs.pairs.items c.in_ok-table.ensures), c.in_ok-pairs.ensures.rows),
       ),
     )

@@ -1,32 +1,26 @@
 use Rattle.std.proofs.Common.{◌∙◌, sym, true, false}
 use Rattle.cargo_toml_tables.specs.Lints.{lint_meaning, lint_of}
-use Rattle.cargo_toml_write.specs.Floatless.{lint_floatless}
-use Rattle.cargo_toml_write.specs.WrittenLints.{lint_way}
-use Rattle.cargo_toml_write.specs.Writes.{IsWriting}
-use Rattle.cargo_toml_write.proofs.FloatlessAgain.{reads_again}
-use Rattle.cargo_toml_write.proofs.FreeTrees.{lint_exact}
+use Rattle.cargo_toml_write.specs.Lawful.{lint_lawful}
+use Rattle.cargo_toml_write.proofs.ReadAgain.{reads_again, alone}
 use Rattle.cargo_toml_write.proofs.ReadAgainTables.{lint_again, lint_writing}
-use Rattle.cargo_toml_write.proofs.Trees.{exact_alone}
 use Rattle.cargo_toml_write.proofs.write.lint.LintToValue.to_value.Goals as goal
 
 pub returns-then-is_level_alone : goal.returns-then-is_level_alone
 returns-then-is_level_alone c =
     let lint = lint_meaning c.args.self.now in
-    let written : IsWriting lint_way lint c.to_value.result =
-    lint_writing true lint c.to_value.result (sym c.is_level_alone.ensures ∙ c.if-is_level_alone.true) c.to_value.ensures.written in
+    let written = lint_writing true lint c.to_value.result (sym c.is_level_alone.ensures ∙ c.if-is_level_alone.true) c.to_value.ensures.written in
     record {
       written = written;
-      read_again = λ apart. reads_again lint_way lint lint_of lint c.to_value.result lint_floatless written (lint_again lint apart);
-      memory = exact_alone lint_exact lint c.to_value.result written;
+      read_again = λ apart. reads_again lint_lawful lint lint_of lint c.to_value.result written (lint_again lint apart);
+      memory = alone lint_lawful lint c.to_value.result written;
     }
 
 pub returns : goal.returns
 returns c =
     let lint = lint_meaning c.args.self.now in
-    let written : IsWriting lint_way lint c.lint_table.result =
-    lint_writing false lint c.lint_table.result (sym c.is_level_alone.ensures ∙ c.if-is_level_alone.false) c.lint_table.ensures in
+    let written = lint_writing false lint c.lint_table.result (sym c.is_level_alone.ensures ∙ c.if-is_level_alone.false) c.lint_table.ensures in
     record {
       written = written;
-      read_again = λ apart. reads_again lint_way lint lint_of lint c.lint_table.result lint_floatless written (lint_again lint apart);
-      memory = exact_alone lint_exact lint c.lint_table.result written;
+      read_again = λ apart. reads_again lint_lawful lint lint_of lint c.lint_table.result written (lint_again lint apart);
+      memory = alone lint_lawful lint c.lint_table.result written;
     }

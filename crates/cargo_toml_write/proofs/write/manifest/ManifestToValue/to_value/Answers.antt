@@ -1,15 +1,13 @@
 use Rattle.std.proofs.Common.{◌≡◌, codes, refl}
 use Rattle.cargo_toml_dependencies.specs.Features.{FeaturesMeaning, features_meaning}
 use Rattle.cargo_toml_manifest.specs.Manifests.{manifest_meaning, manifest_reads}
-use Rattle.cargo_toml_write.specs.WrittenFeatures.{features_in, features_way}
-use Rattle.cargo_toml_write.specs.WrittenManifests.{all_features, manifest_rows, manifest_way}
+use Rattle.cargo_toml_write.specs.Lawful.{manifest_lawful}
 use Rattle.cargo_toml_write.specs.Reread.{reread}
-use Rattle.cargo_toml_write.specs.Writes.{IsWriting}
-use Rattle.cargo_toml_write.proofs.FloatlessAgain.{table_again}
-use Rattle.cargo_toml_write.proofs.FreeTrees.{manifest_exact}
-use Rattle.cargo_toml_write.proofs.ReadAgainFeatures.{manifest_features}
+use Rattle.cargo_toml_write.specs.WrittenDependencies.{features_in, features_way}
+use Rattle.cargo_toml_write.specs.WrittenManifests.{all_features, manifest_rows}
+use Rattle.cargo_toml_write.proofs.ReadAgain.{alone, reads_again}
+use Rattle.cargo_toml_write.proofs.ReadAgainDependencies.{manifest_features}
 use Rattle.cargo_toml_write.proofs.ReadAgainManifests.{manifest_again}
-use Rattle.cargo_toml_write.proofs.Trees.{exact_alone, itself_exact}
 use Rattle.cargo_toml_write.proofs.Rows.{◌then◌, done, ends, given_as}
 use Rattle.cargo_toml_write.proofs.write.manifest.ManifestToValue.to_value.Goals as goal
 
@@ -17,11 +15,11 @@ pub returns : goal.returns
 returns g c =
     let way = g.Metadata.ToValue.way in
     let manifest = manifest_meaning g.Metadata.ToValue.meaning c.args.self.now in
-    let itself = itself_exact way in
+    let lawful = manifest_lawful way g.met.Metadata.ToValue.lawful in
     let features : FeaturesMeaning = all_features manifest in
     let lent : FeaturesMeaning = features_meaning c.of-features.result.lists.now c.of-features.result.details.now in
     let same : lent ≡ features = rw (c.of-features.ensures.lists, c.of-features.ensures.details) refl in
-    let written : IsWriting (manifest_way way) manifest c.finish.result = ends (manifest_rows way) manifest c.finish.result c.new-writing.ensures.no_fault c.new-writing.ensures.no_key
+    let written = ends (manifest_rows way) manifest c.finish.result c.new-writing.ensures.no_fault c.new-writing.ensures.no_key
     (c.optional.ensures then c.optional-2.ensures then c.given.ensures then c.given-2.ensures then c.given-3.ensures then
     c.given-4.ensures then given_as (codes "features") features_way lent features _ _ _ _ same c.given-5.ensures then
     c.given-6.ensures then c.given-7.ensures then c.optional-3.ensures then c.given-8.ensures then c.given-9.ensures then
@@ -30,10 +28,10 @@ returns g c =
     record {
       written = written;
       read_again = λ told law.
-          table_again (manifest_rows way) manifest (manifest_reads g.Metadata.FromValue.from_tree) (reread (manifest_meaning g.Metadata.FromValue.meaning c.args.self.now)) c.finish.result written
+          reads_again lawful manifest (manifest_reads g.Metadata.FromValue.from_tree) (reread (manifest_meaning g.Metadata.FromValue.meaning c.args.self.now)) c.finish.result written
           (manifest_again way g.Metadata.ToValue.meaning g.Metadata.FromValue.meaning g.Metadata.FromValue.from_tree law c.args.self.now told);
       features_again = λ told.
-          table_again (manifest_rows way) manifest features_in features c.finish.result written
+          reads_again lawful manifest features_in features c.finish.result written
           (manifest_features way manifest told);
-      memory = exact_alone (manifest_exact way itself) manifest c.finish.result written;
+      memory = alone lawful manifest c.finish.result written;
     }

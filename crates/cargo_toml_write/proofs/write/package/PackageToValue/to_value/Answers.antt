@@ -1,10 +1,8 @@
 use Rattle.cargo_toml_package.specs.Packages.{package_meaning, package_reads}
-use Rattle.cargo_toml_write.specs.WrittenPackages.{package_way, package_rows}
-use Rattle.cargo_toml_write.specs.Writes.{IsWriting}
-use Rattle.cargo_toml_write.proofs.ReadAgainPackages.{package_again}
-use Rattle.cargo_toml_write.proofs.FloatlessAgain.{table_again}
-use Rattle.cargo_toml_write.proofs.FreeTrees.{package_exact}
-use Rattle.cargo_toml_write.proofs.Trees.{exact_alone, itself_exact}
+use Rattle.cargo_toml_write.specs.Lawful.{package_lawful}
+use Rattle.cargo_toml_write.specs.WrittenPackages.{package_rows}
+use Rattle.cargo_toml_write.proofs.ReadAgain.{alone, reads_again}
+use Rattle.cargo_toml_write.proofs.ReadAgainManifests.{package_again}
 use Rattle.cargo_toml_write.proofs.Rows.{◌then◌, done, ends}
 use Rattle.cargo_toml_write.proofs.write.package.PackageToValue.to_value.Goals as goal
 
@@ -13,8 +11,8 @@ returns g c =
     let way = g.Metadata.ToValue.way in
     let meaning = g.Metadata.ToValue.meaning in
     let held = package_meaning meaning c.args.self.now in
-    let itself = itself_exact way in
-    let written : IsWriting (package_way way) held c.finish.result = ends (package_rows way) held c.finish.result c.new-writing.ensures.no_fault c.new-writing.ensures.no_key
+    let lawful = package_lawful way g.met.Metadata.ToValue.lawful in
+    let written = ends (package_rows way) held c.finish.result c.new-writing.ensures.no_fault c.new-writing.ensures.no_key
     (c.required.ensures then c.required-2.ensures then c.required-3.ensures then c.optional.ensures then
     c.optional-2.ensures then c.optional-3.ensures then c.given.ensures then c.optional-4.ensures then
     c.optional-5.ensures then c.optional-6.ensures then c.optional-7.ensures then c.given-2.ensures then
@@ -26,7 +24,7 @@ returns g c =
     record {
       written = written;
       read_again = λ version metadata.
-          table_again (package_rows way) held (package_reads g.Metadata.FromValue.from_tree) (package_meaning g.Metadata.FromValue.meaning c.args.self.now) c.finish.result written
+          reads_again lawful held (package_reads g.Metadata.FromValue.from_tree) (package_meaning g.Metadata.FromValue.meaning c.args.self.now) c.finish.result written
           (package_again way meaning g.Metadata.FromValue.meaning g.Metadata.FromValue.from_tree c.args.self.now version metadata);
-      memory = exact_alone (package_exact way itself) held c.finish.result written;
+      memory = alone lawful held c.finish.result written;
     }

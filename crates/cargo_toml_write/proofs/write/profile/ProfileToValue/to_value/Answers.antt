@@ -1,17 +1,15 @@
 use Rattle.cargo_toml_tables.specs.Profiles.{profile_meaning, profile_reads}
-use Rattle.cargo_toml_write.specs.WrittenProfiles.{profile_rows, profile_way}
-use Rattle.cargo_toml_write.specs.Writes.{IsWriting}
-use Rattle.cargo_toml_write.proofs.FloatlessAgain.{table_again}
-use Rattle.cargo_toml_write.proofs.FreeTrees.{profile_exact}
+use Rattle.cargo_toml_write.specs.Lawful.{profile_lawful}
+use Rattle.cargo_toml_write.specs.WrittenTables.{profile_rows}
+use Rattle.cargo_toml_write.proofs.ReadAgain.{alone, reads_again}
 use Rattle.cargo_toml_write.proofs.ReadAgainTables.{profile_again}
-use Rattle.cargo_toml_write.proofs.Trees.{exact_alone}
 use Rattle.cargo_toml_write.proofs.Rows.{◌then◌, ◌then_same◌, done, ends}
 use Rattle.cargo_toml_write.proofs.write.profile.ProfileToValue.to_value.Goals as goal
 
 pub returns : goal.returns
 returns c =
     let profile = profile_meaning c.args.self.now in
-    let written : IsWriting profile_way profile c.finish.result = ends profile_rows profile c.finish.result c.new-writing.ensures.no_fault c.new-writing.ensures.no_key
+    let written = ends profile_rows profile c.finish.result c.new-writing.ensures.no_fault c.new-writing.ensures.no_key
     (c.optional.ensures then c.optional-2.ensures then_same c.optional-3.ensures then
     c.optional-4.ensures then_same c.optional-5.ensures then_same c.optional-6.ensures then_same
     c.optional-7.ensures then_same c.optional-8.ensures then c.optional-9.ensures then_same
@@ -20,6 +18,6 @@ returns c =
     c.finish.ensures in
     record {
       written = written;
-      read_again = table_again profile_rows profile profile_reads profile c.finish.result written (profile_again profile);
-      memory = exact_alone profile_exact profile c.finish.result written;
+      read_again = reads_again profile_lawful profile profile_reads profile c.finish.result written (profile_again profile);
+      memory = alone profile_lawful profile c.finish.result written;
     }

@@ -1,11 +1,9 @@
 use Rattle.cargo_toml_package.specs.Workspaces.{workspace_meaning, workspace_reads}
-use Rattle.cargo_toml_write.specs.WrittenWorkspaces.{workspace_rows, workspace_way}
-use Rattle.cargo_toml_write.specs.Writes.{IsWriting}
+use Rattle.cargo_toml_write.specs.Lawful.{workspace_lawful}
 use Rattle.cargo_toml_write.specs.Reread.{reread_workspace}
-use Rattle.cargo_toml_write.proofs.FloatlessAgain.{table_again}
-use Rattle.cargo_toml_write.proofs.FreeTrees.{workspace_exact}
+use Rattle.cargo_toml_write.specs.WrittenPackages.{workspace_rows}
+use Rattle.cargo_toml_write.proofs.ReadAgain.{alone, reads_again}
 use Rattle.cargo_toml_write.proofs.ReadAgainManifests.{workspace_again}
-use Rattle.cargo_toml_write.proofs.Trees.{exact_alone, itself_exact}
 use Rattle.cargo_toml_write.proofs.Rows.{◌then◌, done, ends}
 use Rattle.cargo_toml_write.proofs.write.workspace.WorkspaceToValue.to_value.Goals as goal
 
@@ -13,15 +11,15 @@ pub returns : goal.returns
 returns g c =
     let way = g.Metadata.ToValue.way in
     let workspace = workspace_meaning g.Metadata.ToValue.meaning c.args.self.now in
-    let itself = itself_exact way in
-    let written : IsWriting (workspace_way way) workspace c.finish.result = ends (workspace_rows way) workspace c.finish.result c.new-writing.ensures.no_fault c.new-writing.ensures.no_key
+    let lawful = workspace_lawful way g.met.Metadata.ToValue.lawful in
+    let written = ends (workspace_rows way) workspace c.finish.result c.new-writing.ensures.no_fault c.new-writing.ensures.no_key
     (c.required.ensures then c.given.ensures then c.optional.ensures then c.given-2.ensures then
     c.optional-2.ensures then c.optional-3.ensures then c.given-3.ensures then c.given-4.ensures then done)
     c.finish.ensures in
     record {
       written = written;
       read_again = λ reads law told.
-          table_again (workspace_rows way) workspace (workspace_reads reads) (reread_workspace workspace) c.finish.result written
+          reads_again lawful workspace (workspace_reads reads) (reread_workspace workspace) c.finish.result written
           (workspace_again way g.Metadata.ToValue.meaning g.Metadata.ToValue.meaning reads law c.args.self.now told);
-      memory = exact_alone (workspace_exact way itself) workspace c.finish.result written;
+      memory = alone lawful workspace c.finish.result written;
     }

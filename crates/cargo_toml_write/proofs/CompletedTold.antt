@@ -1,0 +1,232 @@
+-- What completion gives of a manifest that is told, from a workspace that is, is told.
+use Rattle.std.proofs.Common.{◌≡◌, refl, ap, subst, ℕ, List, [], ◌∷◌, Bool, true, false, Option, Some, None, IfSome, option_map, option_and_then, Result, Ok, Err, if◌then◌else◌}
+use Rattle.std.specs.List.{AllByRecursion}
+use Rattle.std.specs.Str.{bytes_eq}
+use Rattle.std.proofs.lemmas.List.Elements.{All-from_recursion, recursion_from_All}
+use Rattle.semver.specs.Parse.{Held}
+use Rattle.toml.specs.Data.{Data}
+use Rattle.cargo_toml_dependencies.specs.Dependencies.{DependencyMeaning, InheritedMeaning, detail_keys, detailed, inherited, simple}
+use Rattle.cargo_toml_dependencies.specs.Inheriting.{Entries, adds_nothing, detail_of_requirement, entry_at, from_template, inherited_entries, inherited_entry, inherited_target, inherited_targets, with_entry}
+use Rattle.cargo_toml_dependencies.specs.Targets.{TargetMeaning}
+use Rattle.cargo_toml_discovery.specs.Discovering.{discovered}
+use Rattle.cargo_toml_discovery.specs.Names.{Name}
+use Rattle.cargo_toml_discovery.specs.Around.{around}
+use Rattle.cargo_toml_discovery.specs.Seen.{Seen, seen, seen_as, faulty, unclear}
+use Rattle.cargo_toml_discovery.specs.Told as folders
+use Rattle.cargo_toml_manifest.specs.Choosing.{Choice, from, lost, unclear_root}
+use Rattle.cargo_toml_manifest.specs.Completing.{complete_by, gives, seen_at, then_found}
+use Rattle.cargo_toml_manifest.specs.Finding.{found_for, stated_by, wanted_by, with_discovered}
+use Rattle.cargo_toml_manifest.specs.Inheriting.{inherited_from, inherited_if_there, inherited_manifest, own_tables}
+use Rattle.cargo_toml_manifest.specs.declared.manifest.Manifest.{Manifest}
+use Rattle.cargo_toml_manifest.specs.Manifests.{ManifestMeaning, manifest_meaning}
+use Rattle.cargo_toml_package.specs.Inheriting.{any_field_left, filled_field, inherited_package, with_template_if_there}
+use Rattle.cargo_toml_package.specs.declared.package.Package.{Package}
+use Rattle.cargo_toml_package.specs.Packages.{PackageMeaning, package_meaning}
+use Rattle.cargo_toml_package.specs.Templates.{TemplateMeaning}
+use Rattle.cargo_toml_parts.specs.Paths.{workspace_folder}
+use Rattle.cargo_toml_parts.specs.Answers.{◌>>=◌, beside, each}
+use Rattle.cargo_toml_parts.specs.FaultValues.{Fault}
+use Rattle.cargo_toml_parts.specs.Reads.{is_among}
+use Rattle.cargo_toml_parts.specs.Versions.{Parts}
+use Rattle.cargo_toml_parts.specs.declared.inheritable.Inheritable.{Inheritable}
+use Rattle.cargo_toml_parts.specs.declared.inheritable.Inheritable.TheVariants.{Set, Inherited}
+use Rattle.cargo_toml_package.specs.declared.workspace.Workspace.{Workspace}
+use Rattle.cargo_toml_package.specs.Workspaces.{workspace_meaning}
+use Rattle.cargo_toml_package.specs.Sharing.{LintsByTool, Shared, inherited_lints}
+use Rattle.cargo_toml_write.specs.Asked.{EachValue, IfSet, TargetMeets, WorkspaceMeets}
+use Rattle.cargo_toml_write.specs.Requirements.{CanBeRead}
+use Rattle.cargo_toml_write.specs.Reread.{ChoiceIsTold, IsTold, SharedIsTold, reread_dependency, told}
+use Rattle.cargo_toml_write.specs.WrittenDependencies.{DependencyAgain}
+use Rattle.cargo_toml_write.specs.WrittenPackages.{IsVersionAgain, TemplateAgain, VersionAgain}
+use Rattle.cargo_toml_write.specs.WrittenTables.{IsApart}
+
+-- what is answered, if no fault, is such
+pub record Yields {A : Type 0} (P : A → Type 0) (r : Result A Fault) : Type 0 where
+  pub each_is : (x : A) → r ≡ Ok x → P x
+
+or_else : {A : Type 0} → A → Result A Fault → A
+or_else x (Err e) = x
+or_else x (Ok y) = y
+
+yields_ok : {A : Type 0} {P : A → Type 0} (x : A) → P x → Yields P (Ok x)
+unfolding or_else
+yields_ok {P = P} x h = record { each_is = λ y e. subst P (ap (or_else x) e) h }
+
+yields_err : {A : Type 0} {P : A → Type 0} (e : Fault) → Yields P (Err e)
+yields_err e = record { each_is = λ x is. absurd cc }
+
+then_yields : {A B : Type 0} {Q : A → Type 0} {P : B → Type 0} (r : Result A Fault) (f : A → Result B Fault) → Yields Q r → ((x : A) → Q x → Yields P (f x)) → Yields P (◌>>=◌ r f)
+then_yields (Ok x) f h k = k x (h.each_is x refl)
+then_yields (Err e) f h k = yields_err e
+
+-- dependencies
+abbrev Told : DependencyMeaning → Type 0
+Told d = DependencyAgain (reread_dependency d)
+
+abbrev AllTold : Entries → Type 0
+AllTold es = AllByRecursion (λ (e : List ℕ × DependencyMeaning). Told e.1) es
+
+at_key : (b : Bool) (d : DependencyMeaning) (rest : Option DependencyMeaning) → Told d → IfSome rest Told → IfSome (if b then Some d else rest) Told
+at_key true d rest h more = h
+at_key false d rest h more = more
+
+entry_told : (key : List ℕ) (es : Entries) → AllTold es → IfSome (entry_at key es) Told
+entry_told key [] h = tt
+entry_told key (e ∷ es) h = at_key (bytes_eq key e.0) e.1 (entry_at key es) h.0 (entry_told key es h.1)
+
+lookup_told : (key : List ℕ) (templates : Option Entries) → IfSome templates AllTold → IfSome (option_and_then (entry_at key) templates) Told
+lookup_told key None h = tt
+lookup_told key (Some es) h = entry_told key es h
+
+simple_told : (b : Bool) (base : List ℕ) (entry : InheritedMeaning) (r : List Held) → CanBeRead r → Yields Told (if b then Ok (simple r) else Ok (detailed (with_entry base entry (detail_of_requirement r))))
+simple_told true base entry r h = yields_ok {P = Told} (simple r) h
+simple_told false base entry r h =
+    yields_ok {P = Told} (detailed (with_entry base entry (detail_of_requirement r)))
+    (record { version = h; not_inherited = refl; apart = All-from_recursion (λ (m : List ℕ × Data). is_among detail_keys m.0 ≡ false) [] tt }, refl)
+
+template_told : (base key : List ℕ) (entry : InheritedMeaning) (o : Option DependencyMeaning) → IfSome o Told → Yields Told (from_template base key entry o)
+template_told base key entry None h = yields_err _
+template_told base key entry (Some (simple r)) h = simple_told (adds_nothing entry) base entry r h
+template_told base key entry (Some (inherited i)) h = yields_err _
+template_told base key entry (Some (detailed d)) (again, none) =
+    yields_ok {P = Told} (detailed (with_entry base entry d)) (record { version = again.version; not_inherited = refl; apart = again.apart }, none)
+
+one_told : (templates : Option Entries) (base key : List ℕ) (d : DependencyMeaning) → IfSome templates AllTold → Told d → Yields Told (inherited_entry templates base key d)
+one_told templates base key (simple r) all h = yields_ok {P = Told} (simple r) h
+one_told templates base key (inherited i) all h = template_told base key i (option_and_then (entry_at key) templates) (lookup_told key templates all)
+one_told templates base key (detailed d) all h = yields_ok {P = Told} (detailed d) h
+
+each_yields : {A B : Type 0} (P : A → Type 0) (Q : B → Type 0) (f : A → Result B Fault) → ((x : A) → P x → Yields Q (f x)) → (xs : List A) → AllByRecursion P xs → Yields (AllByRecursion Q) (each f xs)
+each_yields P Q f h [] all = yields_ok {P = AllByRecursion Q} [] tt
+each_yields P Q f h (x ∷ xs) all =
+    then_yields {Q = Q} {P = AllByRecursion Q} (f x) _ (h x all.0) (λ y q.
+    then_yields {Q = AllByRecursion Q} {P = AllByRecursion Q} (each f xs) _ (each_yields P Q f h xs all.1) (λ ys qs. yields_ok {P = AllByRecursion Q} (y ∷ ys) (q, qs)))
+
+beside_yields : {A : Type 0} (P : A → Type 0) (key : List ℕ) (r : Result A Fault) → Yields P r → Yields (λ (e : List ℕ × A). P e.1) (beside key r)
+beside_yields P key (Ok x) h = yields_ok (key, x) (h.each_is x refl)
+beside_yields P key (Err e) h = yields_err e
+
+values_yield : {A B : Type 0} (P : A → Type 0) (Q : B → Type 0) (f : List ℕ → A → Result B Fault) → ((key : List ℕ) (x : A) → P x → Yields Q (f key x)) → (es : List (List ℕ × A)) → EachValue P es
+    → Yields (EachValue Q) (each (λ e. beside e.0 (f e.0 e.1)) es)
+values_yield {A = A} {B = B} P Q f h es all =
+    let some = each_yields (λ (e : List ℕ × A). P e.1) (λ (e : List ℕ × B). Q e.1) (λ (e : List ℕ × A). beside e.0 (f e.0 e.1)) (λ e p. beside_yields Q e.0 (f e.0 e.1) (h e.0 e.1 p)) es
+    (recursion_from_All (λ (e : List ℕ × A). P e.1) es all) in
+    record { each_is = λ xs is. All-from_recursion (λ (e : List ℕ × B). Q e.1) xs (some.each_is xs is) }
+
+-- what a workspace gives, if there is one
+module _ (templates : Option Entries) (base : List ℕ) (all : IfSome templates AllTold) where
+  entries_told : (es : Entries) → EachValue Told es → Yields (EachValue Told) (inherited_entries templates base es)
+  entries_told es h = values_yield Told Told (inherited_entry templates base) (λ key d h. one_told templates base key d all h) es h
+
+  target_told : (t : TargetMeaning) → TargetMeets Told t → Yields (TargetMeets Told) (inherited_target templates base t)
+  target_told t h =
+      then_yields {Q = EachValue Told} {P = TargetMeets Told} (inherited_entries templates base t.dependencies) _ (entries_told t.dependencies h.dependencies) (λ plain h_plain.
+      then_yields {Q = EachValue Told} {P = TargetMeets Told} (inherited_entries templates base t.build_dependencies) _ (entries_told t.build_dependencies h.build_dependencies) (λ build h_build.
+      then_yields {Q = EachValue Told} {P = TargetMeets Told} (inherited_entries templates base t.dev_dependencies) _ (entries_told t.dev_dependencies h.dev_dependencies) (λ dev h_dev.
+      yields_ok {P = TargetMeets Told} _ (record { dependencies = h_plain; dev_dependencies = h_dev; build_dependencies = h_build }))))
+
+  targets_told : (ts : List (List ℕ × TargetMeaning)) → EachValue (TargetMeets Told) ts → Yields (EachValue (TargetMeets Told)) (inherited_targets templates base ts)
+  targets_told ts h = values_yield (TargetMeets Told) (TargetMeets Told) (λ key t. inherited_target templates base t) (λ key t h. target_told t h) ts h
+
+abbrev Lints : LintsByTool → Type 0
+Lints = EachValue (EachValue IsApart)
+
+lints_told : (groups : Option LintsByTool) (lints : Inheritable LintsByTool) → IfSome groups Lints → IfSet Lints lints → Yields (IfSet Lints) (inherited_lints groups lints)
+lints_told None (Set ls) all h = yields_ok {P = IfSet Lints} (Set ls) h
+lints_told (Some gs) (Set ls) all h = yields_ok {P = IfSet Lints} (Set ls) h
+lints_told None Inherited all h = yields_err _
+lints_told (Some gs) Inherited all h = yields_ok {P = IfSet Lints} (Set gs) all
+
+-- packages
+version_told : (v : Inheritable Parts) (given : Option Parts) → VersionAgain v → IfSome given IsVersionAgain → VersionAgain (filled_field v given)
+version_told (Set v) None h all = h
+version_told (Set v) (Some w) h all = h
+version_told Inherited None h all = tt
+version_told Inherited (Some w) h all = all
+
+module _ {M : Type 0} where
+  abbrev IsVersioned : PackageMeaning M → Type 0
+  IsVersioned p = VersionAgain p.version
+
+  filled_told : (template : Option TemplateMeaning) (base : List ℕ) (p : PackageMeaning M) → IfSome template TemplateAgain → IsVersioned p → IsVersioned (with_template_if_there base template p)
+  filled_told None base p all h = h
+  filled_told (Some t) base p all h = version_told p.version t.version h all
+
+  checked_told : (b : Bool) (p : PackageMeaning M) (fault : Fault) → IsVersioned p → Yields IsVersioned (if b then Err fault else Ok p)
+  checked_told true p fault h = yields_err fault
+  checked_told false p fault h = yields_ok {P = IsVersioned} p h
+
+  package_told : (template : Option TemplateMeaning) (base : List ℕ) (o : Option (PackageMeaning M)) → IfSome template TemplateAgain → IfSome o IsVersioned
+      → Yields (λ q. IfSome q IsVersioned) (inherited_if_there template base o)
+  package_told template base None all h = yields_ok {P = λ q. IfSome q IsVersioned} None tt
+  package_told template base (Some p) all h =
+      let q = with_template_if_there base template p in
+      then_yields {Q = IsVersioned} {P = λ x. IfSome x IsVersioned} (inherited_package template base p) _ (checked_told (any_field_left q) q _ (filled_told template base p all h))
+      (λ x h. yields_ok {P = λ y. IfSome y IsVersioned} (Some x) h)
+
+  manifest_told : (templates : Option Entries) (groups : Option LintsByTool) (template : Option TemplateMeaning) (base : List ℕ) (m : ManifestMeaning M)
+      → IfSome templates AllTold → IfSome groups Lints → IfSome template TemplateAgain → IsTold m → Yields (λ n. IsTold n) (inherited_from templates groups template base m)
+  manifest_told templates groups template base m all_entries all_lints all_template h =
+      then_yields {Q = TargetMeets Told} {P = λ n. IsTold n} (inherited_target templates base (own_tables m)) _
+      (target_told templates base all_entries (own_tables m) (record { dependencies = h.dependencies; dev_dependencies = h.dev_dependencies; build_dependencies = h.build_dependencies })) (λ tables h_tables.
+      then_yields {Q = EachValue (TargetMeets Told)} {P = λ n. IsTold n} (inherited_targets templates base m.target) _ (targets_told templates base all_entries m.target h.target) (λ target h_target.
+      then_yields {Q = IfSet Lints} {P = λ n. IsTold n} (inherited_lints groups m.lints) _ (lints_told groups m.lints all_lints h.lints) (λ lints h_lints.
+      then_yields {Q = λ q. IfSome q IsVersioned} {P = λ n. IsTold n} (inherited_if_there template base m.«package») _ (package_told template base m.«package» all_template h.«package») (λ its_package h_package.
+      yields_ok {P = λ n. IsTold n} _ (record { «package» = h_package; workspace = h.workspace; dependencies = h_tables.dependencies; dev_dependencies = h_tables.dev_dependencies; build_dependencies = h_tables.build_dependencies; target = h_target; replace = h.replace; patch = h.patch; profile = h.profile; lints = h_lints; features = h.features })))))
+
+  -- what is found in folders are products
+  seen_told : {A : Type 0} (path : Option (List ℕ)) (s : Seen A) (f : A → ManifestMeaning M) → ((a : A) → IsTold (f a)) → (n : ManifestMeaning M) → seen_at path (seen_as f s) ≡ gives n → IsTold n
+  seen_told path (seen a) f h n is = let same : f a ≡ n = cc in subst (λ (x : ManifestMeaning M). IsTold x) same (h a)
+  seen_told path (faulty faults) f h n is = absurd cc
+  seen_told path unclear f h n is = absurd cc
+
+  found_told : (path : Option (List ℕ)) (folder : Name → folders.Told) (m : ManifestMeaning M) (o : Option (PackageMeaning M)) → IsTold m → IfSome o IsVersioned
+      → (n : ManifestMeaning M) → seen_at path (found_for m o folder) ≡ gives n → IsTold n
+  found_told path folder m None h version n is = seen_told path (seen m) (λ (x : ManifestMeaning M). m) (λ a. h) n is
+  found_told path folder m (Some p) h version n is =
+      seen_told path (around folder (wanted_by p)) (λ a. with_discovered m p (discovered (stated_by m p) a))
+      (λ a. record { «package» = version; workspace = h.workspace; dependencies = h.dependencies; dev_dependencies = h.dev_dependencies; build_dependencies = h.build_dependencies; target = h.target; replace = h.replace; patch = h.patch; profile = h.profile; lints = h.lints; features = h.features }) n is
+
+  then_told : (path : Option (List ℕ)) (folder : Name → folders.Told) (r : Result (ManifestMeaning M) Fault) → Yields (λ n. IsTold n) r → (n : ManifestMeaning M) → then_found path folder r ≡ gives n → IsTold n
+  then_told path folder (Ok m) h n is = let whole : IsTold m = h.each_is m refl in found_told path folder m m.«package» whole whole.«package» n is
+  then_told path folder (Err fault) h n is = absurd cc
+
+  from_told : (w : Option Shared) (path : List ℕ) (m : ManifestMeaning M) → IfSome w SharedIsTold → IsTold m → Yields (λ n. IsTold n) (inherited_manifest w path m)
+  from_told None base m all h = manifest_told None None None base m tt tt tt h
+  from_told (Some w) base m all h =
+      manifest_told (Some w.dependencies) (Some w.lints) w.template base m (recursion_from_All (λ (e : List ℕ × DependencyMeaning). Told e.1) w.dependencies all.dependencies) all.lints all.template h
+
+  pub completed_told : (m n : ManifestMeaning M) (choice : Choice) (folder : Name → folders.Told) → IsTold m → ChoiceIsTold choice → complete_by m choice folder ≡ gives n → IsTold n
+  completed_told m n (from None) folder h all is = then_told None folder (Ok m) (yields_ok {P = λ x. IsTold x} m h) n is
+  completed_told m n (from (Some w)) folder h all is = then_told (Some w.1) folder (inherited_manifest w.0 (workspace_folder w.1) m) (from_told w.0 (workspace_folder w.1) m all h) n is
+  completed_told m n lost folder h all is = absurd cc
+  completed_told m n unclear_root folder h all is = absurd cc
+
+-- what is told doesn't depend on how metadata are seen
+any_metadata : {M : Type 0} (o : Option M) → IfSome o (λ (x : M). Unit {0})
+any_metadata None = tt
+any_metadata (Some x) = tt
+
+module _ {X M N : Type 0} (f : X → M) (g : X → N) where
+  package_as : (x : Option (Package X)) → IfSome (option_map (package_meaning f) x) (λ p. VersionAgain p.version) → IfSome (option_map (package_meaning g) x) (λ p. VersionAgain p.version)
+  package_as None h = tt
+  package_as (Some p) h = h
+
+  workspace_as : (x : Option (Workspace X)) → IfSome (option_map (workspace_meaning f) x) (WorkspaceMeets told) → IfSome (option_map (workspace_meaning g) x) (WorkspaceMeets told)
+  workspace_as None h = tt
+  workspace_as (Some w) h = record { metadata = any_metadata (option_map g w.metadata); template = h.template; dependencies = h.dependencies; lints = h.lints }
+
+  pub told_as : (m : Manifest X) → IsTold (manifest_meaning f m) → IsTold (manifest_meaning g m)
+  told_as m h = record {
+    «package» = package_as m.«package» h.«package»;
+    workspace = workspace_as m.workspace h.workspace;
+    dependencies = h.dependencies;
+    dev_dependencies = h.dev_dependencies;
+    build_dependencies = h.build_dependencies;
+    target = h.target;
+    replace = h.replace;
+    patch = h.patch;
+    profile = h.profile;
+    lints = h.lints;
+    features = h.features;
+  }

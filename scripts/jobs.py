@@ -1,11 +1,15 @@
 """What ./test runs, and what has to come of it: the scripts, and under `rt try` the rows, the tests
-and the stored runs."""
+and the stored runs.
+
+`rt try` takes a minute or two of a processor to build a program, and then seconds to run it. So
+programs that stand on the same crates are built as one: see `Programs`."""
 
 import contextlib
 import difflib
 import hashlib
 import os
 import re
+import shutil
 import subprocess
 from itertools import zip_longest
 
@@ -16,10 +20,11 @@ CRATES, SCRIPTS = f"{ROOT}/crates", f"{ROOT}/scripts"
 # The jobs that passed: a file for each, named by a checksum of all that it comes of.
 KEPT = f"{ROOT}/out/test"
 # A run that is checked at each step takes several times as long as the program.
-SECONDS = "600"
+TRY = ["env", f"PATH={SCRIPTS}/without-hint:{os.environ['PATH']}", "rt", "try", "--seconds", "600"]
 # Lines that are shown of one failure.
 SHOWN = 40
-ENDED = re.compile(r"^run=ended status=(\d+) .*proved=no\n\Z", re.MULTILINE)
+# How one of the programs ended that are built as one.
+ENDED = re.compile(r"^case=(\S+) run=ended status=(\d+) .*$", re.MULTILINE)
 # As root, rows are run as `rt ci` runs them: as nobody, who is bound by modes.
 NOBODY = 65534
 AS_NOBODY = ["setpriv", f"--reuid={NOBODY}", f"--regid={NOBODY}", "--clear-groups"]
@@ -129,31 +134,24 @@ class Scripts(Job):
             self.failed["a script"] = out + said
 
 
-class Tried(Job):
-    """A crate under `rt try`, which builds it of the sources of all crates that it stands on."""
+def below(crate):
+    """The crates of the repository that a crate stands on, and itself."""
+    how = {"check": True, "stdout": subprocess.PIPE, "text": True}
+    return subprocess.run([f"{SCRIPTS}/closure", ROOT, crate], **how).stdout.split()
+
+
+def code_of(crates):
+    return [it for name in crates for it in files_below(f"{CRATES}/{name}/src")]
+
+
+class Tests(Job):
+    """The #[test] functions of a crate."""
 
     is_heavy = True
 
-    def __init__(self, what, crate, words):
-        folder, how = f"{CRATES}/{crate}", {"check": True, "stdout": subprocess.PIPE, "text": True}
-        closure = subprocess.run([f"{SCRIPTS}/closure", ROOT, crate], **how).stdout.split()
-        below = [it for name in closure for it in files_below(f"{CRATES}/{name}/src")]
-        beside = [f"{folder}/{it}" for it in ("args", "stdout", "status")]
-        data = files_below(f"{folder}/data")
-        sources = [f"{ROOT}/crates.txt", *below, *beside, *data]
-        super().__init__(f"{what} of {crate}", folder, [], sources)
-        path = f"PATH={SCRIPTS}/without-hint:{os.environ['PATH']}"
-        self.words = ["env", path, "rt", "try", "--seconds", SECONDS]
-        for path in filter(is_utf8, data):
-            self.words += ["--data", f"{os.path.relpath(path, f'{folder}/data')}={path}"]
-        self.words += words
-
-
-class Tests(Tried):
-    """The #[test] functions of a crate."""
-
     def __init__(self, crate):
-        super().__init__("tests", crate, ["--test"])
+        sources = [f"{ROOT}/crates.txt", *code_of(below(crate))]
+        super().__init__(f"tests of {crate}", f"{CRATES}/{crate}", [*TRY, "--test"], sources)
 
     def judge(self, status, out, said):
         told = re.findall(r"(?m)^test (\S+) \.\.\. (.*)$", out)
@@ -163,24 +161,38 @@ class Tests(Tried):
             self.failed["`rt try --test`"] = out + said
 
 
-class Stored(Tried):
-    """A program on its words and its files: its status, and what it prints."""
+class Run:
+    """A program on its words, with the files beside it, and what came of it."""
+
+    # whether it must not be run by root
+    is_for_nobody = False
+
+    def __init__(self, what, crate, words):
+        self.name, self.crate, self.words = f"{what} of {crate}", crate, words
+        self.folder, self.below = f"{CRATES}/{crate}", below(crate)
+        self.data = files_below(f"{self.folder}/data")
+        self.sources = [f"{self.folder}/{it}" for it in ("args", "stdout", "status")] + self.data
+        self.passed, self.failed, self.skipped = 0, {}, {}
+
+
+class Stored(Run):
+    """A program on its stored words: its status, and what it prints."""
 
     def __init__(self, crate):
-        super().__init__("stored run", crate, ["--", *lines_of(f"{CRATES}/{crate}/args")])
+        super().__init__("stored run", crate, lines_of(f"{CRATES}/{crate}/args"))
 
     def judge(self, status, out, said):
-        wanted, ended = [*lines_of(f"{self.folder}/status"), "0"][0], ENDED.search(said)
+        wanted = [*lines_of(f"{self.folder}/status"), "0"][0]
         stored = text_of(f"{self.folder}/stdout")
-        if not ended or ended[1] != wanted:
-            self.failed[f"status {wanted}"] = said
+        if status != wanted:
+            self.failed[f"status {wanted} of {self.crate}"] = said
         elif out != stored:
-            self.failed["output"] = difference(stored, out)
+            self.failed[f"output of {self.crate}"] = difference(stored, out)
         else:
             self.passed = 1
 
 
-class Rows(Tried):
+class Rows(Run):
     """The rows of a program of rows whose names hold a word. Each of its words is a row, KIND/NAME,
     and the line of `stdout` at the same place is what it has to print of it."""
 
@@ -191,7 +203,7 @@ class Rows(Tried):
         self.wanted = {row: f"{line}\n" for row, line in stored if word in row}
         why = {row: why_not(f"{folder}/data/{row}", is_bound) for row in self.wanted}
         self.asked = [row for row in self.wanted if not why[row]]
-        super().__init__("rows", crate, ["--", *self.asked])
+        super().__init__("rows", crate, self.asked)
         self.skipped = {row: it for row, it in why.items() if it}
         self.is_for_nobody = is_bound and os.geteuid() == 0
 
@@ -205,13 +217,13 @@ class Rows(Tried):
         for row, text in came.items():
             if text and text != self.wanted[row]:
                 self.failed[row] = self.shown(row, text)
-        lost, ended = [row for row, text in came.items() if not text], ENDED.search(said)
+        lost = [row for row, text in came.items() if not text]
         self.failed.update(dict.fromkeys(lost))
         self.passed = len(came) - len(self.failed)
         if lost:
             self.failed[lost[0]] = f"nothing came of it, nor of {len(lost) - 1} others\n{said}"
-        elif not ended or ended[1] != "0":
-            self.failed["`rt try`"] = said
+        elif status != "0":
+            self.failed[f"status 0 of {self.crate}"] = said
 
     def shown(self, row, text):
         """What came, beside the file of the row that is most like it."""
@@ -220,6 +232,90 @@ class Rows(Tried):
         shared = [len({*it.splitlines()} & {*came.splitlines()}) for it in texts]
         most = max(shared, default=0)
         return difference(texts[shared.index(most)], came) if most else f"came: {came}"
+
+
+# The program of which some programs are a part: the first line of its input names one of them.
+ONE_OF_THEM = """//! Runs the program that the first line of standard input names.
+#![tactic(auto)]
+
+use std::process::{ExitCode, Termination};
+
+fn main(rt: HostRuntime) -> ExitCode {
+    match rt.lines(rt.alloc()).next() {
+        Some(Ok(name)) => match name.as_str() {
+%s
+            _ => ExitCode::from(2),
+        },
+        _ => ExitCode::from(2),
+    }
+}
+"""
+
+
+class Programs(Job):
+    """Runs of several programs, built as one by `rt try`. In a copy of their sources each program
+    is a library with a public `main`, and a case of `rt try --cases` for each names it."""
+
+    is_heavy = True
+
+    def __init__(self, runs):
+        self.runs = runs
+        self.below = dict.fromkeys(it for run in runs for it in run.below)
+        sources = [f"{ROOT}/crates.txt", *code_of(self.below)]
+        sources += [file for it in runs for file in it.sources]
+        words, name = [it.words for it in runs], ", ".join(it.name for it in runs)
+        super().__init__(name, ROOT, words, sources)
+        self.is_for_nobody = any(it.is_for_nobody for it in runs)
+
+    def begun(self, at):
+        names, top = [it.crate for it in self.runs], f"{at}/repository"
+        for name in self.below:
+            shutil.copytree(f"{CRATES}/{name}/src", f"{top}/crates/{name}/src")
+        lines = [it for it in lines_of(f"{ROOT}/crates.txt") if it.split(":")[0] in self.below]
+        put(f"{top}/crates.txt", *lines, f"one_of_them: {' '.join(names)}")
+        put(f"{top}/HANDLES", *lines_of(f"{ROOT}/HANDLES"))
+        for name in names:
+            src = f"{top}/crates/{name}/src"
+            text = text_of(f"{src}/main.rt").replace("\nfn main(", "\npub fn main(")
+            put(f"{src}/lib.rt", text)
+            os.remove(f"{src}/main.rt")
+        calls = [f'            "{it}" => {it}::main(rt).report(&rt),' for it in names]
+        put(f"{top}/crates/one_of_them/src/main.rt", ONE_OF_THEM % "\n".join(calls))
+        # rt takes the folder that has it for the top of a repository
+        os.mkdir(f"{top}/.git")
+        self.folder, self.words = f"{top}/crates/one_of_them", [*TRY, "--cases", f"{at}/cases"]
+        for run in self.runs:
+            put(f"{at}/cases/{run.crate}", run.crate)
+            put(f"{at}/cases/{run.crate}.args", *run.words)
+            for path in filter(is_utf8, run.data):
+                self.words += ["--data", f"{os.path.relpath(path, f'{run.folder}/data')}={path}"]
+        return super().begun(at)
+
+    def judge(self, status, out, said):
+        ended = dict(ENDED.findall(said))
+        # each program's output is behind a line with its name
+        parts = re.split(rf"(?m)^== ({'|'.join(it.crate for it in self.runs)})\n", out)
+        wrote = dict(zip(parts[1::2], parts[2::2]))
+        for run in self.runs:
+            run.judge(ended.get(run.crate), wrote.get(run.crate, ""), said)
+            self.passed += run.passed
+            self.failed.update(run.failed)
+            self.skipped.update(run.skipped)
+
+
+def put(path, *lines):
+    os.makedirs(os.path.dirname(path), exist_ok=True)
+    with open(path, "w", encoding="utf-8") as file:
+        file.writelines(f"{it}\n" for it in lines)
+
+
+def together(runs):
+    """Jobs of the runs. A program is built with one that stands on all that it stands on."""
+    groups = {}
+    for run in sorted(runs, key=lambda it: len(it.below), reverse=True):
+        hosts = (it for it in groups if {*run.below} - {run.crate} <= {*it.below})
+        groups.setdefault(next(hosts, run), []).append(run)
+    return [Programs(it) for it in groups.values()]
 
 
 def why_not(row, is_bound):
@@ -246,8 +342,8 @@ def jobs(word=None):
     programs = [it for it in crates if os.path.isfile(f"{CRATES}/{it}/stdout")]
     rows = [Rows(it, word or "", is_bound) for it in programs if it.endswith("_rows")]
     if word is not None:
-        return [it for it in rows if it.wanted]
-    found = [*rows, *(Stored(it) for it in programs if not it.endswith("_rows"))]
+        return together(it for it in rows if it.wanted)
+    found = together([*rows, *(Stored(it) for it in programs if not it.endswith("_rows"))])
     for it in crates:
         if any("#[test]" in text_of(path) for path in files_below(f"{CRATES}/{it}/src")):
             found.append(Tests(it))

@@ -78,7 +78,7 @@ need() {
 # What stands in for the program: scripts/answer or scripts/build, with the words it takes further.
 stand_in() {
     need python3 "install the system's package \`python3\`"
-    need rt 'it lies in the folder of the Rattle kit, so put that folder on the PATH'
+    need rt 'it is in `bin` of the Rattle kit, so put that folder on the PATH'
     task=$1
     shift
     set -- python3 "$root/scripts/$task" "$self" "$crate" "$0" "$@"

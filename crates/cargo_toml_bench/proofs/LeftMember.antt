@@ -1,9 +1,9 @@
 -- What is resolved of a manifest that was lent is resolved of the manifest that is left.
-use Rattle.std.proofs.Common.{◌≡◌, ℕ, false, Option, Some, None, Result, Ok, Err, IsSome, IfErr, IfSome, Bor, ap, sym, subst}
+use Rattle.std.proofs.Common.{◌≡◌, ℕ, false, Option, Some, None, Result, Ok, IsSome, IfSome, Bor, sym, subst}
 use Rattle.std.proofs.lemmas.Bool.{false≢true}
-use Rattle.cargo_toml.specs.Error.{Error, Memory}
+use Rattle.cargo_toml.specs.Error.{Error}
 use Rattle.cargo_toml.specs.Filter.{Asked}
-use Rattle.cargo_toml.specs.Completing.{Outcome, Meets}
+use Rattle.cargo_toml.specs.Completing.{Outcome}
 use Rattle.cargo_toml.specs.Lent.{IsLeft, IsResolvedAfter, with_lent}
 use Rattle.cargo_toml.specs.Limits.{MAX_ITEMS}
 use Rattle.cargo_toml.specs.Manifest.{Manifest}
@@ -11,10 +11,7 @@ use Rattle.cargo_toml.specs.Manifests.{ManifestMeaning, held}
 use Rattle.cargo_toml.specs.Parsed.{IsParsed, IsParsedBy}
 use Rattle.cargo_toml.specs.Views.{answer_of}
 use Rattle.cargo_toml_features.specs.declared.features.Features.{Features}
-use Rattle.cargo_toml_manifest.proofs.Meeting.{refused_again}
-use Rattle.cargo_toml_bench.proofs.AtLimit.{parsed_at}
-use Rattle.cargo_toml_bench.proofs.Filters.{keeps_none}
-use Rattle.cargo_toml_bench.proofs.Outcomes.{answer_after}
+use Rattle.cargo_toml_bench.proofs.Asked.{keeps_none, parsed_by}
 
 module _ {M F S H : Type 0} (old new : Manifest M) (outcome : Outcome (ManifestMeaning M)) (g : Asked F) (filter : Option (Bor F)) (limit : ℕ) where
   -- what is told of an answer that may be there
@@ -32,26 +29,4 @@ module _ {M F S H : Type 0} (old new : Manifest M) (outcome : Outcome (ManifestM
   parsed_of_left unfiltered same lent slot a left is there told =
       let by : IsParsedBy limit (held new) g filter (answer_of a) =
       told_of lent a left (subst (λ s. IsSome (with_lent lent s)) is there) (subst (λ s. Told (with_lent lent s)) is told) in
-      parsed_at (held new) (λ _. false) (answer_of a) same (by.told (λ _. false) (keeps_none g filter unfiltered))
-
-  outcome_of : {U : Type 0} (lent : Option (Bor (Manifest M))) (a : Features S H) (r : Result U Error) → IsLeft old lent new → IsSome (with_lent lent (Some (Ok a)))
-      → Told (with_lent lent (Some (Ok a))) → IfErr r (λ e. e ≡ Memory) → Meets (λ _. held new) outcome r
-  outcome_of None a r left there told memory = absurd (false≢true there)
-  outcome_of (Some lent) a r left there told memory =
-      answer_after (λ (p : Bor (Manifest M) × Features S H). held p.0.now) (λ _. held new) outcome (lent, a) r (λ _. ap held left) memory told.completed
-
-  -- what is answered once there are features is an answer by the outcome of completing
-  pub outcome_of_left : {U : Type 0} (lent : Option (Bor (Manifest M))) (slot : Option (Result (Features S H) Error)) (a : Features S H) (r : Result U Error)
-      → IsLeft old lent new → slot ≡ Some (Ok a) → IsSome (with_lent lent slot) → Told (with_lent lent slot) → IfErr r (λ e. e ≡ Memory)
-      → Meets (λ _. held new) outcome r
-  outcome_of_left lent slot a r left is there told memory =
-      outcome_of lent a r left (subst (λ s. IsSome (with_lent lent s)) is there) (subst (λ s. Told (with_lent lent s)) is told) memory
-
-  fault_of_slot : (U : Type 0) (lent : Option (Bor (Manifest M))) (e : Error) → Told (with_lent lent (Some (Err e))) → Meets {T = U} (λ _. held new) outcome (Err e)
-  fault_of_slot U None e told = refused_again (λ (p : Bor (Manifest M) × Features S H). held p.0.now) (λ _. held new) outcome e told.completed
-  fault_of_slot U (Some lent) e told = refused_again (λ (p : Bor (Manifest M) × Features S H). held p.0.now) (λ _. held new) outcome e told.completed
-
-  -- so is the fault that stands in place of features
-  pub outcome_of_fault : (U : Type 0) (lent : Option (Bor (Manifest M))) (slot : Option (Result (Features S H) Error)) (e : Error)
-      → slot ≡ Some (Err e) → Told (with_lent lent slot) → Meets {T = U} (λ _. held new) outcome (Err e)
-  outcome_of_fault U lent slot e is told = fault_of_slot U lent e (subst (λ s. Told (with_lent lent s)) is told)
+      parsed_by g filter (λ _. false) (keeps_none g filter unfiltered) same (answer_of a) (held new) by

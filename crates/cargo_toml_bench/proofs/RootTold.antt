@@ -1,5 +1,7 @@
 -- What is read for a root whose text is stated.
-use Rattle.std.proofs.Common.{◌≡◌, ℕ, Bool, true, false, cond, subst, List, Option, Some, None, Result, Ok, Err, IsErrAnd, String, Vec, string_bytes, refl, sym, ◌∙◌, ap}
+use Rattle.std.proofs.Common.{◌≡◌, ℕ, Bool, true, false, subst, List, Option, Some, None, Result, Ok, Err, IsErrAnd, String, Vec, string_bytes, refl, sym, ◌∙◌, ap}
+use Rattle.std.proofs.lemmas.Bool.{false≢true}
+use Rattle.std.specs.Option.{option_map_or}
 use Rattle.std.specs.Prelude.{IsUtf8, is_some, if◌then◌else◌}
 use Rattle.std.specs.declared.alloc.Global.{Global}
 use Rattle.toml.specs.Data.{Data}
@@ -10,33 +12,16 @@ use Rattle.cargo_toml.specs.Texts.{any_tree, document_reads}
 use Rattle.cargo_toml.specs.Told.{root, no_root, ReadsRoot}
 use Rattle.cargo_toml_bench.specs.InMemory.{told_manifest, told_bytes}
 
-abbrev Is : {A : Type 0} → Option A → Type 0
-Is None = ⊥
-Is (Some x) = Unit {0}
-
-no_value : {A : Type 0} (x : A) → ◌≡◌ {A = Option A} None (Some x) → ⊥
-no_value x e = subst Is (sym e) tt
-
-no_workspace : (m n : ManifestMeaning Data) → is_some m.workspace ≡ false → ◌≡◌ {A = Option (ManifestMeaning Data)} (Some m) (Some n) → is_some n.workspace ≡ true → ⊥
-no_workspace m n lacks same has = true_false (sym has ∙ ap (λ o. is_some_in o) (sym same) ∙ lacks)
-  where
-    is_some_in : Option (ManifestMeaning Data) → Bool
-    is_some_in None = false
-    is_some_in (Some k) = is_some k.workspace
-
-    true_false : true ≡ false → ⊥
-    true_false e = subst (λ b. cond b (Unit {0}) ⊥) e tt
-
 by_workspace : (x : Vec ℕ Global × String Global) (m : ManifestMeaning Data) (path : List ℕ) (b : Bool) → is_some m.workspace ≡ b
     → document_reads (manifest_reads any_tree) (parse_document x.0.items) ≡ Some m → IsUtf8 x.0.items → string_bytes x.1 ≡ path
     → ReadsRoot (if b then root m path else no_root) (Ok x)
 by_workspace x m path true w e u p = ((u, e, w), p)
-by_workspace x m path false w e u p = λ n h. no_workspace m n w (sym e ∙ h.1) h.2
+by_workspace x m path false w e u p = λ n h. false≢true (sym w ∙ ap (λ o. option_map_or (λ (k : ManifestMeaning Data). is_some k.workspace) o false) (sym e ∙ h.1) ∙ h.2)
 
 by_document : (x : Vec ℕ Global × String Global) (path : List ℕ) (d : Option (ManifestMeaning Data))
     → document_reads (manifest_reads any_tree) (parse_document x.0.items) ≡ d → IsUtf8 x.0.items → string_bytes x.1 ≡ path
     → ReadsRoot (told_manifest d path) (Ok x)
-by_document x path None e u p = λ n h. no_value n (sym e ∙ h.1)
+by_document x path None e u p = λ n h. false≢true (ap is_some (sym e ∙ h.1))
 by_document x path (Some m) e u p = by_workspace x m path (is_some m.workspace) refl e u p
 
 -- the bytes of a text, and its path

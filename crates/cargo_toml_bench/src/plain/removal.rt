@@ -1,15 +1,15 @@
 //! Features are taken out one after another, and leave to others what they said.
-ghost use Rattle.std.specs.Prelude.{◌≡◌, if◌then◌else◌, [], Some};
-ghost use Rattle.std.specs.Prelude.{take, IfOk, IsSome, OnOk};
+ghost use Rattle.std.specs.Prelude.{◌≡◌, if◌then◌else◌, List};
+ghost use Rattle.std.specs.Prelude.{is_some, take, IfOk, IsSome, OnOk};
 ghost use Rattle.cargo_toml_graph.specs.Action.{Text};
+ghost use Rattle.cargo_toml_graph.specs.Graph.{Resolution};
 ghost use Rattle.cargo_toml_graph.specs.Reach.{Among, IsOnce};
-ghost use Rattle.cargo_toml_graph.specs.Removal.{put_each};
+ghost use Rattle.cargo_toml_graph.specs.Removal.{SameKept, lists_text, put_each};
+ghost use Rattle.cargo_toml_features.specs.Views.{resolution_of, set_has, value_at};
 ghost use Rattle.cargo_toml_resolve.specs.Texts.{texts_now};
+ghost use Rattle.cargo_toml_bench.specs.Removing.{AreTakenOut, ChangesAll, ChangesAt, Loses};
+ghost use Rattle.cargo_toml_bench.specs.Removing.{Redirects, TakesNames, TakesOut, bins_at};
 ghost use Rattle.cargo_toml_bench.specs.Removing.{passed_on};
-ghost use Rattle.cargo_toml_bench.specs.Removing.{TakesNames, Loses, ChangesAt};
-ghost use Rattle.cargo_toml_bench.specs.Removing.{AreTakenOut, LosesAll, TakesOut, Redirects};
-ghost use Rattle.cargo_toml_features.specs.Views.{set_has};
-ghost use Rattle.cargo_toml_features.specs.Views.{resolution_of, value_at};
 
 use crate::plain::putting::put_bins;
 use cargo_toml_features::features::Feature;
@@ -116,7 +116,7 @@ fn lose_at<'a, S: BuildHasher>(
     Ok(())
 }
 
-// Each feature loses the one that is gone; `names` has the name of each, once.
+// Each feature of these names loses the one that is gone.
 fn lose_all<'a, S: BuildHasher>(
     alloc: Global,
     features: &mut HashMap<&'a str, Feature<'a>, S>,
@@ -124,14 +124,15 @@ fn lose_all<'a, S: BuildHasher>(
     gone: &Feature<'a>,
     key: &'a str,
 ) -> Result<(), AllocError>
-    requires all { (f : Text) → IsSome (value_at features.old f) → Among (texts_now names.now) f }
-    requires once { IsOnce (texts_now names.now) }
-    ensures { OnOk result (LosesAll gone.now key.now features.old features.new) }
+    requires { IsOnce (texts_now names.now) }
+    ensures { OnOk result (ChangesAll (Loses gone.now key.now) (texts_now names.now)
+        features.old features.new) }
 {
-    for name in names {
-        lose_at(alloc, features, *name, gone, key)?;
-    }
-    Ok(())
+    let Some((name, others)) = names.split_first() else {
+        return Ok(());
+    };
+    lose_at(alloc, features, *name, gone, key)?;
+    lose_all(alloc, features, others, gone, key)
 }
 
 // What the feature that is gone names.
@@ -163,13 +164,13 @@ fn remove_one<'a, S: BuildHasher>(
     Ok(())
 }
 
-// The names of all features, in whatever order.
-fn names_of<'a, S: BuildHasher>(
+/// The names of all features, each once, in whatever order.
+pub fn names_of<'a, S: BuildHasher>(
     alloc: Global,
     features: &HashMap<&'a str, Feature<'a>, S>,
 ) -> Result<Vec<&'a str>, AllocError>
-    ensures all { IfOk result (λ v. (f : Text) → IsSome (value_at features.now f)
-        → Among (texts_now v.items) f) }
+    ensures all { IfOk result (λ v. (f : Text)
+        → lists_text (texts_now v.items) f ≡ is_some (value_at features.now f)) }
     ensures once { IfOk result (λ v. IsOnce (texts_now v.items)) }
 {
     let mut names = Vec::with_capacity(alloc, features.len())?;
@@ -179,7 +180,8 @@ fn names_of<'a, S: BuildHasher>(
     Ok(names)
 }
 
-/// Takes features out one after another, in the order of `removed`.
+/// Takes features out one after another, in the order of `removed`; `names` has the name of each
+/// feature, once.
 ///
 /// At its turn each leaves to others what it says by then. Those that enable it name what it names
 /// and act as it acts. Those that it enables are enabled by what enables it. Those that it names
@@ -189,18 +191,23 @@ pub fn remove_all<'m, S: BuildHasher>(
     alloc: Global,
     features: &mut HashMap<&'m str, Feature<'m>, S>,
     hidden: &mut HashMap<&'m str, BTreeSet<&'m str>, S>,
+    names: &[&'m str],
     removed: &[&'m str],
 ) -> Result<(), AllocError>
     requires there { (v : Text) → Among (texts_now removed.now) v
         → IsSome (value_at features.old v) }
-    requires once { IsOnce (texts_now removed.now) }
-    requires none { hidden.old.entries ≡ [] }
-    ensures { OnOk result
-        (AreTakenOut (texts_now removed.now) features.old features.new hidden.new) }
+    requires removed_once { IsOnce (texts_now removed.now) }
+    requires all { (f : Text) → IsSome (value_at features.old f) → Among (texts_now names.now) f }
+    requires once { IsOnce (texts_now names.now) }
+    ensures { OnOk result ((m : Resolution) (own : Text → List Text)
+        → SameKept m (resolution_of features.old)
+        → ((f : Text) → IsSome (value_at features.old f) → bins_at features.old f ≡ own f)
+        → AreTakenOut m own (texts_now removed.now) features.old features.new
+        hidden.old hidden.new) }
 {
-    let names = names_of(alloc, features)?;
-    for key in removed {
-        remove_one(alloc, features, hidden, names.as_slice(), *key)?;
-    }
-    Ok(())
+    let Some((key, others)) = removed.split_first() else {
+        return Ok(());
+    };
+    remove_one(alloc, features, hidden, names, *key)?;
+    remove_all(alloc, features, hidden, names, others)
 }

@@ -1,0 +1,34 @@
+use Rattle.std.proofs.Common.{inl, inr}
+use Rattle.std.proofs.lemmas.Result.{IfErr-weaker, IfOk-weaker, err_from_is_err_and}
+use Rattle.toml.specs.View.{view}
+use Rattle.cargo_toml.specs.Manifests.{ManifestMeaning, manifest_meaning}
+use Rattle.cargo_toml.specs.WrittenManifests.{manifest_way}
+use Rattle.cargo_toml_bench.specs.Audiences.{IsRewrittenOwn, RefusesRewriting, audience_way}
+use Rattle.cargo_toml_bench.specs.declared.audience.Audience.{Audience}
+use Rattle.cargo_toml_bench.proofs.Written.{fault_of_tree, refuses_bytes, tree_of}
+use Rattle.cargo_toml_bench.proofs.audience.rewrite.Goals as goal
+
+pub returns-clause-answer : goal.returns-clause-answer
+returns-clause-answer c =
+    let m : ManifestMeaning Audience = manifest_meaning (λ x. x) c.in_ok-manifest.manifest in
+    elim (c.in_ok-manifest.ensures) [
+      | inl b ↦ absurd b.1
+      | inr b ↦ IfOk-weaker c.to_value.result (λ v. (manifest_way audience_way).trees m (view v)) (λ v. IsRewrittenOwn c.args.bytes.now (view v))
+          (λ v tree. (m, record { text = b.0; reads = b.1 }, tree))
+          (tree_of (manifest_way audience_way) m c.to_value.result c.to_value.ensures.written)
+    ]
+
+pub returns-in_err-manifest-clause-refused : goal.returns-in_err-manifest-clause-refused
+returns-in_err-manifest-clause-refused c =
+    let p = err_from_is_err_and c.from_residual.result c.from_residual.ensures.1 in
+    rw (p.1, p.2) (inl (refuses_bytes (manifest_meaning (λ x. x)) c.args.bytes.now _ c.in_err-manifest.ensures))
+
+pub returns-clause-refused : goal.returns-clause-refused
+returns-clause-refused c =
+    let m : ManifestMeaning Audience = manifest_meaning (λ x. x) c.in_ok-manifest.manifest in
+    elim (c.in_ok-manifest.ensures) [
+      | inl b ↦ absurd b.1
+      | inr b ↦ IfErr-weaker c.to_value.result _ (RefusesRewriting c.args.bytes.now)
+          (λ e refused. inr (m, record { text = b.0; reads = b.1 }, refused))
+          (fault_of_tree (manifest_way audience_way) m c.to_value.result c.to_value.ensures.written)
+    ]

@@ -1,0 +1,49 @@
+use Rattle.std.proofs.Common.{◌≡◌, ◌==◌, ◌&&◌, None, is_some, not, nat_eq, codes, sym, ap, subst, ◌∙◌}
+use Rattle.std.proofs.Math.Bool.{and_assoc}
+use Rattle.std.specs.List.{starts_with}
+use Rattle.cargo_toml_graph.specs.Action.{Text}
+use Rattle.cargo_toml_graph.specs.Ascending.{Ascend}
+use Rattle.cargo_toml_graph.specs.Removal.{is_removed, lists_text, unremoved}
+use Rattle.cargo_toml_graph.specs.Reach.{Among, IsOnce}
+use Rattle.cargo_toml_graph.proofs.BinLists.{is_among-true}
+use Rattle.cargo_toml_graph.proofs.InByteOrder.{ascending_once}
+use Rattle.cargo_toml_features.specs.Resolved.{table_of}
+use Rattle.cargo_toml_features.specs.Views.{table_in, value_at}
+use Rattle.cargo_toml_resolve.specs.Texts.{texts_now}
+use Rattle.cargo_toml_bench.specs.Removing.{is_hidden}
+use Rattle.cargo_toml_bench.proofs.Resolving.{answers, own_bins, some_is, start}
+use Rattle.cargo_toml_bench.proofs.plain.without_hidden.Goals as goal
+
+pub remove_all-requires-clause-there : goal.remove_all-requires-clause-there
+remove_all-requires-clause-there g c = λ v i.
+    sym (c.in_ok-names.ensures.all v) ∙ ap (λ ks. lists_text (texts_now ks) v) (sym c.as_slice-all.ensures.value)
+    ∙ c.in_ok-removed.ensures.known v (subst (λ ks. Among (texts_now ks) v) c.as_slice-gone.ensures.value i)
+
+pub remove_all-requires-clause-removed_once : goal.remove_all-requires-clause-removed_once
+remove_all-requires-clause-removed_once g c =
+    subst (λ ks. IsOnce (texts_now ks)) (sym c.as_slice-gone.ensures.value) (ascending_once (texts_now c.in_ok-removed.removed.items) c.in_ok-removed.ensures.ascending)
+
+pub remove_all-requires-clause-all : goal.remove_all-requires-clause-all
+remove_all-requires-clause-all g c = λ f there.
+    subst (λ ks. Among (texts_now ks) f) (sym c.as_slice-all.ensures.value) (is_among-true _ f (c.in_ok-names.ensures.all f ∙ there))
+
+pub remove_all-requires-clause-once : goal.remove_all-requires-clause-once
+remove_all-requires-clause-once g c = subst (λ ks. IsOnce (texts_now ks)) (sym c.as_slice-all.ensures.value) c.in_ok-names.ensures.once
+
+pub returns : goal.returns
+returns g c = λ listed entries details own keep tells whole.
+    let old = c.args.whole in
+    let names = c.in_ok-removed.ensures in
+    let empty : (r : Text) → value_at c.with_hasher-hidden.result r ≡ None = λ r. rw c.with_hasher-hidden.ensures.empty in
+    let same : (f : Text) → (lists_text (texts_now c.as_slice-all.result.now) f && is_hidden keep f) ≡ is_removed (table_in old.features) keep f = λ f.
+    ap (λ ks. lists_text (texts_now ks) f && is_hidden keep f) c.as_slice-all.ensures.value ∙ ap (λ b. b && is_hidden keep f) (c.in_ok-names.ensures.all f)
+    ∙ sym (and_assoc (is_some (value_at old.features f)) (starts_with nat_eq f (codes "_")) (not (keep f))) in
+    answers listed entries details own old whole keep (texts_now c.as_slice-gone.result.now)
+    (subst (λ ks. Ascend (texts_now ks)) (sym c.as_slice-gone.ensures.value) names.ascending)
+    c.remove_all.new.features c.with_hasher-hidden.result c.remove_all.new.hidden empty (not c.is_empty.result)
+    (λ f. (
+      λ i. sym (same f) ∙ (names.removed keep tells f).0 (subst (λ ks. Among (texts_now ks) f) c.as_slice-gone.ensures.value i),
+      λ y. subst (λ ks. Among (texts_now ks) f) (sym c.as_slice-gone.ensures.value) ((names.removed keep tells f).1 (same f ∙ y)),
+    ))
+    (c.in_ok-remove_all.ensures (unremoved (table_of listed entries)) own (start listed entries details own old whole) (own_bins listed entries details own old whole))
+    (some_is c.is_empty.result c.as_slice-gone.result.now c.is_empty.ensures)

@@ -1,6 +1,6 @@
 -- Features are taken out one after another.
 use Rattle.std.proofs.Common.{◌≡◌, cond, not, ◌&&◌, ◌||◌, IsTrue, List, [], ◌∷◌, ◌++◌, take, Option, Some, None, IsSome, is_some, Bor, bytes_eq, refl, sym, ap, subst, inl, inr, ◌∙◌}
-use Rattle.std.proofs.lemmas.Bool.{and_parts, and_from, false_from_ne_true}
+use Rattle.std.proofs.lemmas.Bool.{and_parts, false_from_ne_true}
 use Rattle.std.proofs.lemmas.Slice.Eq.{bytes_eq-Decides}
 use Rattle.std.specs.BTreeSet.{BTreeSet}
 use Rattle.std.specs.HashMap.{HashMap}
@@ -9,7 +9,6 @@ use Rattle.cargo_toml_graph.specs.Action.{Text, join_option}
 use Rattle.cargo_toml_graph.specs.Graph.{Resolution}
 use Rattle.cargo_toml_graph.specs.Reach.{Among}
 use Rattle.cargo_toml_graph.specs.Removal.{SameKept, pass_bins, put_each, without_one, without_all}
-use Rattle.cargo_toml_graph.proofs.Texts.{apart_false}
 use Rattle.cargo_toml_features.specs.declared.features.Feature.{Feature}
 use Rattle.cargo_toml_features.specs.Views.{set_has, resolution_of, value_at}
 use Rattle.cargo_toml_bench.specs.Removing.{AreTakenOut, Redirected, Redirects, TakesOut, bins_at}

@@ -1,5 +1,5 @@
 -- From an answer with nothing removed, and what taking hidden features out leaves of it, to the answer without them.
-use Rattle.std.proofs.Common.{arith, ◌≡◌, ◌⊎◌, ◌↔◌, ◌&&◌, ◌++◌, ◌==◌, length, not, Bool, true, false, List, [], ◌∷◌, append-nil, Bor, map, codes, nat_eq, Option, Some, None, IsTrue, IsSome, IfSome, is_some, option_map, refl, sym, ap, subst, inl, inr, ◌∙◌}
+use Rattle.std.proofs.Common.{arith, ◌≡◌, ◌⊎◌, ◌↔◌, ◌&&◌, ◌++◌, ◌==◌, length, not, Bool, true, false, List, [], ◌∷◌, append-nil, Bor, codes, nat_eq, Option, Some, None, IsTrue, IsSome, IfSome, is_some, option_map, refl, sym, ap, subst, inl, inr, ◌∙◌}
 use Rattle.std.proofs.lemmas.Bool.{cases_Bool, eqb-true, false≢true, false_from_ne_true, not_from_false}
 use Rattle.std.specs.HashMap.{HashMap}
 use Rattle.std.specs.BTreeSet.{BTreeSet}
@@ -10,7 +10,7 @@ use Rattle.cargo_toml_features.specs.declared.features.Features.{Features}
 use Rattle.cargo_toml_graph.specs.Ascending.{Ascend}
 use Rattle.cargo_toml_graph.specs.Action.{Text}
 use Rattle.cargo_toml_graph.specs.Admitted.{Listed, is_below}
-use Rattle.cargo_toml_graph.specs.Bins.{ArePassedOn, Grown, IsPassed}
+use Rattle.cargo_toml_graph.specs.Bins.{ArePassedOn, IsPassed}
 use Rattle.cargo_toml_graph.specs.Graph.{IsResolved, Table}
 use Rattle.cargo_toml_graph.specs.Reach.{Among}
 use Rattle.cargo_toml_graph.specs.Redirects.{RedirectsTo}

@@ -13,9 +13,11 @@ ghost use Rattle.cargo_toml_features.specs.Resolved.{IsAnswer};
 ghost use Rattle.cargo_toml_features.specs.Views.{answer_of};
 ghost use Rattle.cargo_toml_resolve.specs.Filter.{HasNameFilter, FilterTells};
 
-use crate::plain::removal::{names_of, remove_all};
+use crate::plain::removal::remove_all;
 use crate::plain::removed_names::hidden_names;
+use crate::sets::in_order;
 use cargo_toml::features::Features;
+use cargo_toml_features::texts::keys_in_order;
 use std::alloc::{AllocError, Global};
 use std::collections::HashMap;
 use std::hash::{BuildHasherDefault, FoldHasher};
@@ -41,7 +43,8 @@ pub fn without_hidden<'m, 'd, F: Fn(&str) -> bool>(
         ..
     } = whole;
     let mut hidden = HashMap::with_hasher(alloc, BuildHasherDefault::new());
-    let names = names_of(alloc, &features)?;
+    let keys = keys_in_order(alloc, &features)?;
+    let names = in_order(alloc, &keys)?;
     let all = names.as_slice();
     let removed = hidden_names(alloc, all, filter)?;
     let gone = removed.as_slice();

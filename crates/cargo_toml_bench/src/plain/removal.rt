@@ -1,10 +1,9 @@
 //! Features are taken out one after another, and leave to others what they said.
-ghost use Rattle.std.specs.Prelude.{◌≡◌, if◌then◌else◌, List};
-ghost use Rattle.std.specs.Prelude.{is_some, take, IfOk, IsSome, OnOk};
+ghost use Rattle.std.specs.Prelude.{◌≡◌, if◌then◌else◌, take, IsSome, List, OnOk};
 ghost use Rattle.cargo_toml_graph.specs.Action.{Text};
 ghost use Rattle.cargo_toml_graph.specs.Graph.{Resolution};
 ghost use Rattle.cargo_toml_graph.specs.Reach.{Among, IsOnce};
-ghost use Rattle.cargo_toml_graph.specs.Removal.{SameKept, lists_text, put_each};
+ghost use Rattle.cargo_toml_graph.specs.Removal.{SameKept, put_each};
 ghost use Rattle.cargo_toml_features.specs.Views.{resolution_of, set_has, value_at};
 ghost use Rattle.cargo_toml_resolve.specs.Texts.{texts_now};
 ghost use Rattle.cargo_toml_bench.specs.Removing.{AreTakenOut, ChangesAll, ChangesAt, Loses};
@@ -162,22 +161,6 @@ fn remove_one<'a, S: BuildHasher>(
         hidden.insert(key, into_names(gone))?;
     }
     Ok(())
-}
-
-/// The names of all features, each once, in whatever order.
-pub fn names_of<'a, S: BuildHasher>(
-    alloc: Global,
-    features: &HashMap<&'a str, Feature<'a>, S>,
-) -> Result<Vec<&'a str>, AllocError>
-    ensures all { IfOk result (λ v. (f : Text)
-        → lists_text (texts_now v.items) f ≡ is_some (value_at features.now f)) }
-    ensures once { IfOk result (λ v. IsOnce (texts_now v.items)) }
-{
-    let mut names = Vec::with_capacity(alloc, features.len())?;
-    for (name, _) in features {
-        names.push(*name)?;
-    }
-    Ok(names)
 }
 
 /// Takes features out one after another, in the order of `removed`; `names` has the name of each

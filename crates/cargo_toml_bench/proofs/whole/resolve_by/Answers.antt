@@ -1,4 +1,4 @@
-use Rattle.std.proofs.Common.{◌≡◌, Bool, Option, Bor, ℕ, Result, Ok, Err, IfOk, sym, subst, ◌∙◌}
+use Rattle.std.proofs.Common.{◌≡◌, Bool, Result, Ok, Err, IfOk, sym, subst, ◌∙◌}
 use Rattle.std.proofs.lemmas.Result.{IfOk-weaker}
 use Rattle.cargo_toml.specs.Action.{Text}
 use Rattle.cargo_toml.specs.Filter.{FilterTells}
@@ -14,8 +14,42 @@ both : {T E : Type 0} (r : Result T E) (P Q R : T → Type 0) → ((a : T) → P
 both (Ok a) P Q R from p q = from a p q
 both (Err e) P Q R from p q = tt
 
+pub returns-in_default-clause-resolved : goal.returns-in_default-clause-resolved
+returns-in_default-clause-resolved g c =
+    let m = manifest_meaning (λ m. m) c.args.manifest.now in
+    let limited = c.with_max_items.ensures in
+    IfOk-weaker c.parse.result _ (λ a. (keep : Text → Bool) → FilterTells g.F.Fn c.args.filter keep → IsParsed c.args.max_items m keep (answer_of a))
+    (λ a by keep tells. parsed_by _ c.with_max_items.result.should_keep_hidden_feature keep
+    (subst (λ f. FilterTells _ f keep) (sym (limited.filter ∙ c.new.ensures.unfiltered)) (subst (λ f. FilterTells g.F.Fn f keep) c.in_default.is tells))
+    limited.limit (answer_of a) m by)
+    c.parse.ensures.resolved
+
+pub returns-in_default-clause-complete_bins : goal.returns-in_default-clause-complete_bins
+returns-in_default-clause-complete_bins g c =
+    let m = manifest_meaning (λ m. m) c.args.manifest.now in
+    let limited = c.with_max_items.ensures in
+    both c.parse.result _ _ (λ a. (keep : Text → Bool) → FilterTells g.F.Fn c.args.filter keep → AreBinsComplete c.args.max_items m (is_removed (parsed_table c.args.max_items m) keep) (answer_of a))
+    (λ a by are keep tells. complete_by _ c.with_max_items.result.should_keep_hidden_feature keep
+    (subst (λ f. FilterTells _ f keep) (sym (limited.filter ∙ c.new.ensures.unfiltered)) (subst (λ f. FilterTells g.F.Fn f keep) c.in_default.is tells))
+    limited.limit (answer_of a) m by are)
+    c.parse.ensures.resolved c.parse.ensures.complete_bins
+
 pub returns-clause-resolved : goal.returns-clause-resolved
-returns-clause-resolved g c = ?
+returns-clause-resolved g c =
+    let m = manifest_meaning (λ m. m) c.args.manifest.now in
+    let limited = c.with_max_items.ensures in
+    IfOk-weaker c.parse.result _ (λ a. (keep : Text → Bool) → FilterTells g.F.Fn c.args.filter keep → IsParsed c.args.max_items m keep (answer_of a))
+    (λ a by keep tells. parsed_by g.F.Fn c.with_max_items.result.should_keep_hidden_feature keep
+    (subst (λ f. FilterTells g.F.Fn f keep) (c.in-Some.is ∙ sym (limited.filter ∙ c.new_with_hasher_and_filter-resolver.ensures.kept)) tells)
+    limited.limit (answer_of a) m by)
+    c.parse.ensures.resolved
 
 pub returns-clause-complete_bins : goal.returns-clause-complete_bins
-returns-clause-complete_bins g c = ?
+returns-clause-complete_bins g c =
+    let m = manifest_meaning (λ m. m) c.args.manifest.now in
+    let limited = c.with_max_items.ensures in
+    both c.parse.result _ _ (λ a. (keep : Text → Bool) → FilterTells g.F.Fn c.args.filter keep → AreBinsComplete c.args.max_items m (is_removed (parsed_table c.args.max_items m) keep) (answer_of a))
+    (λ a by are keep tells. complete_by g.F.Fn c.with_max_items.result.should_keep_hidden_feature keep
+    (subst (λ f. FilterTells g.F.Fn f keep) (c.in-Some.is ∙ sym (limited.filter ∙ c.new_with_hasher_and_filter-resolver.ensures.kept)) tells)
+    limited.limit (answer_of a) m by are)
+    c.parse.ensures.resolved c.parse.ensures.complete_bins

@@ -119,13 +119,13 @@ module _ {S H : Type 0} (listed : Listed) (entries : List Entry) (details : Name
 
     redirected : (r : Text) → is_some (option_map set_has (value_at hidden r)) ≡ is_removed t keep r
     redirected r = elim (put_aside r) [
-      | inl p ↦ some_there (value_at hidden r) (taken.redirects p.1.before p.1.after r p.1.whole) ∙ sym (into r p.0)
+      | inl p ↦ some_there _ (value_at hidden r) (taken.redirects p.1.before p.1.after r p.1.whole) ∙ sym (into r p.0)
       | inr p ↦ ap (λ o. is_some (option_map set_has o)) p.1 ∙ sym (false_from_ne_true _ (λ y. p.0 (back r y)))
     ]
       where
-        some_there : {P : BTreeSet (Bor Text) → Type 0} (o : Option (BTreeSet (Bor Text))) → IsSomeAnd o P → is_some (option_map set_has o) ≡ true
-        some_there None h = absurd h
-        some_there (Some names) h = refl
+        some_there : (P : BTreeSet (Bor Text) → Type 0) (o : Option (BTreeSet (Bor Text))) → IsSomeAnd o P → is_some (option_map set_has o) ≡ true
+        some_there P None h = absurd h
+        some_there P (Some names) h = refl
 
     abbrev Earlier : Text → List Text → Text → Type 0
     Earlier r xs v = Among xs v × Below v r

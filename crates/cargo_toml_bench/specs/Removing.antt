@@ -10,7 +10,7 @@ use Rattle.cargo_toml_dependencies.specs.Details.{plain_detail}
 use Rattle.cargo_toml_features.specs.declared.features.Feature.{Feature}
 use Rattle.cargo_toml_graph.specs.Action.{Text, join_option}
 use Rattle.cargo_toml_graph.specs.Graph.{Resolution}
-use Rattle.cargo_toml_graph.specs.Reach.{Among}
+use Rattle.cargo_toml_graph.specs.Reach.{Among, IsOnce}
 use Rattle.cargo_toml_graph.specs.Removal.{SameKept, pass_all, pass_bins, put_each}
 use Rattle.cargo_toml_graph.specs.Removal.{without_all, without_one}
 use Rattle.cargo_toml_full.specs.Slots.{Relates}
@@ -74,6 +74,12 @@ pub record Loses (gone : Feature) (key name : Text) (old new : Feature) : Type 0
       then put_each (texts_now old.required_by_bins.items)
       (take 10 (texts_now gone.required_by_bins.items))
       else texts_now old.required_by_bins.items)
+
+-- the names are those of all features, each once
+pub record AreNames {S : Type 0} (m : HashMap (Bor Text) Feature S) (names : List Text)
+    : Type 0 where
+  pub all : (f : Text) → IsSome (value_at m f) → Among names f
+  pub once : IsOnce names
 
 -- at k the feature, where there is one, changes so, and no other does
 pub record ChangesAt {S : Type 0} (Changes : Feature → Feature → Type 0) (k : Text)

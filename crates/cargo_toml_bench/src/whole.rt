@@ -3,6 +3,7 @@ ghost use Rattle.std.specs.Prelude.{◌≡◌, ◌≤◌, Bool, true, bytes_eq, 
 ghost use Rattle.cargo_toml.specs.Action.{Text};
 ghost use Rattle.cargo_toml.specs.Error.{Memory};
 ghost use Rattle.cargo_toml.specs.Filter.{FilterTells, HasNameFilter};
+ghost use Rattle.cargo_toml.specs.FirstTarget.{HaveTargets};
 ghost use Rattle.cargo_toml.specs.Limits.{MAX_ITEMS};
 ghost use Rattle.cargo_toml.specs.Manifests.{held};
 ghost use Rattle.cargo_toml.specs.Parsed.{AreBinsComplete, IsParsed, parsed_table};
@@ -50,6 +51,7 @@ pub fn resolve_by<'m, M, F: Fn(&str) -> bool>(
         → FilterTells F.Fn filter.entry keep → AreBinsComplete max_items (held manifest.now)
         (is_removed (parsed_table max_items (held manifest.now)) keep) (answer_of a)) }
     ensures keyed { IfOk result (λ a. IsKeyed a.features) }
+    ensures targets { IfOk result (λ a. HaveTargets a.dependencies) }
     ensures refused { IfErr result (λ e. e ≡ Memory) }
 {
     let Some(filter) = filter else {
@@ -65,6 +67,7 @@ pub fn resolve_whole<'m, M>(alloc: Global, manifest: &'m Manifest<M>) -> Result<
     ensures resolved { IfOk result (λ a.
         IsParsed MAX_ITEMS (held manifest.now) (λ _. true) (answer_of a)) }
     ensures keyed { IfOk result (λ a. IsKeyed a.features) }
+    ensures targets { IfOk result (λ a. HaveTargets a.dependencies) }
     ensures refused { IfErr result (λ e. e ≡ Memory) }
 {
     let keep = keep_every;

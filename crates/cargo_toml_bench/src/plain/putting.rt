@@ -25,5 +25,6 @@ pub fn put_bins<'m>(own: &mut Vec<&'m str>, bins: &[&'m str]) -> Result<(), Allo
         return Ok(());
     };
     put_bin(own, *bin)?;
-    put_bins(own, others)
+    put_bins(own, others)?;
+    Ok(())
 }

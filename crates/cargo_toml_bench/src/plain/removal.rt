@@ -6,8 +6,8 @@ ghost use Rattle.cargo_toml_graph.specs.Reach.{Among, IsOnce};
 ghost use Rattle.cargo_toml_graph.specs.Removal.{SameKept, put_each};
 ghost use Rattle.cargo_toml_features.specs.Views.{resolution_of, set_has, value_at};
 ghost use Rattle.cargo_toml_resolve.specs.Texts.{texts_now};
-ghost use Rattle.cargo_toml_bench.specs.Removing.{AreTakenOut, ChangesAll, ChangesAt, Loses};
-ghost use Rattle.cargo_toml_bench.specs.Removing.{Redirects, TakesNames, TakesOut, bins_at};
+ghost use Rattle.cargo_toml_bench.specs.Removing.{AreNames, AreTakenOut, ChangesAll, ChangesAt};
+ghost use Rattle.cargo_toml_bench.specs.Removing.{Loses, Redirects, TakesNames, TakesOut, bins_at};
 ghost use Rattle.cargo_toml_bench.specs.Removing.{passed_on};
 
 use crate::plain::putting::put_bins;
@@ -123,15 +123,15 @@ fn lose_all<'a, S: BuildHasher>(
     gone: &Feature<'a>,
     key: &'a str,
 ) -> Result<(), AllocError>
-    requires { IsOnce (texts_now names.now) }
-    ensures { OnOk result (ChangesAll (Loses gone.now key.now) (texts_now names.now)
-        features.old features.new) }
+    ensures { OnOk result (IsOnce (texts_now names.now)
+        → ChangesAll (Loses gone.now key.now) (texts_now names.now) features.old features.new) }
 {
     let Some((name, others)) = names.split_first() else {
         return Ok(());
     };
     lose_at(alloc, features, *name, gone, key)?;
-    lose_all(alloc, features, others, gone, key)
+    lose_all(alloc, features, others, gone, key)?;
+    Ok(())
 }
 
 // What the feature that is gone names.
@@ -141,7 +141,7 @@ fn into_names<'a>(gone: Feature<'a>) -> BTreeSet<&'a str>
     gone.enables_features
 }
 
-// Takes the feature `key` out; `names` has the name of each, once.
+// Takes the feature `key` out; `names` has the name of each feature, once.
 fn remove_one<'a, S: BuildHasher>(
     alloc: Global,
     features: &mut HashMap<&'a str, Feature<'a>, S>,
@@ -149,12 +149,12 @@ fn remove_one<'a, S: BuildHasher>(
     names: &[&'a str],
     key: &'a str,
 ) -> Result<(), AllocError>
-    requires there { IsSome (value_at features.old key.now) }
-    requires all { (f : Text) → IsSome (value_at features.old f) → Among (texts_now names.now) f }
-    requires once { IsOnce (texts_now names.now) }
-    ensures left { OnOk result (TakesOut key.now features.old features.new) }
-    ensures redirect { OnOk result
-        (Redirects key.now (resolution_of features.old) hidden.old hidden.new) }
+    ensures left { OnOk result (IsSome (value_at features.old key.now)
+        → AreNames features.old (texts_now names.now)
+        → TakesOut key.now features.old features.new) }
+    ensures redirect { OnOk result (IsSome (value_at features.old key.now)
+        → AreNames features.old (texts_now names.now)
+        → Redirects key.now (resolution_of features.old) hidden.old hidden.new) }
 {
     if let Some(gone) = features.remove(key) {
         lose_all(alloc, features, names, &gone, key)?;
@@ -177,14 +177,11 @@ pub fn remove_all<'m, S: BuildHasher>(
     names: &[&'m str],
     removed: &[&'m str],
 ) -> Result<(), AllocError>
-    requires there { (v : Text) → Among (texts_now removed.now) v
-        → IsSome (value_at features.old v) }
-    requires removed_once { IsOnce (texts_now removed.now) }
-    requires all { (f : Text) → IsSome (value_at features.old f) → Among (texts_now names.now) f }
-    requires once { IsOnce (texts_now names.now) }
     ensures { OnOk result ((m : Resolution) (own : Text → List Text)
         → SameKept m (resolution_of features.old)
         → ((f : Text) → IsSome (value_at features.old f) → bins_at features.old f ≡ own f)
+        → ((v : Text) → Among (texts_now removed.now) v → IsSome (value_at features.old v))
+        → IsOnce (texts_now removed.now) → AreNames features.old (texts_now names.now)
         → AreTakenOut m own (texts_now removed.now) features.old features.new
         hidden.old hidden.new) }
 {
@@ -192,5 +189,6 @@ pub fn remove_all<'m, S: BuildHasher>(
         return Ok(());
     };
     remove_one(alloc, features, hidden, names, *key)?;
-    remove_all(alloc, features, hidden, names, others)
+    remove_all(alloc, features, hidden, names, others)?;
+    Ok(())
 }

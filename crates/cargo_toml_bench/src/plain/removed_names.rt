@@ -33,7 +33,8 @@ fn add_hidden<'m, F: Fn(&str) -> bool>(
     if is_hidden(filter, *name) {
         hidden.insert(*name)?;
     }
-    add_hidden(hidden, others, filter)
+    add_hidden(hidden, others, filter)?;
+    Ok(())
 }
 
 /// The names of the features that are removed, in byte order: of those that begin with `_` the ones
@@ -54,5 +55,5 @@ pub fn hidden_names<'m, F: Fn(&str) -> bool>(
 {
     let mut hidden = BTreeSet::new(alloc);
     add_hidden(&mut hidden, names, filter)?;
-    in_order(alloc, &hidden)
+    Ok(in_order(alloc, &hidden)?)
 }

@@ -19,7 +19,7 @@ use Rattle.cargo_toml.specs.Feature.{Feature}
 use Rattle.cargo_toml.specs.Graph.{IsResolved}
 use Rattle.cargo_toml.specs.Reach.{Among, IsOnce}
 use Rattle.cargo_toml_features.specs.declared.features.Features.{Features}
-use Rattle.cargo_toml_bench.proofs.Asked.{keeps_none, parsed_by}
+use Rattle.cargo_toml_bench.proofs.Asked.{keeps_none, parsed_at}
 use Rattle.cargo_toml_graph.specs.Removal.{lists_text}
 use Rattle.cargo_toml_graph.proofs.BinLists.{among-true, is_among-true}
 use Rattle.cargo_toml_resolve.specs.Texts.{texts_now}
@@ -43,7 +43,7 @@ module _ {M F S H : Type 0} (old new : Manifest M) (outcome : Outcome (ManifestM
   parsed_of_left unfiltered same lent slot a left is there told =
       let by : IsParsedBy limit (held new) g filter (answer_of a) =
       told_of lent a left (subst (λ s. IsSome (with_lent lent s)) is there) (subst (λ s. Told (with_lent lent s)) is told) in
-      parsed_by g filter (λ _. false) (keeps_none g filter unfiltered) same (answer_of a) (held new) by
+      parsed_at (λ _. false) (answer_of a) same (held new) (by.told (λ _. false) (keeps_none g filter unfiltered))
 
 -- How many features a map has: their names, each once.
 listed_keys : (ks : List (Bor Text)) (f : Text) → lists_text (texts_now ks) f ≡ list_any (λ (k : Bor Text). bytes_eq f k.now) ks

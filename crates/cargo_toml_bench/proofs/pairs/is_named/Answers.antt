@@ -12,7 +12,7 @@ use Rattle.cargo_toml.specs.Limits.{MAX_ITEMS}
 use Rattle.cargo_toml.specs.Resolved.{table_of}
 use Rattle.cargo_toml.specs.Views.{answer_of, entry_of, set_has, resolution_of, value_at}
 use Rattle.cargo_toml_bench.specs.Pairs.{IsHidden, LeavesName}
-use Rattle.cargo_toml_bench.proofs.Asked.{answered_by, keeps_none}
+use Rattle.cargo_toml_bench.proofs.Asked.{answered_at, keeps_none}
 use Rattle.cargo_toml_bench.proofs.pairs.is_named.Goals as goal
 
 module _ {S : Type 0} (t : Table) (m : HashMap (Bor Text) Feature S) (h : IsResolved t (IsHidden t) (resolution_of m)) (f x : Text) where
@@ -29,10 +29,8 @@ pub returns-in_default-clause-answer : goal.returns-in_default-clause-answer
 returns-in_default-clause-answer g c = λ listed is.
     let entries = map entry_of c.args.dependencies.now in
     let t : Table = table_of (admitted MAX_ITEMS listed) entries in
-    let filter = c.new.result.should_keep_hidden_feature in
-    let answer = answered_by _ filter (λ _. false) (keeps_none _ filter c.new.ensures.unfiltered)
-    c.new.ensures.limit (answer_of c.in_ok-resolved.resolved) listed entries [] (λ _. [])
-    (c.in_ok-resolved.ensures.resolved listed is).answered in
+    let answer = answered_at (λ _. false) (answer_of c.in_ok-resolved.resolved) c.new.ensures.limit listed entries [] (λ _. [])
+    ((c.in_ok-resolved.ensures.resolved listed is).answered.told (λ _. false) (keeps_none _ c.new.result.should_keep_hidden_feature c.new.ensures.unfiltered)) in
     no_feature t c.in_ok-resolved.resolved.features
     answer.kept.resolved c.args.name.now c.args.other.now
     (sym c.get.ensures.value ∙ ap option_copied c.in_default.is)
@@ -41,10 +39,8 @@ pub returns-clause-answer : goal.returns-clause-answer
 returns-clause-answer g c = λ listed is.
     let entries = map entry_of c.args.dependencies.now in
     let t : Table = table_of (admitted MAX_ITEMS listed) entries in
-    let filter = c.new.result.should_keep_hidden_feature in
-    let answer = answered_by _ filter (λ _. false) (keeps_none _ filter c.new.ensures.unfiltered)
-    c.new.ensures.limit (answer_of c.in_ok-resolved.resolved) listed entries [] (λ _. [])
-    (c.in_ok-resolved.ensures.resolved listed is).answered in
+    let answer = answered_at (λ _. false) (answer_of c.in_ok-resolved.resolved) c.new.ensures.limit listed entries [] (λ _. [])
+    ((c.in_ok-resolved.ensures.resolved listed is).answered.told (λ _. false) (keeps_none _ c.new.result.should_keep_hidden_feature c.new.ensures.unfiltered)) in
     let told = names_it t c.in_ok-resolved.resolved.features answer.kept.resolved c.args.name.now c.args.other.now
     c.in-Some.feature.now (sym c.get.ensures.value ∙ ap option_copied c.in-Some.is) in
     (λ e. told.0 (sym c.contains.ensures ∙ e), λ l. c.contains.ensures ∙ told.1 l)

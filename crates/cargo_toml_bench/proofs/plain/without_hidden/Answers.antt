@@ -24,33 +24,16 @@ listed_all : {S : Type 0} (m : HashMap (Bor Text) Feature S) (keys : BTreeSet (B
 listed_all m keys names all same f =
     same_from_decides _ _ (is_among-true _ f, among-true _ f) (λ y. (all f).1 (same f ∙ y), λ i. sym (same f) ∙ (all f).0 i)
 
-pub remove_all-requires-clause-there : goal.remove_all-requires-clause-there
-remove_all-requires-clause-there g c = λ v i.
-    sym (listed_all c.args.whole.features c.in_ok-keys.keys c.in_ok-names.names.items c.in_ok-names.ensures.all c.in_ok-keys.ensures v)
-    ∙ ap (λ ks. lists_text (texts_now ks) v) (sym c.as_slice-all.ensures.value)
-    ∙ c.in_ok-removed.ensures.known v (subst (λ ks. Among (texts_now ks) v) c.as_slice-gone.ensures.value i)
-
-pub remove_all-requires-clause-removed_once : goal.remove_all-requires-clause-removed_once
-remove_all-requires-clause-removed_once g c =
-    subst (λ ks. IsOnce (texts_now ks)) (sym c.as_slice-gone.ensures.value) (ascending_once (texts_now c.in_ok-removed.removed.items) c.in_ok-removed.ensures.ascending)
-
-pub remove_all-requires-clause-all : goal.remove_all-requires-clause-all
-remove_all-requires-clause-all g c = λ f there.
-    subst (λ ks. Among (texts_now ks) f) (sym c.as_slice-all.ensures.value) ((c.in_ok-names.ensures.all f).1 (c.in_ok-keys.ensures f ∙ there))
-
-pub remove_all-requires-clause-once : goal.remove_all-requires-clause-once
-remove_all-requires-clause-once g c =
-    subst (λ ks. IsOnce (texts_now ks)) (sym c.as_slice-all.ensures.value) (ascending_once (texts_now c.in_ok-names.names.items) c.in_ok-names.ensures.ascending)
-
 pub returns : goal.returns
 returns g c = λ listed entries details own keep tells whole.
     let old = c.args.whole in
     let names = c.in_ok-removed.ensures in
     let empty : (r : Text) → value_at c.with_hasher-hidden.result r ≡ None = λ r. rw c.with_hasher-hidden.ensures.empty in
+    let listed_now : (f : Text) → lists_text (texts_now c.as_slice-all.result.now) f ≡ is_some (value_at old.features f) = λ f.
+    ap (λ ks. lists_text (texts_now ks) f) c.as_slice-all.ensures.value
+    ∙ listed_all old.features c.in_ok-keys.keys c.in_ok-names.names.items c.in_ok-names.ensures.all c.in_ok-keys.ensures f in
     let same : (f : Text) → (lists_text (texts_now c.as_slice-all.result.now) f && is_hidden keep f) ≡ is_removed (table_in old.features) keep f = λ f.
-    ap (λ ks. lists_text (texts_now ks) f && is_hidden keep f) c.as_slice-all.ensures.value
-    ∙ ap (λ b. b && is_hidden keep f) (listed_all old.features c.in_ok-keys.keys c.in_ok-names.names.items c.in_ok-names.ensures.all c.in_ok-keys.ensures f)
-    ∙ sym (and_assoc (is_some (value_at old.features f)) (starts_with nat_eq f (codes "_")) (not (keep f))) in
+    ap (λ b. b && is_hidden keep f) (listed_now f) ∙ sym (and_assoc (is_some (value_at old.features f)) (starts_with nat_eq f (codes "_")) (not (keep f))) in
     answers listed entries details own old whole keep (texts_now c.as_slice-gone.result.now)
     (subst (λ ks. Ascend (texts_now ks)) (sym c.as_slice-gone.ensures.value) names.ascending)
     c.remove_all.new.features c.with_hasher-hidden.result c.remove_all.new.hidden empty (not c.is_empty.result)
@@ -58,5 +41,11 @@ returns g c = λ listed entries details own keep tells whole.
       λ i. sym (same f) ∙ (names.removed keep tells f).0 (subst (λ ks. Among (texts_now ks) f) c.as_slice-gone.ensures.value i),
       λ y. subst (λ ks. Among (texts_now ks) f) (sym c.as_slice-gone.ensures.value) ((names.removed keep tells f).1 (same f ∙ y)),
     ))
-    (c.in_ok-remove_all.ensures (unremoved (table_of listed entries)) own (start listed entries details own old whole) (own_bins listed entries details own old whole))
+    (c.in_ok-remove_all.ensures (unremoved (table_of listed entries)) own (start listed entries details own old whole) (own_bins listed entries details own old whole)
+    (λ v i. sym (listed_now v) ∙ names.known v (subst (λ ks. Among (texts_now ks) v) c.as_slice-gone.ensures.value i))
+    (subst (λ ks. IsOnce (texts_now ks)) (sym c.as_slice-gone.ensures.value) (ascending_once (texts_now c.in_ok-removed.removed.items) names.ascending))
+    (record {
+      all = λ f there. is_among-true _ f (listed_now f ∙ there);
+      once = subst (λ ks. IsOnce (texts_now ks)) (sym c.as_slice-all.ensures.value) (ascending_once (texts_now c.in_ok-names.names.items) c.in_ok-names.ensures.ascending);
+    }))
     (some_is c.is_empty.result c.as_slice-gone.result.now c.is_empty.ensures)

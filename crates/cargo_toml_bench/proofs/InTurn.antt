@@ -1,21 +1,17 @@
 -- Features are taken out one after another.
-use Rattle.std.proofs.Common.{◌≡◌, ◌⊎◌, Bool, true, false, cond, not, ◌&&◌, ◌||◌, IsTrue, List, [], ◌∷◌, ◌++◌, take, Option, Some, None, IsSome, IfSome, is_some, Bor, bytes_eq, refl, sym, ap, ap₂, subst, inl, inr, ◌∙◌}
-use Rattle.std.proofs.Math.Bool.{or-false}
-use Rattle.std.proofs.lemmas.Bool.{and_parts, and_from, false_from_ne_true, or_right}
-use Rattle.std.proofs.lemmas.List.Folds.{list_any-append}
+use Rattle.std.proofs.Common.{◌≡◌, cond, not, ◌&&◌, ◌||◌, IsTrue, List, [], ◌∷◌, ◌++◌, take, Option, Some, None, IsSome, is_some, Bor, bytes_eq, refl, sym, ap, subst, inl, inr, ◌∙◌}
+use Rattle.std.proofs.lemmas.Bool.{and_parts, false_from_ne_true}
 use Rattle.std.proofs.lemmas.Slice.Eq.{bytes_eq-Decides}
 use Rattle.std.specs.BTreeSet.{BTreeSet}
 use Rattle.std.specs.HashMap.{HashMap}
-use Rattle.std.specs.Map.{lookup}
+use Rattle.std.specs.Option.{IsSomeAnd}
 use Rattle.cargo_toml_graph.specs.Action.{Text, join_option}
 use Rattle.cargo_toml_graph.specs.Graph.{Resolution}
 use Rattle.cargo_toml_graph.specs.Reach.{Among}
-use Rattle.cargo_toml_graph.specs.Removal.{SameKept, lists_text, pass_all, pass_bins, put_each, without_one, without_all}
-use Rattle.cargo_toml_graph.proofs.BinLists.{among-second}
-use Rattle.cargo_toml_graph.proofs.Texts.{apart_false, bytes_eq_sym}
+use Rattle.cargo_toml_graph.specs.Removal.{SameKept, pass_bins, put_each, without_one, without_all}
 use Rattle.cargo_toml_features.specs.declared.features.Feature.{Feature}
 use Rattle.cargo_toml_features.specs.Views.{set_has, resolution_of, value_at}
-use Rattle.cargo_toml_bench.specs.Removing.{bins_at, AreTakenOut, TakesOut, Redirects}
+use Rattle.cargo_toml_bench.specs.Removing.{AreTakenOut, Redirected, Redirects, TakesOut, bins_at}
 
 same_then : (l m n : Resolution) → SameKept l m → SameKept m n → SameKept l n
 same_then l m n h k = record {
@@ -36,124 +32,64 @@ same_without r m n kr h = record {
       λ i. cond (h.enabled_by f r kf i) ((h.enabled_by f e kf i || h.enabled_by r e kr i) && not (bytes_eq e r)) (h.enabled_by f e kf i);
 }
 
-without_last : (rs : List Text) (r : Text) (m : Resolution) → without_all (rs ++ r ∷ []) m ≡ without_one r (without_all rs m)
-without_last [] r m = refl
-without_last (q ∷ rs) r m = without_last rs r (without_one q m)
-
-pass_last : (rs : List Text) (r : Text) (m : Resolution) (bins : Text → List Text) → pass_all (rs ++ r ∷ []) m bins ≡ pass_bins (without_all rs m) r (pass_all rs m bins)
-pass_last [] r m bins = refl
-pass_last (q ∷ rs) r m bins = pass_last rs r (without_one q m) (pass_bins m q bins)
-
--- a feature that is not taken out stays
-stays : (rs : List Text) (m : Resolution) (f : Text) → IsTrue (m.table.has f) → ¬ Among rs f → IsTrue ((without_all rs m).table.has f)
-stays [] m f t n = t
-stays (q ∷ rs) m f t n = stays rs (without_one q m) f (and_from _ _ t (apart_false f q (λ e. n (inl e)))) (λ i. n (inr i))
-
-was_there : (rs : List Text) (m : Resolution) (f : Text) → IsTrue ((without_all rs m).table.has f) → IsTrue (m.table.has f)
-was_there [] m f t = t
-was_there (q ∷ rs) m f t = (and_parts (m.table.has f) _ (was_there rs (without_one q m) f t)).0
-
--- a place in a list is its last, or one before
-place : (done before after : List Text) (r q : Text) → done ++ r ∷ [] ≡ before ++ q ∷ after → ((before ≡ done) × (q ≡ r)) ⊎ ((rest : List Text) × (done ≡ before ++ q ∷ rest))
-place [] [] after r q e = inl (refl, first e)
-  where
-    first : r ∷ [] ≡ q ∷ after → q ≡ r
-    first e = cc
-place [] (b ∷ bs) after r q e = absurd (go bs (rest e))
-  where
-    rest : r ∷ [] ≡ b ∷ (bs ++ q ∷ after) → [] ≡ bs ++ q ∷ after
-    rest e = cc
-
-    go : (bs : List Text) → [] ≡ bs ++ q ∷ after → ⊥
-    go [] e = cc
-    go (b ∷ bs) e = cc
-place (d ∷ ds) [] after r q e = inr (ds, ap (λ x. x ∷ ds) (first e))
-  where
-    first : d ∷ (ds ++ r ∷ []) ≡ q ∷ after → d ≡ q
-    first e = cc
-place (d ∷ ds) (b ∷ bs) after r q e = elim (place ds bs after r q (rest e)) [
-  | inl p ↦ inl (ap₂ (λ x xs. x ∷ xs) (sym (first e)) p.0, p.1)
-  | inr p ↦ inr (p.0, ap₂ (λ x xs. x ∷ xs) (first e) p.1)
-]
-  where
-    first : d ∷ (ds ++ r ∷ []) ≡ b ∷ (bs ++ q ∷ after) → d ≡ b
-    first e = cc
-
-    rest : d ∷ (ds ++ r ∷ []) ≡ b ∷ (bs ++ q ∷ after) → ds ++ r ∷ [] ≡ bs ++ q ∷ after
-    rest e = cc
-
-if_some : {X : Type 0} (o : Option X) (P Q : X → Type 0) → ((x : X) → P x → Q x) → IfSome o P → IfSome o Q
-if_some None P Q f h = tt
-if_some (Some x) P Q f h = f x h
-
--- what stands for each feature that was taken out
-abbrev Redirected : Type 0 → Type 0
-Redirected S = HashMap (Bor Text) (BTreeSet (Bor Text)) S
-
-module _ {S : Type 0} where
-  pub none_yet : (m : HashMap (Bor Text) Feature S) (hidden : Redirected S) → hidden.entries ≡ [] → AreTakenOut [] m m hidden
-  none_yet m hidden none = record {
-    left = record { has = λ f. refl; names = λ f x t. refl; action = λ f k t. refl; enabled_by = λ f e t. refl };
-    keys = λ f t. refl;
-    marks = λ f t. refl;
-    bins = λ f t. refl;
-    redirected = λ r. ap (λ es. is_some (lookup (λ (k : Bor Text). bytes_eq r k.now) es)) none;
+module _ {S : Type 0} (m : Resolution) (own : Text → List Text) (old : HashMap (Bor Text) Feature S) (start : SameKept m (resolution_of old)) (bins : (f : Text) → IsSome (value_at old f) → bins_at old f ≡ own f) where
+  -- nothing is taken out
+  pub none_out : (hidden : Redirected S) → AreTakenOut m own [] old old hidden hidden
+  none_out hidden = record {
+    left = start;
+    stays = λ f there. (there, refl, refl);
+    bins = bins;
     redirects = λ before after r e. absurd (go before r after e);
+    others = λ q n. refl;
   }
     where
       go : (bs : List Text) (q : Text) (after : List Text) → [] ≡ bs ++ q ∷ after → ⊥
       go [] q after e = cc
       go (b ∷ bs) q after e = cc
 
-  module _ (done : List Text) (old now : HashMap (Bor Text) Feature S) (hidden : Redirected S) (h : AreTakenOut done old now hidden) where
-    pub were_there : (f : Text) → IsSome (value_at now f) → IsSome (value_at old f)
-    were_there f t = was_there done (resolution_of old) f (h.left.has f ∙ t)
+  -- r is taken out first
+  module _ (r : Text) (here : IsTrue (m.table.has r)) (mid : HashMap (Bor Text) Feature S) (t : TakesOut r old mid) where
+    was : (f : Text) → IsSome (value_at mid f) → IsSome (value_at old f)
+    was f there = (and_parts (is_some (value_at old f)) _ (t.left.has f ∙ there)).0
 
-    module _ (r : Text) (fresh : ¬ Among done r) (there : IsSome (value_at old r)) where
-      still : IsTrue ((without_all done (resolution_of old)).table.has r)
-      still = stays done (resolution_of old) r there fresh
+    pub start_then : SameKept (without_one r m) (resolution_of mid)
+    start_then = same_then (without_one r m) (without_one r (resolution_of old)) (resolution_of mid) (same_without r m (resolution_of old) here start) t.left
 
-      pub there_now : IsSome (value_at now r)
-      there_now = sym (h.left.has r) ∙ still
+    pub bins_then : (f : Text) → IsSome (value_at mid f) → bins_at mid f ≡ pass_bins m r own f
+    bins_then f there =
+        t.bins f there
+        ∙ (λ k. cond (sym (start.names r f here) k) (put_each (bins f (was f there) k) (take 10 (bins r (sym (start.has r) ∙ here) k))) (bins f (was f there) k))
 
-      module _ (now' : HashMap (Bor Text) Feature S) (hidden' : Redirected S) (t : TakesOut r now now') (d : Redirects r (resolution_of now) hidden hidden') where
-        was : (f : Text) → IsSome (value_at now' f) → IsSome (value_at now f)
-        was f i = (and_parts (is_some (value_at now f)) _ (t.left.has f ∙ i)).0
+    module _ (rest : List Text) (fresh : ¬ Among rest r) (new : HashMap (Bor Text) Feature S) (hidden hidden' hidden'' : Redirected S) (d : Redirects r (resolution_of old) hidden hidden')
+        (h : AreTakenOut (without_one r m) (pass_bins m r own) rest mid new hidden' hidden'') where
+      abbrev Has : Text → List Text → Type 0
+      Has q before = IsSomeAnd (value_at hidden'' q) (λ names. (x : Text) → set_has names x ≡ (without_all before m).table.names q x)
 
-        redirected_next : (q : Text) → is_some (value_at hidden' q) ≡ lists_text (done ++ r ∷ []) q
-        redirected_next q = go (bytes_eq r q) refl
-          where
-            go : (b : Bool) → bytes_eq r q ≡ b → is_some (value_at hidden' q) ≡ lists_text (done ++ r ∷ []) q
-            go true e =
-                ap (λ v. is_some (value_at hidden' v)) (sym ((bytes_eq-Decides r q).0 e)) ∙ d.there
-                ∙ sym (list_any-append (bytes_eq q) done (r ∷ []) ∙ or_right (lists_text done q) _ (or-false _ ∙ bytes_eq_sym q r ∙ e))
-            go false e =
-                ap is_some (d.others q e) ∙ h.redirected q
-                ∙ sym (list_any-append (bytes_eq q) done (r ∷ []) ∙ ap (λ b. lists_text done q || b) (or-false _ ∙ bytes_eq_sym q r ∙ e) ∙ or-false _)
+      own_redirect : Has r []
+      own_redirect = subst (λ o. IsSomeAnd o (λ names. (x : Text) → set_has names x ≡ m.table.names r x)) (sym (h.others r fresh)) (told (value_at hidden' r) d.here)
+        where
+          told : (o : Option (BTreeSet (Bor Text))) → IsSomeAnd o (λ names. (x : Text) → set_has names x ≡ (resolution_of old).table.names r x) → IsSomeAnd o (λ names. (x : Text) → set_has names x ≡ m.table.names r x)
+          told None e = e
+          told (Some names) e = λ x. e x ∙ sym (start.names r x here)
 
-        redirects_next : (before after : List Text) (q : Text) → done ++ r ∷ [] ≡ before ++ q ∷ after
-            → IfSome (value_at hidden' q) (λ names. (x : Text) → set_has names x ≡ (without_all before (resolution_of old)).table.names q x)
-        redirects_next before after q e = elim (place done before after r q e) [
-          | inl p ↦
-              subst (λ v. IfSome (value_at hidden' v) (λ names. (x : Text) → set_has names x ≡ (without_all before (resolution_of old)).table.names v x)) (sym p.1)
-              (subst (λ b. IfSome (value_at hidden' r) (λ names. (x : Text) → set_has names x ≡ (without_all b (resolution_of old)).table.names r x)) (sym p.0)
-              (if_some (value_at hidden' r) _ _ (λ names own x. own x ∙ sym (h.left.names r x still)) d.own))
-          | inr p ↦
-              let among : Among done q = subst (λ ks. Among ks q) (sym p.1) (among-second before (q ∷ p.0) q (inl refl)) in
-              let off : bytes_eq r q ≡ false = false_from_ne_true _ (λ i. fresh (subst (Among done) (sym ((bytes_eq-Decides r q).0 i)) among)) in
-              subst (λ o. IfSome o (λ names. (x : Text) → set_has names x ≡ (without_all before (resolution_of old)).table.names q x)) (sym (d.others q off)) (h.redirects before p.0 q p.1)
-        ]
+      all_redirects : (before after : List Text) (q : Text) → r ∷ rest ≡ before ++ q ∷ after → Has q before
+      all_redirects [] after q e = subst (λ v. Has v []) (first e) own_redirect
+        where
+          first : r ∷ rest ≡ q ∷ after → r ≡ q
+          first e = cc
+      all_redirects (b ∷ bs) after q e = subst (λ v. Has q (v ∷ bs)) (first e) (h.redirects bs after q (others e))
+        where
+          first : r ∷ rest ≡ b ∷ (bs ++ q ∷ after) → r ≡ b
+          first e = cc
 
-        pub next : AreTakenOut (done ++ r ∷ []) old now' hidden'
-        next = record {
-          left = subst (λ m. SameKept m (resolution_of now')) (sym (without_last done r (resolution_of old)))
-              (same_then (without_one r (without_all done (resolution_of old))) (without_one r (resolution_of now)) (resolution_of now') (same_without r (without_all done (resolution_of old)) (resolution_of now) still h.left) t.left);
-          keys = λ f i. t.keys f i ∙ h.keys f (was f i);
-          marks = λ f i. t.marks f i ∙ h.marks f (was f i);
-          bins = λ f i.
-              t.bins f i
-              ∙ (λ k. cond (sym (h.left.names r f still) k) (put_each (h.bins f (was f i) k) (take 10 (h.bins r there_now k))) (h.bins f (was f i) k))
-              ∙ sym (ap (λ g. g f) (pass_last done r (resolution_of old) (bins_at old)));
-          redirected = redirected_next;
-          redirects = redirects_next;
-        }
+          others : r ∷ rest ≡ b ∷ (bs ++ q ∷ after) → rest ≡ bs ++ q ∷ after
+          others e = cc
+
+      pub first_out : AreTakenOut m own (r ∷ rest) old new hidden hidden''
+      first_out = record {
+        left = h.left;
+        stays = λ f there. let s = h.stays f there in (was f s.0, s.1 ∙ t.keys f s.0, s.2 ∙ t.marks f s.0);
+        bins = h.bins;
+        redirects = all_redirects;
+        others = λ q n. h.others q (λ i. n (inr i)) ∙ d.others q (false_from_ne_true _ (λ e. n (inl (sym ((bytes_eq-Decides r q).0 e)))));
+      }

@@ -1,9 +1,10 @@
 -- One feature is taken out of a map.
-use Rattle.std.proofs.Common.{◌≡◌, Bool, true, false, cond, not, ◌&&◌, ◌||◌, IsTrue, [], take, Option, Some, None, IsSome, IfSome, is_some, option_map, Bor, bytes_eq, refl, sym, ap, ap₂, subst, ◌∙◌}
+use Rattle.std.proofs.Common.{◌≡◌, Bool, true, false, cond, not, ◌&&◌, ◌||◌, IsTrue, [], take, Option, Some, None, IsSome, is_some, option_map, Bor, bytes_eq, refl, sym, ap, ap₂, subst, ◌∙◌}
+use Rattle.std.proofs.Math.Bool.{and-true, and-false}
 use Rattle.std.proofs.lemmas.Bool.{false≢true, and_parts, not-true}
 use Rattle.std.proofs.lemmas.Slice.Eq.{bytes_eq-Decides}
 use Rattle.std.specs.BTreeSet.{BTreeSet}
-use Rattle.std.specs.Option.{option_map_or}
+use Rattle.std.specs.Option.{IsSomeAnd, option_map_or}
 use Rattle.std.specs.HashMap as hash
 use Rattle.std.specs.HashMap.{HashMap}
 use Rattle.cargo_toml_graph.specs.Action.{Text, join_option}
@@ -15,7 +16,7 @@ use Rattle.cargo_toml_dependencies.specs.Details.{plain_detail}
 use Rattle.cargo_toml_features.specs.Marks.{marked, marks_of}
 use Rattle.cargo_toml_features.specs.Views.{set_has, action_at, resolution_of, value_at}
 use Rattle.cargo_toml_resolve.specs.Texts.{texts_now}
-use Rattle.cargo_toml_bench.specs.Removing.{bins_at, Loses, LosesAll, TakesOut, Redirects}
+use Rattle.cargo_toml_bench.specs.Removing.{bins_at, Loses, TakesOut, Redirects}
 use Rattle.cargo_toml_bench.proofs.Turns.{at_key, elsewhere}
 
 -- a name that is still there was there
@@ -27,12 +28,12 @@ still_there key old mid u f there = go (bytes_eq key f) refl
     go false e = ap is_some (sym (elsewhere key old mid None u f e)) ∙ there
 
 module _ {S : Type 0} (key : Text) (old mid new : HashMap (Bor Text) Feature S) (gone : Feature) (was : value_at old key ≡ Some gone)
-    (u : hash.UpdatesBy (λ x y. bytes_eq x.now y.now) (λ q. bytes_eq key q.now) old mid None) (h : LosesAll gone key mid new) where
+    (u : hash.UpdatesBy (λ x y. bytes_eq x.now y.now) (λ q. bytes_eq key q.now) old mid None) (h : (q : Text) → Relates (Loses gone key q) (value_at mid q) (value_at new q)) where
   of_gone : {Y : Type 0} (F : Feature → Y) (d : Y) → option_map_or F (value_at old key) d ≡ F gone
   of_gone F d = ap (λ o. option_map_or F o d) was
 
   has_now : (f : Text) → (is_some (value_at old f) && not (bytes_eq f key)) ≡ is_some (value_at new f)
-  has_now f = go (bytes_eq f key) refl ∙ alike (value_at mid f) (value_at new f) (h.at f)
+  has_now f = go (bytes_eq f key) refl ∙ alike (value_at mid f) (value_at new f) (h f)
     where
       alike : (o o' : Option Feature) → Relates (Loses gone key f) o o' → is_some o ≡ is_some o'
       alike None None r = refl
@@ -40,27 +41,19 @@ module _ {S : Type 0} (key : Text) (old mid new : HashMap (Bor Text) Feature S) 
       alike (Some a) None r = absurd r
       alike (Some a) (Some b) r = refl
 
-      and_true : (b : Bool) → (b && true) ≡ b
-      and_true true = refl
-      and_true false = refl
-
-      and_false : (b : Bool) → (b && false) ≡ false
-      and_false true = refl
-      and_false false = refl
-
       go : (t : Bool) → bytes_eq f key ≡ t → (is_some (value_at old f) && not (bytes_eq f key)) ≡ is_some (value_at mid f)
       go true e =
-          ap (λ t. is_some (value_at old f) && not t) e ∙ and_false (is_some (value_at old f))
+          ap (λ t. is_some (value_at old f) && not t) e ∙ and-false (is_some (value_at old f))
           ∙ sym (ap (λ q. is_some (value_at mid q)) ((bytes_eq-Decides f key).0 e) ∙ ap is_some (at_key key old mid None u))
       go false e =
-          ap (λ t. is_some (value_at old f) && not t) e ∙ and_true (is_some (value_at old f))
+          ap (λ t. is_some (value_at old f) && not t) e ∙ and-true (is_some (value_at old f))
           ∙ sym (ap is_some (elsewhere key old mid None u f (bytes_eq_sym key f ∙ e)))
 
   -- what holds of each that changed, holds of each that stays
   each : (f : Text) → IsTrue (is_some (value_at old f) && not (bytes_eq f key)) → (P : Option Feature → Option Feature → Type 0) → ((a b : Feature) → Loses gone key f a b → P (Some a) (Some b)) → P (value_at old f) (value_at new f)
   each f stays P some =
       let p = and_parts (is_some (value_at old f)) _ stays in
-      go (value_at old f) (value_at new f) p.0 (subst (λ o. Relates (Loses gone key f) o (value_at new f)) (elsewhere key old mid None u f (bytes_eq_sym key f ∙ not-true _ p.1)) (h.at f))
+      go (value_at old f) (value_at new f) p.0 (subst (λ o. Relates (Loses gone key f) o (value_at new f)) (elsewhere key old mid None u f (bytes_eq_sym key f ∙ not-true _ p.1)) (h f))
     where
       go : (o o' : Option Feature) → IsSome o → Relates (Loses gone key f) o o' → P o o'
       go None o' i r = absurd (false≢true i)
@@ -99,7 +92,6 @@ module _ {S : Type 0} (key : Text) (old mid new : HashMap (Bor Text) Feature S) 
   redirected names same hidden hidden' w =
       let here : value_at hidden' key ≡ Some names = at_key key hidden hidden' (Some names) w in
       record {
-        there = ap is_some here;
-        own = subst (λ o. IfSome o (λ names. (x : Text) → set_has names x ≡ (resolution_of old).table.names key x)) (sym here) (λ x. ap (λ s. set_has s x) same ∙ sym (of_gone (λ v. set_has v.enables_features x) false));
+        here = subst (λ o. IsSomeAnd o (λ names. (x : Text) → set_has names x ≡ (resolution_of old).table.names key x)) (sym here) (λ x. ap (λ s. set_has s x) same ∙ sym (of_gone (λ v. set_has v.enables_features x) false));
         others = elsewhere key hidden hidden' (Some names) w;
       }

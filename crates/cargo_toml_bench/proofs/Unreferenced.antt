@@ -1,30 +1,23 @@
 -- The features that no feature enables, from what a resolution with nothing removed tells.
-use Rattle.std.proofs.Common.{◌≡◌, ◌↔◌, ◌==◌, true, false, List, [], ◌∷◌, length, map, Option, Some, None, IsTrue, is_some, Result, Ok, Err, IfOk, Vec, Global, subst, Bor, codes, refl, sym, ap, inl, inr, ◌∙◌, arith}
-use Rattle.std.proofs.lemmas.Bool.{false≢true, eqb-true, not-true, not_from_false, false_from_ne_true, and_parts, and_from, or_left, or_right, or_cases}
+use Rattle.std.proofs.Common.{◌≡◌, ◌↔◌, ◌==◌, true, false, List, [], ◌∷◌, length, Option, Some, None, IsTrue, is_some, Bor, codes, refl, sym, ap, ◌∙◌, arith}
+use Rattle.std.proofs.lemmas.Bool.{false≢true, eqb-true, not-true, not_from_false, false_from_ne_true, and_parts, and_from, or_left}
 use Rattle.std.proofs.lemmas.Bool.Decides.{Decides-eqb}
 use Rattle.std.proofs.lemmas.Map.Text.{is_eq-slice_cmp}
 use Rattle.std.proofs.lemmas.Slice.Eq.{bytes_eq-Decides}
 use Rattle.std.specs.BTreeSet.{BTreeSet, btree_set_len}
-use Rattle.std.specs.BTreeMap.{is_at}
-use Rattle.std.specs.Cmp.Lexicographic.{slice_cmp}
-use Rattle.std.specs.Ordering.{nat_cmp}
 use Rattle.std.specs.HashMap.{HashMap}
-use Rattle.std.specs.List.{AllByRecursion, list_any}
-use Rattle.std.specs.List.Sorted.{IsStrictlySortedBy}
 use Rattle.std.specs.Option.{option_map_or}
-use Rattle.std.specs.declared.cmp.Ordering.TheVariants.{Less}
 use Rattle.cargo_toml.specs.Feature.{Feature}
 use Rattle.cargo_toml.specs.Action.{Text}
 use Rattle.cargo_toml.specs.Graph.{Table, Edge, IsKept, IsResolved}
-use Rattle.cargo_toml.specs.Reach.{Among, Reaches}
+use Rattle.cargo_toml.specs.Reach.{Reaches}
 use Rattle.cargo_toml.specs.Reach.Reaches.{edge, through}
 use Rattle.cargo_toml.specs.Removal.{is_removed}
 use Rattle.cargo_toml.specs.Views.{set_has, resolution_of, value_at}
 use Rattle.cargo_toml_graph.proofs.Texts.{bytes_eq_refl}
 use Rattle.cargo_toml_features.proofs.TextKeys.{none_in}
 use Rattle.cargo_toml_bench.specs.Alone.{is_alone, is_alone_at}
-use Rattle.cargo_toml_resolve.specs.Texts.{texts_now}
-use Rattle.cargo_toml_bench.specs.Reports.{texts, IsUnreferenced}
+use Rattle.cargo_toml_bench.specs.Reports.{IsUnreferenced}
 
 -- a filter that keeps each feature removes none
 pub nothing_removed : (t : Table) (f : Text) → ¬ IsTrue (is_removed t (λ _. true) f)

@@ -1,11 +1,9 @@
 -- what the proved callers promise, and what files in memory state: a user has to believe these
 pub mod Reports
 pub mod Printing
-pub mod Documented
 pub mod Alike
-pub mod Enabled
-pub mod Members
-pub mod Completing
+pub mod Pairs
+pub mod Audiences
 pub mod Versioned
 pub mod InMemory
 -- the code's own steps, in contracts of inner functions and of `plain` alone: no caller's promise

@@ -1,8 +1,8 @@
 -- What features hold while some are taken out, one after another.
 use Rattle.std.specs.Prelude.{◌≡◌, ◌&&◌, ◌||◌, ◌∷◌, ◌++◌, not, if◌then◌else◌, Bool, false, List, []}
-use Rattle.std.specs.Prelude.{Option, IsFalse, IfSome, IsSome, bytes_eq, is_some, option_map}
-use Rattle.std.specs.Prelude.{take}
-use Rattle.std.specs.Option.{option_map_or}
+use Rattle.std.specs.Prelude.{Option, IsFalse, IsSome, bytes_eq, codes, nat_eq, option_map, take}
+use Rattle.std.specs.List.{starts_with}
+use Rattle.std.specs.Option.{IsSomeAnd, option_map_or}
 use Rattle.std.specs.Borrow.{Bor}
 use Rattle.std.specs.BTreeSet.{BTreeSet}
 use Rattle.std.specs.HashMap.{HashMap}
@@ -10,12 +10,17 @@ use Rattle.cargo_toml_dependencies.specs.Details.{plain_detail}
 use Rattle.cargo_toml_features.specs.declared.features.Feature.{Feature}
 use Rattle.cargo_toml_graph.specs.Action.{Text, join_option}
 use Rattle.cargo_toml_graph.specs.Graph.{Resolution}
-use Rattle.cargo_toml_graph.specs.Removal.{SameKept, lists_text, pass_all, pass_bins, put_each}
+use Rattle.cargo_toml_graph.specs.Reach.{Among, IsOnce}
+use Rattle.cargo_toml_graph.specs.Removal.{SameKept, pass_all, pass_bins, put_each}
 use Rattle.cargo_toml_graph.specs.Removal.{without_all, without_one}
 use Rattle.cargo_toml_full.specs.Slots.{Relates}
 use Rattle.cargo_toml_features.specs.Marks.{FeatureMarks, marked, marks_of}
 use Rattle.cargo_toml_features.specs.Views.{set_has, action_at, resolution_of, value_at}
 use Rattle.cargo_toml_resolve.specs.Texts.{texts_now}
+
+-- a feature of this name is taken out
+abbrev pub is_hidden : (Text → Bool) → Text → Bool
+is_hidden keep f = starts_with nat_eq f (codes "_") && not (keep f)
 
 -- what the feature of a name says of itself
 module _ {S : Type 0} (m : HashMap (Bor Text) Feature S) (f : Text) where
@@ -70,16 +75,23 @@ pub record Loses (gone : Feature) (key name : Text) (old new : Feature) : Type 0
       (take 10 (texts_now gone.required_by_bins.items))
       else texts_now old.required_by_bins.items)
 
+-- the names are those of all features, each once
+pub record AreNames {S : Type 0} (m : HashMap (Bor Text) Feature S) (names : List Text)
+    : Type 0 where
+  pub all : (f : Text) → IsSome (value_at m f) → Among names f
+  pub once : IsOnce names
+
 -- at k the feature, where there is one, changes so, and no other does
 pub record ChangesAt {S : Type 0} (Changes : Feature → Feature → Type 0) (k : Text)
     (old new : HashMap (Bor Text) Feature S) : Type 0 where
   pub here : Relates Changes (value_at old k) (value_at new k)
   pub others : (q : Text) → IsFalse (bytes_eq k q) → value_at new q ≡ value_at old q
 
--- each feature loses it
-pub record LosesAll {S : Type 0} (gone : Feature) (key : Text)
+-- the features of these names change, each in its way, and no other does
+pub record ChangesAll {S : Type 0} (Changes : Text → Feature → Feature → Type 0) (named : List Text)
     (old new : HashMap (Bor Text) Feature S) : Type 0 where
-  pub at : (q : Text) → Relates (Loses gone key q) (value_at old q) (value_at new q)
+  pub here : (q : Text) → Among named q → Relates (Changes q) (value_at old q) (value_at new q)
+  pub others : (q : Text) → ¬ Among named q → value_at new q ≡ value_at old q
 
 -- the feature `key` is taken out
 pub record TakesOut {S : Type 0} (key : Text)
@@ -90,24 +102,25 @@ pub record TakesOut {S : Type 0} (key : Text)
   pub bins : (f : Text) → IsSome (value_at new f)
       → bins_at new f ≡ pass_bins (resolution_of old) key (bins_at old) f
 
+abbrev pub Redirected : Type 0 → Type 0
+Redirected S = HashMap (Bor Text) (BTreeSet (Bor Text)) S
+
 -- what r names goes to its redirect, and all others stay
-pub record Redirects {S : Type 0} (r : Text) (m : Resolution)
-    (old new : HashMap (Bor Text) (BTreeSet (Bor Text)) S) : Type 0 where
-  pub there : IsSome (value_at new r)
-  pub own : IfSome (value_at new r) (λ names. (x : Text) → set_has names x ≡ m.table.names r x)
+pub record Redirects {S : Type 0} (r : Text) (m : Resolution) (old new : Redirected S)
+    : Type 0 where
+  pub here : IsSomeAnd (value_at new r) (λ names. (x : Text) → set_has names x ≡ m.table.names r x)
   pub others : (q : Text) → IsFalse (bytes_eq r q) → value_at new q ≡ value_at old q
 
--- the features of these names, each once, are taken out one after another, in their order
-pub record AreTakenOut {S : Type 0} (removed : List Text) (old new : HashMap (Bor Text) Feature S)
-    (hidden : HashMap (Bor Text) (BTreeSet (Bor Text)) S) : Type 0 where
-  pub left : SameKept (without_all removed (resolution_of old)) (resolution_of new)
-  pub keys : (f : Text) → IsSome (value_at new f) → key_at new f ≡ key_at old f
-  pub marks : (f : Text) → IsSome (value_at new f) → marks_at new f ≡ marks_at old f
-  pub bins : (f : Text) → IsSome (value_at new f)
-      → bins_at new f ≡ pass_all removed (resolution_of old) (bins_at old) f
-  -- something is hidden for each of them, and for no other
-  pub redirected : (r : Text) → is_some (value_at hidden r) ≡ lists_text removed r
-  -- it is what each names at its turn
+-- the features of these names, each once, are taken out of a map of what m holds and own lists one
+-- after another, in their order
+pub record AreTakenOut {S : Type 0} (m : Resolution) (own : Text → List Text) (removed : List Text)
+    (old new : HashMap (Bor Text) Feature S) (hidden hidden' : Redirected S) : Type 0 where
+  pub left : SameKept (without_all removed m) (resolution_of new)
+  pub stays : (f : Text) → IsSome (value_at new f) → IsSome (value_at old f)
+      × (key_at new f ≡ key_at old f) × (marks_at new f ≡ marks_at old f)
+  pub bins : (f : Text) → IsSome (value_at new f) → bins_at new f ≡ pass_all removed m own f
+  -- what each names at its turn is put aside, and nothing else
   pub redirects : (before after : List Text) (r : Text) → removed ≡ before ++ r ∷ after
-      → IfSome (value_at hidden r) (λ names. (x : Text) → set_has names x
-      ≡ (without_all before (resolution_of old)).table.names r x)
+      → IsSomeAnd (value_at hidden' r) (λ names. (x : Text) → set_has names x
+      ≡ (without_all before m).table.names r x)
+  pub others : (q : Text) → ¬ Among removed q → value_at hidden' q ≡ value_at hidden q

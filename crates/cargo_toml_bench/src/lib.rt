@@ -1,18 +1,16 @@
-//! Callers of `cargo_toml` that are proved, written as a user of the crate writes them.
+//! Callers of `cargo_toml` that are proved, as a user of the crate writes them, and files in memory
+//! to complete from.
 //!
-//! `plain` is no such caller: it resolves features in a way that is easy to follow, to compare
-//! with. `bodies` compares, and calls what lies below `cargo_toml`.
+//! `plain` is no such caller: it removes hidden features in a way that is easy to follow. `bodies`
+//! compares resolving with it.
 #![tactic(auto)]
 
+pub mod audience;
 pub mod bodies;
-pub mod completing;
-pub mod documented;
-pub mod enabled;
 pub mod in_memory;
-pub mod members;
+pub mod pairs;
 pub mod plain;
 pub mod report;
-pub mod round_trip;
 mod sets;
 pub mod versioned;
 pub mod whole;

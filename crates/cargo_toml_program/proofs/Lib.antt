@@ -1,1 +1,3 @@
+mod Growing
+mod Products
 mod Unfiltered

@@ -1,19 +1,25 @@
--- Which texts are printed of the features of a manifest.
-use Rattle.std.specs.Prelude.{◌≡◌, ◌⊎◌, ℕ, List, Option, Err, false}
+-- Which texts are printed of bytes, and of files.
+use Rattle.std.specs.Prelude.{◌≡◌, ◌⊎◌, ℕ, List, None, Option, Ok, Err, false}
 use Rattle.std.specs.Io.KnownBytes.{Appends, Consumes, IsAtEnd}
 use Rattle.std.specs.declared.hash.BuildHasherDefault.{BuildHasherDefault}
 use Rattle.std.specs.declared.hash.FoldHasher.{FoldHasher}
-use Rattle.cargo_toml_command.specs.Printed.{IsOfBytes}
 use Rattle.cargo_toml_features.specs.declared.features.Features.{Features}
 use Rattle.cargo_toml_features.specs.Views.{answer_of}
 use Rattle.cargo_toml_graph.specs.Action.{Text}
+use Rattle.cargo_toml_manifest.specs.Completed.{IsCompleted}
 use Rattle.cargo_toml_manifest.specs.declared.manifest.Manifest.{Manifest}
-use Rattle.cargo_toml_manifest.specs.Manifests.{held}
+use Rattle.cargo_toml_manifest.specs.Manifests.{held, manifest_meaning, manifest_reads}
+use Rattle.cargo_toml_manifest.specs.Manifests.{ManifestRefuses}
+use Rattle.cargo_toml_manifest.specs.RealFiles.{IsPathFault, IsReadFromText}
+use Rattle.cargo_toml_manifest.specs.RealFiles.{any_root, real_folders, real_roots}
 use Rattle.cargo_toml_manifest.specs.Roots.{IsFromSlice}
+use Rattle.cargo_toml_manifest.specs.Texts.{AnyRefuses, any_tree}
 use Rattle.cargo_toml_parts.specs.declared.error.Error.{Error, Memory}
-use Rattle.cargo_toml_print.specs.Lines.{AreAllLines, FeaturesAscend}
-use Rattle.cargo_toml_print.specs.Printing.{IsOfOutput}
+use Rattle.cargo_toml_program.specs.Completed.{completion_text}
+use Rattle.cargo_toml_program.specs.Lines.{AreAllLines, FeaturesAscend}
+use Rattle.cargo_toml_program.specs.Printing.{IsOfOutput}
 use Rattle.cargo_toml_resolver.specs.Parsed.{IsParsed}
+use Rattle.toml.specs.View.{view}
 use Rattle.toml.specs.declared.value.Value.{Value}
 
 -- the lines of what the features of a manifest resolve to at this limit, where each is removed
@@ -23,6 +29,11 @@ IsFeatureText limit m text =
     (a : Features (BuildHasherDefault FoldHasher) FoldHasher)
     × IsParsed limit (held m) (λ _. false) (answer_of a) × AreAllLines a text × FeaturesAscend a
 
+-- the bytes spell a manifest, and these are its lines
+abbrev pub IsOfBytes : ℕ → List ℕ → Text → Type 0
+IsOfBytes limit bytes text =
+    (m : Manifest Value) × IsFromSlice bytes (Ok m) × IsFeatureText limit m text
+
 -- what an input still has is read to its end, and the lines of the manifest that it spells stand
 -- behind what an output had
 pub record ArePrinted (limit : ℕ) (input rest output more : Option (List ℕ)) : Type 0 where
@@ -30,7 +41,7 @@ pub record ArePrinted (limit : ℕ) (input rest output more : Option (List ℕ))
   pub text : Text
   pub read : Consumes input rest bytes
   pub whole : IsAtEnd rest
-  pub lines : IsOfBytes (IsFeatureText limit) bytes text
+  pub lines : IsOfBytes limit bytes text
   pub written : Appends output more text
 
 -- why printing fails: no memory, a fault of input or output, or that of the bytes which an input
@@ -40,3 +51,21 @@ IsPrintFault input rest e =
     (e ≡ Memory)
     ⊎ (IsOfOutput e
     ⊎ ((bytes : List ℕ) × Consumes input rest bytes × IsAtEnd rest × IsFromSlice bytes (Err e)))
+
+-- some text reads as this manifest
+abbrev pub IsSpelled : Manifest Value → Type 0
+IsSpelled = IsReadFromText (manifest_meaning view) (manifest_reads any_tree)
+
+-- the text is that of a manifest which some text spells, as completing it among real files leaves
+-- it
+abbrev pub IsOfCompleted : Text → Type 0
+IsOfCompleted text =
+    (old : Manifest Value) × IsSpelled old × (new : Manifest Value)
+    × IsCompleted old None real_roots any_root real_folders new
+    × (text ≡ completion_text (held new))
+
+-- why the file at this path gives no completed manifest
+abbrev pub IsFileFault : List ℕ → Error → Type 0
+IsFileFault path =
+    IsPathFault path (manifest_meaning view) (manifest_reads any_tree)
+    (ManifestRefuses any_tree AnyRefuses)

@@ -3,10 +3,8 @@ use crate::completed::completed;
 use crate::custom;
 use crate::manifests::lines_of;
 use cargo_toml::Error;
-use cargo_toml_bench::bodies::{
-    resolve_by_both, resolve_by_both_keeping_a, resolve_by_both_keeping_every,
-};
-use cargo_toml_bench::whole::Answer;
+use cargo_toml_bench::bodies::resolve_by_both;
+use cargo_toml_bench::whole::{Answer, keep_a, keep_every};
 use cargo_toml_held::HeldManifest;
 use cargo_toml_row_files::templates;
 use std::alloc::Global;
@@ -45,20 +43,24 @@ fn answer<R: Files + AllocGlobal>(rt: &R, row: &str) -> Result<String, Error> {
         return alike(alloc, custom::by_both(rt, row, bytes)?);
     }
     if row.starts_with("parsed/") {
-        let held = completed(rt, row, bytes)?;
-        return compared(alloc, resolve_by_both(alloc, &*held.manifest)?);
+        return shown(alloc, &completed(rt, row, bytes)?);
     }
     let held = HeldManifest::from_slice(alloc, bytes)?;
     if row.starts_with("kept/") {
-        compared(alloc, resolve_by_both_keeping_a(alloc, &*held.manifest)?)
+        let keep = keep_a;
+        compared(alloc, resolve_by_both(alloc, Some(&keep), &*held.manifest)?)
     } else if row.starts_with("whole/") {
-        compared(
-            alloc,
-            resolve_by_both_keeping_every(alloc, &*held.manifest)?,
-        )
+        let keep = keep_every;
+        compared(alloc, resolve_by_both(alloc, Some(&keep), &*held.manifest)?)
     } else {
-        compared(alloc, resolve_by_both(alloc, &*held.manifest)?)
+        shown(alloc, &held)
     }
+}
+
+/// Whether the same is printed by both bodies where all hidden features are removed.
+fn shown(alloc: Global, held: &HeldManifest) -> Result<String, Error> {
+    let no_filter: Option<&fn(&str) -> bool> = None;
+    compared(alloc, resolve_by_both(alloc, no_filter, &*held.manifest)?)
 }
 
 /// Whether the same is printed of both answers, or else what is.
@@ -86,7 +88,7 @@ fn tables(alloc: Global) -> Result<String, Error> {
     for number in 0..TABLES {
         let text = table(alloc, number)?;
         let held = HeldManifest::from_str(alloc, text.as_str())?;
-        let compared = compared(alloc, resolve_by_both(alloc, &*held.manifest)?)?;
+        let compared = shown(alloc, &held)?;
         if compared.as_str() != "alike" {
             return Ok(format!(in alloc; "{text} {compared}")?);
         }

@@ -5,7 +5,7 @@ use crate::recorder::Recorder;
 use cargo_toml::features::{Features, Resolver};
 use cargo_toml::{AbstractFilesystem, Error, Manifest, ParseFault, Value};
 use cargo_toml_bench::in_memory::{Answer, InMemory, Root};
-use cargo_toml_bench::members::count_features;
+use cargo_toml_bench::pairs::count_features;
 use cargo_toml_held::HeldManifest;
 use cargo_toml_row_files::templates::{read_to_string, text_in};
 use std::alloc::Global;

@@ -2,7 +2,8 @@
 use crate::resolved::dependency_lines;
 use cargo_toml::features::{Features, Kind, ParseDependency, Resolver};
 use cargo_toml::{Dependency, DepsSet, Error, FeatureSet, FromValue, Manifest, Value};
-use cargo_toml_bench::bodies::resolve_custom_plainly;
+use cargo_toml_bench::plain::without_hidden;
+use cargo_toml_bench::whole::keep_every;
 use cargo_toml_held::HeldManifest;
 use cargo_toml_program::feature_lines;
 use cargo_toml_row_files::templates::text_in;
@@ -47,7 +48,10 @@ fn printed(
 ) -> Result<(String, String), Error> {
     let called = Resolver::new().parse_custom(alloc, table, entries)?;
     let called = text_of(alloc, called, shows)?;
-    let plain = resolve_custom_plainly(alloc, table, entries)?;
+    let keep = keep_every;
+    let every = Resolver::new_with_hasher_and_filter(BuildHasherDefault::new(), &keep);
+    let no_filter: Option<&fn(&str) -> bool> = None;
+    let plain = without_hidden(alloc, no_filter, every.parse_custom(alloc, table, entries)?)?;
     Ok((called, text_of(alloc, plain, shows)?))
 }
 

@@ -1,13 +1,13 @@
 //! What comes of a manifest, as text.
 
-use cargo_toml::features::Features;
+use cargo_toml::features::{Feature, Features, Resolver};
 use cargo_toml::{Error, Manifest, ParseFault, ToValue, Value};
-use cargo_toml_bench::documented::documented_features;
 use cargo_toml_bench::report::print_report;
-use cargo_toml_bench::whole::{resolve_keeping_a, resolve_whole};
+use cargo_toml_bench::whole::{keep_a, resolve_by, resolve_whole};
 use cargo_toml_held::HeldManifest;
 use cargo_toml_program::{feature_lines, print_features};
-use std::alloc::Global;
+use std::alloc::{AllocError, Global};
+use std::collections::{BTreeMap, HashMap};
 use std::hash::BuildHasher;
 use toml::Table;
 
@@ -172,7 +172,8 @@ pub fn whole(alloc: Global, bytes: &[u8]) -> Result<String, Error> {
 /// The lines of the manifest's features where `_a` alone of the hidden names is kept.
 pub fn kept(alloc: Global, bytes: &[u8]) -> Result<String, Error> {
     let held = HeldManifest::from_slice(alloc, bytes)?;
-    lines_of(alloc, resolve_keeping_a(alloc, &*held.manifest)?)
+    let keep = keep_a;
+    lines_of(alloc, resolve_by(alloc, Some(&keep), &*held.manifest, 2048)?)
 }
 
 /// What the proved caller prints of the manifest.
@@ -185,12 +186,27 @@ pub fn report(alloc: Global, bytes: &[u8]) -> Result<String, Error> {
 /// The features that users are meant to ask for, each with its text.
 pub fn documented(alloc: Global, bytes: &[u8]) -> Result<String, Error> {
     let held = HeldManifest::from_slice(alloc, bytes)?;
-    let documented = documented_features(alloc, &*held.manifest)?;
+    let resolver = Resolver::new();
+    let resolved = resolver.parse(alloc, &*held.manifest)?;
+    let documented = documented_of(alloc, &resolved.features)?;
     let mut text = String::new(alloc);
     for (name, said) in &documented {
         push_documented(&mut text, *name, *said)?;
     }
     Ok(text)
+}
+
+fn documented_of<'m, S: BuildHasher>(
+    alloc: Global,
+    features: &HashMap<&'m str, Feature<'m>, S>,
+) -> Result<BTreeMap<&'m str, Option<&'m str>>, AllocError> {
+    let mut documented = BTreeMap::new(alloc);
+    for (name, feature) in features {
+        if feature.is_user_facing() {
+            documented.insert(*name, feature.doc)?;
+        }
+    }
+    Ok(documented)
 }
 
 fn push_documented(text: &mut String, name: &str, said: Option<&str>) -> Result<(), Error> {

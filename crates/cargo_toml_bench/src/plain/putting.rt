@@ -21,8 +21,10 @@ pub fn put_bins<'m>(own: &mut Vec<&'m str>, bins: &[&'m str]) -> Result<(), Allo
     ensures { OnOk result (texts_now own.new.items
         ≡ put_each (texts_now own.old.items) (texts_now bins.now)) }
 {
-    for bin in bins {
-        put_bin(own, *bin)?;
-    }
+    let Some((bin, others)) = bins.split_first() else {
+        return Ok(());
+    };
+    put_bin(own, *bin)?;
+    put_bins(own, others)?;
     Ok(())
 }

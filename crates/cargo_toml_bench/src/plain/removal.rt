@@ -1,15 +1,14 @@
 //! Features are taken out one after another, and leave to others what they said.
-ghost use Rattle.std.specs.Prelude.{◌≡◌, if◌then◌else◌, [], Some};
-ghost use Rattle.std.specs.Prelude.{take, IfOk, IsSome, OnOk};
+ghost use Rattle.std.specs.Prelude.{◌≡◌, if◌then◌else◌, take, IsSome, List, OnOk};
 ghost use Rattle.cargo_toml_graph.specs.Action.{Text};
+ghost use Rattle.cargo_toml_graph.specs.Graph.{Resolution};
 ghost use Rattle.cargo_toml_graph.specs.Reach.{Among, IsOnce};
-ghost use Rattle.cargo_toml_graph.specs.Removal.{put_each};
+ghost use Rattle.cargo_toml_graph.specs.Removal.{SameKept, put_each};
+ghost use Rattle.cargo_toml_features.specs.Views.{resolution_of, set_has, value_at};
 ghost use Rattle.cargo_toml_resolve.specs.Texts.{texts_now};
+ghost use Rattle.cargo_toml_bench.specs.Removing.{AreNames, AreTakenOut, ChangesAll, ChangesAt};
+ghost use Rattle.cargo_toml_bench.specs.Removing.{Loses, Redirects, TakesNames, TakesOut, bins_at};
 ghost use Rattle.cargo_toml_bench.specs.Removing.{passed_on};
-ghost use Rattle.cargo_toml_bench.specs.Removing.{TakesNames, Loses, ChangesAt};
-ghost use Rattle.cargo_toml_bench.specs.Removing.{AreTakenOut, LosesAll, TakesOut, Redirects};
-ghost use Rattle.cargo_toml_features.specs.Views.{set_has};
-ghost use Rattle.cargo_toml_features.specs.Views.{resolution_of, value_at};
 
 use crate::plain::putting::put_bins;
 use cargo_toml_features::features::Feature;
@@ -116,7 +115,7 @@ fn lose_at<'a, S: BuildHasher>(
     Ok(())
 }
 
-// Each feature loses the one that is gone; `names` has the name of each, once.
+// Each feature of these names loses the one that is gone.
 fn lose_all<'a, S: BuildHasher>(
     alloc: Global,
     features: &mut HashMap<&'a str, Feature<'a>, S>,
@@ -124,13 +123,14 @@ fn lose_all<'a, S: BuildHasher>(
     gone: &Feature<'a>,
     key: &'a str,
 ) -> Result<(), AllocError>
-    requires all { (f : Text) → IsSome (value_at features.old f) → Among (texts_now names.now) f }
-    requires once { IsOnce (texts_now names.now) }
-    ensures { OnOk result (LosesAll gone.now key.now features.old features.new) }
+    ensures { OnOk result (IsOnce (texts_now names.now)
+        → ChangesAll (Loses gone.now key.now) (texts_now names.now) features.old features.new) }
 {
-    for name in names {
-        lose_at(alloc, features, *name, gone, key)?;
-    }
+    let Some((name, others)) = names.split_first() else {
+        return Ok(());
+    };
+    lose_at(alloc, features, *name, gone, key)?;
+    lose_all(alloc, features, others, gone, key)?;
     Ok(())
 }
 
@@ -141,7 +141,7 @@ fn into_names<'a>(gone: Feature<'a>) -> BTreeSet<&'a str>
     gone.enables_features
 }
 
-// Takes the feature `key` out; `names` has the name of each, once.
+// Takes the feature `key` out; `names` has the name of each feature, once.
 fn remove_one<'a, S: BuildHasher>(
     alloc: Global,
     features: &mut HashMap<&'a str, Feature<'a>, S>,
@@ -149,12 +149,12 @@ fn remove_one<'a, S: BuildHasher>(
     names: &[&'a str],
     key: &'a str,
 ) -> Result<(), AllocError>
-    requires there { IsSome (value_at features.old key.now) }
-    requires all { (f : Text) → IsSome (value_at features.old f) → Among (texts_now names.now) f }
-    requires once { IsOnce (texts_now names.now) }
-    ensures left { OnOk result (TakesOut key.now features.old features.new) }
-    ensures redirect { OnOk result
-        (Redirects key.now (resolution_of features.old) hidden.old hidden.new) }
+    ensures left { OnOk result (IsSome (value_at features.old key.now)
+        → AreNames features.old (texts_now names.now)
+        → TakesOut key.now features.old features.new) }
+    ensures redirect { OnOk result (IsSome (value_at features.old key.now)
+        → AreNames features.old (texts_now names.now)
+        → Redirects key.now (resolution_of features.old) hidden.old hidden.new) }
 {
     if let Some(gone) = features.remove(key) {
         lose_all(alloc, features, names, &gone, key)?;
@@ -163,23 +163,8 @@ fn remove_one<'a, S: BuildHasher>(
     Ok(())
 }
 
-// The names of all features, in whatever order.
-fn names_of<'a, S: BuildHasher>(
-    alloc: Global,
-    features: &HashMap<&'a str, Feature<'a>, S>,
-) -> Result<Vec<&'a str>, AllocError>
-    ensures all { IfOk result (λ v. (f : Text) → IsSome (value_at features.now f)
-        → Among (texts_now v.items) f) }
-    ensures once { IfOk result (λ v. IsOnce (texts_now v.items)) }
-{
-    let mut names = Vec::with_capacity(alloc, features.len())?;
-    for (name, _) in features {
-        names.push(*name)?;
-    }
-    Ok(names)
-}
-
-/// Takes features out one after another, in the order of `removed`.
+/// Takes features out one after another, in the order of `removed`; `names` has the name of each
+/// feature, once.
 ///
 /// At its turn each leaves to others what it says by then. Those that enable it name what it names
 /// and act as it acts. Those that it enables are enabled by what enables it. Those that it names
@@ -189,18 +174,21 @@ pub fn remove_all<'m, S: BuildHasher>(
     alloc: Global,
     features: &mut HashMap<&'m str, Feature<'m>, S>,
     hidden: &mut HashMap<&'m str, BTreeSet<&'m str>, S>,
+    names: &[&'m str],
     removed: &[&'m str],
 ) -> Result<(), AllocError>
-    requires there { (v : Text) → Among (texts_now removed.now) v
-        → IsSome (value_at features.old v) }
-    requires once { IsOnce (texts_now removed.now) }
-    requires none { hidden.old.entries ≡ [] }
-    ensures { OnOk result
-        (AreTakenOut (texts_now removed.now) features.old features.new hidden.new) }
+    ensures { OnOk result ((m : Resolution) (own : Text → List Text)
+        → SameKept m (resolution_of features.old)
+        → ((f : Text) → IsSome (value_at features.old f) → bins_at features.old f ≡ own f)
+        → ((v : Text) → Among (texts_now removed.now) v → IsSome (value_at features.old v))
+        → IsOnce (texts_now removed.now) → AreNames features.old (texts_now names.now)
+        → AreTakenOut m own (texts_now removed.now) features.old features.new
+        hidden.old hidden.new) }
 {
-    let names = names_of(alloc, features)?;
-    for key in removed {
-        remove_one(alloc, features, hidden, names.as_slice(), *key)?;
-    }
+    let Some((key, others)) = removed.split_first() else {
+        return Ok(());
+    };
+    remove_one(alloc, features, hidden, names, *key)?;
+    remove_all(alloc, features, hidden, names, others)?;
     Ok(())
 }

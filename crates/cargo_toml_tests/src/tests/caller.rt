@@ -1,10 +1,8 @@
-//! The proved caller with metadata of its own, `cargo_toml_caller`.
+//! Proved callers of `cargo_toml_bench`, one of them with metadata of its own.
 use cargo_toml::Error;
-use cargo_toml::features::Kind;
-use cargo_toml_caller::custom::is_named;
-use cargo_toml_caller::dependencies::{is_optional_at, kind_from};
-use cargo_toml_caller::limited::resolve_limited;
-use cargo_toml_caller::{Audience, audience_of, rewrite};
+use cargo_toml_bench::audience::{Audience, audience_of, rewrite};
+use cargo_toml_bench::pairs::{is_named, is_optional_at};
+use cargo_toml_bench::whole::{keep_a, resolve_by};
 use cargo_toml_held::HeldManifest;
 use std::alloc::Global;
 use std::collections::HashMap;
@@ -28,21 +26,20 @@ fn metadata_read_and_written(rt: HostRuntime) -> Result<(), Fail> {
 }
 
 // The key `a` stands among the dependencies of tests, and before those in the build
-// dependencies of a platform. Of `_internal`, `_other` and `f` the first two count at the limit,
+// dependencies of a platform. Of `_a`, `_other` and `f` the first two count at the limit,
 // and the filter keeps the first.
 #[test]
 fn first_dependencies_and_limit(rt: HostRuntime) -> Result<(), Fail> {
     let alloc = rt.alloc();
-    let text = b"[features]\n_internal = []\n_other = []\nf = [\"a/x\"]\n\
+    let text = b"[features]\n_a = []\n_other = []\nf = [\"a/x\"]\n\
         [dev-dependencies]\na = \"1\"\n\
         [target.'cfg(unix)'.build-dependencies]\na = { version = \"2\", optional = true }\n";
-    assert_eq!(rt; kind_from(alloc, text, "a")?, Some(Kind::Build));
-    assert_eq!(rt; kind_from(alloc, text, "x")?, None);
     let held = HeldManifest::from_slice(alloc, text)?;
     assert_eq!(rt; is_optional_at(alloc, &*held.manifest, "a")?, Some(true));
     assert_eq!(rt; is_optional_at(alloc, &*held.manifest, "f")?, None);
-    let resolved = resolve_limited(alloc, &*held.manifest, 2)?;
-    assert!(rt; resolved.features.contains_key("_internal"));
+    let keep = keep_a;
+    let resolved = resolve_by(alloc, Some(&keep), &*held.manifest, 2)?;
+    assert!(rt; resolved.features.contains_key("_a"));
     assert!(rt; !resolved.features.contains_key("f"));
     Ok(())
 }

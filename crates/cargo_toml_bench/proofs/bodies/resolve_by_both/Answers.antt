@@ -1,18 +1,35 @@
-use Rattle.std.proofs.Common.{false, refl}
+use Rattle.std.proofs.Common.{ℕ, Bool, IsTrue}
+use Rattle.cargo_toml.specs.Action.{Text}
+use Rattle.cargo_toml.specs.Admitted.{admitted}
+use Rattle.cargo_toml.specs.Manifests.{ManifestMeaning, manifest_meaning}
+use Rattle.cargo_toml.specs.OwnBins.{own_of}
+use Rattle.cargo_toml.specs.Parsed.{IsParsed, parsed_entries, parsed_table, requirements}
+use Rattle.cargo_toml.specs.Removal.{is_removed}
+use Rattle.cargo_toml.specs.Resolved.{Answer}
 use Rattle.cargo_toml.specs.Limits.{MAX_ITEMS}
-use Rattle.cargo_toml.specs.Manifests.{manifest_meaning}
 use Rattle.cargo_toml.specs.Views.{answer_of}
-use Rattle.cargo_toml_bench.proofs.SameAnswers.{parsed_alike}
+use Rattle.cargo_toml_graph.proofs.InByteOrder.{passed_once}
+use Rattle.cargo_toml_features.proofs.Agreement.{settled}
+use Rattle.cargo_toml_bench.specs.Alike.{AreAlike}
 use Rattle.cargo_toml_bench.proofs.bodies.resolve_by_both.Goals as goal
 
-pub returns-clause-alike : goal.returns-clause-alike
-returns-clause-alike g c =
-    let m = manifest_meaning (λ m. m) c.args.manifest.now in
-    parsed_alike MAX_ITEMS m (λ _. false)
-    (answer_of c.in_ok-called.called) (answer_of c.in_ok-plain.plain)
-    c.in_ok-called.ensures.resolved
-    (c.in_ok-plain.ensures.resolved (λ _. false) (λ n. refl))
+-- Two answers to one manifest.
+module _ {M : Type 0} (limit : ℕ) (m : ManifestMeaning M) (keep : Text → Bool) (a b : Answer) where
+  parsed_alike : IsParsed limit m keep a → IsParsed limit m keep b → AreAlike a b
+  parsed_alike h k =
+      let t = parsed_table limit m in
+      let own = own_of (requirements m) in
+      record {
+        agree = settled (admitted limit m.features) (parsed_entries limit m)
+            m.feature_details m.feature_details own own keep a b h k;
+        bins = λ f there. passed_once t (λ r. IsTrue (is_removed t keep r)) own a.bins b.bins
+            h.passed_on k.passed_on f ((h.kept.resolved.kept f).0 there);
+      }
 
-pub returns-clause-plain : goal.returns-clause-plain
-returns-clause-plain g c =
-    c.in_ok-plain.ensures.resolved (λ _. false) (λ n. refl)
+pub returns-clause-alike : goal.returns-clause-alike
+returns-clause-alike g c = λ keep tells.
+    let m = manifest_meaning (λ m. m) c.args.manifest.now in
+    parsed_alike MAX_ITEMS m keep (answer_of c.in_ok-called.called) (answer_of c.in_ok-plain.plain)
+    (c.in_ok-called.ensures.resolved keep tells)
+    (c.in_ok-plain.ensures (admitted MAX_ITEMS m.features) (parsed_entries MAX_ITEMS m)
+    m.feature_details (own_of (requirements m)) keep tells c.in_ok-resolve_whole.ensures.resolved)

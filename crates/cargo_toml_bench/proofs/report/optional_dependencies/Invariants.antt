@@ -1,7 +1,13 @@
-use Rattle.std.proofs.Common.{◌≡◌, ◌++◌, map}
+use Rattle.std.proofs.Common.{◌≡◌, ◌++◌, map, String, string_bytes, Global}
+use Rattle.cargo_toml.specs.Action.{Text}
+use Rattle.cargo_toml.specs.Dependency.{Dependency}
+use Rattle.cargo_toml.specs.Dependencies.{DependencyMeaning, dependency_meaning}
 use Rattle.cargo_toml_bench.specs.Reports.{texts, optional_keys}
-use Rattle.cargo_toml_bench.proofs.Entries.{entry_meaning}
 use Rattle.cargo_toml_bench.proofs.report.optional_dependencies.Given as goal
+
+-- what an entry of a table of dependencies holds
+abbrev pub entry_meaning : String Global × Dependency → Text × DependencyMeaning
+entry_meaning e = (string_bytes e.0, dependency_meaning e.1)
 
 abbrev pub invariant-loop-key : goal.invariant-loop-key
 invariant-loop-key l = texts l.optional ++ optional_keys (map entry_meaning l.key-iterator) ≡ optional_keys (map entry_meaning l.dependencies.entries)

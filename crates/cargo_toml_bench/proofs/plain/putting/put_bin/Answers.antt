@@ -1,12 +1,17 @@
-use Rattle.std.proofs.Common.{rules, bytes_eq, ◌≡◌, true, false, Bor, ap, sym, ◌∙◌}
+use Rattle.std.proofs.Common.{◌≡◌, ◌||◌, List, [], ◌∷◌, bytes_eq, refl, ap₂, rules, true, false, Bor, ap, sym, ◌∙◌}
 use Rattle.std.proofs.lemmas.Bool.{cond-true, cond-false}
 use Rattle.std.proofs.lemmas.List.{map_push}
 use Rattle.std.specs.List.{list_any}
 use Rattle.cargo_toml_graph.specs.Action.{Text}
 use Rattle.cargo_toml_graph.specs.Removal.{lists_text}
+use Rattle.cargo_toml_graph.proofs.Texts.{bytes_eq_sym}
 use Rattle.cargo_toml_resolve.specs.Texts.{texts_now}
-use Rattle.cargo_toml_bench.proofs.Put.{among_texts}
 use Rattle.cargo_toml_bench.proofs.plain.putting.put_bin.Goals as goal
+
+-- What stands in a list of texts.
+among_texts : (ks : List (Bor Text)) (x : Text) → list_any (λ k. bytes_eq k.now x) ks ≡ lists_text (texts_now ks) x
+among_texts [] x = refl
+among_texts (k ∷ ks) x = ap₂ (λ a b. a || b) (bytes_eq_sym k.now x) (among_texts ks x)
 
 pub returns-in_ok-push : goal.returns-in_ok-push
 returns-in_ok-push c =

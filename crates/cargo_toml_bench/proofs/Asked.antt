@@ -1,0 +1,33 @@
+-- What a resolver answers, by its filter and at its limit.
+use Rattle.std.proofs.Common.{◌≡◌, ℕ, Bool, List, Option, Some, None, false, is_some, Bor, refl, sym, ap, subst}
+use Rattle.std.proofs.lemmas.Bool.{false≢true}
+use Rattle.cargo_toml.specs.Action.{Text}
+use Rattle.cargo_toml.specs.Admitted.{Listed}
+use Rattle.cargo_toml.specs.Filter.{Asked, FilterTells}
+use Rattle.cargo_toml.specs.Manifests.{ManifestMeaning}
+use Rattle.cargo_toml.specs.Marks.{NamedDetails}
+use Rattle.cargo_toml.specs.Parsed.{AreBinsComplete, IsAnswerFor, IsParsed, parsed_table}
+use Rattle.cargo_toml.specs.Recorded.{Entry}
+use Rattle.cargo_toml.specs.Removal.{is_removed}
+use Rattle.cargo_toml.specs.Resolved.{Answer}
+
+-- without a filter no hidden name is kept
+pub tells_none : {F : Type 0} (g : Asked F) (filter : Option (Bor F)) (keep : Text → Bool) → filter ≡ None → ((n : Text) → keep n ≡ false) → FilterTells g filter keep
+tells_none g None keep e none = none
+tells_none g (Some f) keep e none = absurd (false≢true (sym (ap is_some e)))
+
+pub keeps_none : {F : Type 0} (g : Asked F) (filter : Option (Bor F)) → filter ≡ None → FilterTells g filter (λ _. false)
+keeps_none g filter e = tells_none g filter (λ _. false) e (λ n. refl)
+
+module _ (keep : Text → Bool) (a : Answer) {n k : ℕ} (limit : n ≡ k) where
+  pub parsed_at : {M : Type 0} (m : ManifestMeaning M) → IsParsed n m keep a → IsParsed k m keep a
+  parsed_at m is = subst (λ n. IsParsed n m keep a) limit is
+
+  -- what something stands for is what the test doesn't keep
+  pub complete_at : {M : Type 0} (m : ManifestMeaning M) → IsParsed n m keep a → AreBinsComplete n m (λ r. is_some (a.redirects r)) a → AreBinsComplete k m (is_removed (parsed_table k m) keep) a
+  complete_at m is are =
+      subst (λ n. AreBinsComplete n m (is_removed (parsed_table n m) keep) a) limit
+      (subst (λ removed. AreBinsComplete n m removed a) (λ i r. is.redirected r i) are)
+
+  pub answered_at : (listed : Listed) (entries : List Entry) (details : NamedDetails) (own : Text → List Text) → IsAnswerFor n listed entries details own keep a → IsAnswerFor k listed entries details own keep a
+  answered_at listed entries details own is = subst (λ n. IsAnswerFor n listed entries details own keep a) limit is

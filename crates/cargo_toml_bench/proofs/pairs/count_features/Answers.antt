@@ -1,0 +1,99 @@
+use Rattle.std.proofs.Common.{◌≡◌, ℕ, false, Option, Some, None, Result, Ok, IsSome, IfSome, Bor, sym, subst, ◌||◌, List, [], ◌∷◌, map, bytes_eq, is_some, refl, ap, inl, inr, ◌∙◌}
+use Rattle.std.proofs.lemmas.Bool.{false≢true}
+use Rattle.std.proofs.lemmas.List.{length-map}
+use Rattle.std.proofs.lemmas.Map.Made.{is_some-lookup}
+use Rattle.std.proofs.lemmas.Slice.Eq.{bytes_eq-Decides}
+use Rattle.std.specs.HashMap.{HashMap, IsUnique, hash_map_len}
+use Rattle.std.specs.List.{AllByRecursion, IsDistinct, list_any}
+use Rattle.cargo_toml.specs.Error.{Error}
+use Rattle.cargo_toml.specs.Filter.{Asked}
+use Rattle.cargo_toml.specs.Completing.{Outcome}
+use Rattle.cargo_toml.specs.Lent.{IsLeft, IsResolvedAfter, with_lent}
+use Rattle.cargo_toml.specs.Limits.{MAX_ITEMS}
+use Rattle.cargo_toml.specs.Manifest.{Manifest}
+use Rattle.cargo_toml.specs.Manifests.{ManifestMeaning, held}
+use Rattle.cargo_toml.specs.Parsed.{IsParsed, IsParsedBy, parsed_table}
+use Rattle.cargo_toml.specs.Views.{answer_of, resolution_of, value_at}
+use Rattle.cargo_toml.specs.Action.{Text}
+use Rattle.cargo_toml.specs.Feature.{Feature}
+use Rattle.cargo_toml.specs.Graph.{IsResolved}
+use Rattle.cargo_toml.specs.Reach.{Among, IsOnce}
+use Rattle.cargo_toml_features.specs.declared.features.Features.{Features}
+use Rattle.cargo_toml_bench.proofs.Asked.{keeps_none, parsed_at}
+use Rattle.cargo_toml_graph.specs.Removal.{lists_text}
+use Rattle.cargo_toml_graph.proofs.BinLists.{among-true, is_among-true}
+use Rattle.cargo_toml_resolve.specs.Texts.{texts_now}
+use Rattle.cargo_toml_bench.specs.Pairs.{IsFeatureCount, IsHidden}
+use Rattle.cargo_toml_bench.proofs.pairs.count_features.Goals as goal
+
+-- What is resolved of a manifest that was lent is resolved of the manifest that is left.
+module _ {M F S H : Type 0} (old new : Manifest M) (outcome : Outcome (ManifestMeaning M)) (g : Asked F) (filter : Option (Bor F)) (limit : ℕ) where
+  -- what is told of an answer that may be there
+  abbrev Told : Option (Result (Bor (Manifest M) × Features S H) Error) → Type 0
+  Told answer = IfSome answer (IsResolvedAfter outcome limit g filter)
+
+  told_of : (lent : Option (Bor (Manifest M))) (a : Features S H) → IsLeft old lent new → IsSome (with_lent lent (Some (Ok a)))
+      → Told (with_lent lent (Some (Ok a))) → IsParsedBy limit (held new) g filter (answer_of a)
+  told_of None a left there told = absurd (false≢true there)
+  told_of (Some lent) a left there told = subst (λ m. IsParsedBy limit (held m) g filter (answer_of a)) (sym left) told.features.parsed
+
+  parsed_of_left : filter ≡ None → limit ≡ MAX_ITEMS → (lent : Option (Bor (Manifest M))) (slot : Option (Result (Features S H) Error)) (a : Features S H)
+      → IsLeft old lent new → slot ≡ Some (Ok a) → IsSome (with_lent lent slot) → Told (with_lent lent slot)
+      → IsParsed MAX_ITEMS (held new) (λ _. false) (answer_of a)
+  parsed_of_left unfiltered same lent slot a left is there told =
+      let by : IsParsedBy limit (held new) g filter (answer_of a) =
+      told_of lent a left (subst (λ s. IsSome (with_lent lent s)) is there) (subst (λ s. Told (with_lent lent s)) is told) in
+      parsed_at (λ _. false) (answer_of a) same (held new) (by.told (λ _. false) (keeps_none g filter unfiltered))
+
+-- How many features a map has: their names, each once.
+listed_keys : (ks : List (Bor Text)) (f : Text) → lists_text (texts_now ks) f ≡ list_any (λ (k : Bor Text). bytes_eq f k.now) ks
+listed_keys [] f = refl
+listed_keys (k ∷ ks) f = ap (λ b. bytes_eq f k.now || b) (listed_keys ks f)
+
+apart_all : (k : Bor Text) (ks : List (Bor Text)) → AllByRecursion (λ y. bytes_eq k.now y.now ≡ false) ks → ¬ Among (texts_now ks) k.now
+apart_all k [] a i = i
+apart_all k (y ∷ ks) a (inl s) = false≢true (sym a.0 ∙ (bytes_eq-Decides k.now y.now).1 s)
+apart_all k (y ∷ ks) a (inr i) = apart_all k ks a.1 i
+
+once_keys : (ks : List (Bor Text)) → IsDistinct (λ x y. bytes_eq x.now y.now) ks → IsOnce (texts_now ks)
+unfolding IsDistinct
+once_keys [] d = tt
+once_keys (k ∷ ks) d = (apart_all k ks d.0, once_keys ks d.1)
+
+module _ {S : Type 0} (m : HashMap (Bor Text) Feature S) where
+  abbrev keys : List (Bor Text)
+  keys = map (λ e. e.0) m.entries
+
+  key_listed : (f : Text) → lists_text (texts_now keys) f ≡ is_some (value_at m f)
+  key_listed f = listed_keys keys f ∙ sym (is_some-lookup (λ (k : Bor Text). bytes_eq f k.now) m.entries)
+
+  key_once : IsUnique (λ x y. bytes_eq x.now y.now) m → IsOnce (texts_now keys)
+  key_once u = once_keys keys u
+
+module _ {S M : Type 0} (m : ManifestMeaning M) (features : HashMap (Bor Text) Feature S)
+    (resolved : IsResolved (parsed_table MAX_ITEMS m) (IsHidden (parsed_table MAX_ITEMS m)) (resolution_of features)) where
+  counted : (count : ℕ) → count ≡ hash_map_len features → IsUnique (λ x y. bytes_eq x.now y.now) features → IsFeatureCount m count
+  counted count long unique = record {
+    names = texts_now (keys features);
+    once = key_once features unique;
+    exact = λ f. (
+      λ i. (resolved.kept f).0 (sym (key_listed features f) ∙ among-true (texts_now (keys features)) f i),
+      λ k. is_among-true (texts_now (keys features)) f (key_listed features f ∙ (resolved.kept f).1 k),
+    );
+    counted = long ∙ sym (length-map (keys features) _ ∙ length-map features.entries _);
+  }
+
+pub returns-in-Some-Ok-clause-counted : goal.returns-in-Some-Ok-clause-counted
+returns-in-Some-Ok-clause-counted g c =
+    let made = c.new-resolver.ensures in
+    let resolver = c.new-resolver.result in
+    let into = c.complete_and_parse_into in
+    let resolved = c.in-Some-Ok.resolved in
+    let member = into.follows.lender-at-none in
+    let parsed : IsParsed MAX_ITEMS (held member) (λ _. false) (answer_of resolved) =
+    parsed_of_left c.args.member.now member _ _ resolver.should_keep_hidden_feature
+    resolver.max_items made.unfiltered made.limit into.result into.new.slot resolved
+    into.follows.holds-at-none (c.in-Some-Ok.is ∙ ap Some c.in-Some-Ok.field-0-is)
+    into.ensures.answered into.ensures.resolved in
+    counted (held member) resolved.features parsed.kept.resolved c.len.result c.len.ensures.len
+    c.len.ensures.unique

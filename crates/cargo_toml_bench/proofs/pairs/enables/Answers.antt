@@ -1,0 +1,62 @@
+use Rattle.std.proofs.Common.{◌≡◌, ◌↔◌, Bool, false, Bor, IsTrue, Some, None, is_some, sym, ap, subst, ◌∙◌, true}
+use Rattle.std.proofs.lemmas.Bool.{false≢true}
+use Rattle.std.specs.HashMap.{HashMap}
+use Rattle.std.specs.Option.{option_copied}
+use Rattle.cargo_toml.specs.Action.{Text}
+use Rattle.cargo_toml.specs.Feature.{Feature}
+use Rattle.cargo_toml.specs.Graph.{Table, IsResolved}
+use Rattle.cargo_toml.specs.Reached.{AreEnabled, Found, IsKeyed}
+use Rattle.cargo_toml.specs.Recursive.{Enables}
+use Rattle.cargo_toml.specs.Views.{resolution_of, table_in, value_at}
+use Rattle.cargo_toml.specs.Limits.{MAX_ITEMS}
+use Rattle.cargo_toml.specs.Manifests.{manifest_meaning}
+use Rattle.cargo_toml.specs.Parsed.{parsed_table}
+use Rattle.cargo_toml.specs.Removal.{is_removed}
+use Rattle.cargo_toml_features.proofs.Pending.{key_of}
+use Rattle.cargo_toml_features.proofs.Unremoved.{enables_in, enables_out, held, there}
+use Rattle.cargo_toml_bench.specs.Pairs.{HasEnabling}
+use Rattle.cargo_toml_bench.proofs.Unreferenced.{nothing_removed}
+use Rattle.cargo_toml_bench.proofs.pairs.enables.Goals as goal
+
+-- What the walk over a map of features tells, where none is removed, is what the table tells.
+module _ {S : Type 0} (m : HashMap (Bor Text) Feature S) (t : Table) (Removed : Text → Type 0)
+    (none : (f : Text) → ¬ Removed f) (resolved : IsResolved t Removed (resolution_of m))
+    (name other : Text) where
+  -- the feature under the name enables those that are found
+  told_in : IsKeyed m → (v : Feature) → value_at m name ≡ Some v → (found : Found S)
+      → AreEnabled m v.key.now found → (answer : Bool) → answer ≡ is_some (value_at found other)
+      → IsTrue answer ↔ HasEnabling t name other
+  told_in keyed v here found enabled answer told =
+      let key : v.key.now ≡ name = key_of m keyed name v here in
+      let known = there m t Removed none resolved name (ap is_some here) in (
+        λ y. (
+          known,
+          enables_in m t Removed none resolved known
+              (subst (λ f. Enables (table_in m) f other) key ((enabled other).0 (sym told ∙ y))),
+        ),
+        λ h. told ∙ (enabled other).1 (subst (λ f. Enables (table_in m) f other) (sym key)
+            (enables_out m t Removed none resolved h.0 h.1)),
+      )
+
+  -- no feature has the name
+  missing_in : value_at m name ≡ None → IsTrue false ↔ HasEnabling t name other
+  missing_in missing = (
+    λ y. absurd (false≢true y),
+    λ h. absurd (false≢true (sym (ap is_some missing) ∙ held m t Removed none resolved name h.0)),
+  )
+
+pub returns-in_default-clause-answer : goal.returns-in_default-clause-answer
+returns-in_default-clause-answer g c =
+    let t = parsed_table MAX_ITEMS (manifest_meaning (λ m. m) c.args.manifest.now) in
+    missing_in c.in_ok-resolved.resolved.features t (λ x. IsTrue (is_removed t (λ _. true) x))
+    (nothing_removed t) c.in_ok-resolved.ensures.resolved.kept.resolved c.args.name.now
+    c.args.other.now (sym c.get.ensures.value ∙ ap option_copied c.in_default.is)
+
+pub returns-clause-answer : goal.returns-clause-answer
+returns-clause-answer g c =
+    let t = parsed_table MAX_ITEMS (manifest_meaning (λ m. m) c.args.manifest.now) in
+    told_in c.in_ok-resolved.resolved.features t (λ x. IsTrue (is_removed t (λ _. true) x))
+    (nothing_removed t) c.in_ok-resolved.ensures.resolved.kept.resolved c.args.name.now
+    c.args.other.now c.in_ok-resolved.ensures.keyed c.in-Some.feature.now
+    (sym c.get.ensures.value ∙ ap option_copied c.in-Some.is) c.in_ok-features.features
+    c.in_ok-features.ensures.features c.contains_key.result c.contains_key.ensures

@@ -1,0 +1,50 @@
+-- What calls that are made one after another tell of a manifest.
+use Rattle.std.specs.Prelude.{◌≡◌, ◌↔◌, ℕ, Bool, false, IsTrue, List, Option, length}
+use Rattle.cargo_toml.specs.Action.{Text}
+use Rattle.cargo_toml.specs.Admitted.{Listed, admitted}
+use Rattle.cargo_toml.specs.Dependencies.{DependencyMeaning}
+use Rattle.cargo_toml.specs.Graph.{Table, IsKept, KeepsName}
+use Rattle.cargo_toml.specs.Limits.{MAX_ITEMS}
+use Rattle.cargo_toml.specs.Manifests.{ManifestMeaning}
+use Rattle.cargo_toml.specs.Parsed.{parsed_entries, parsed_table}
+use Rattle.cargo_toml.specs.Reach.{Among, IsOnce}
+use Rattle.cargo_toml.specs.Recorded.{Entry, entries_at, first_target}
+use Rattle.cargo_toml.specs.Recursive.{Enables}
+use Rattle.cargo_toml.specs.Removal.{is_removed}
+use Rattle.cargo_toml.specs.Resolved.{table_of}
+
+-- a hidden feature
+abbrev pub IsHidden : Table → Text → Type 0
+IsHidden t f = IsTrue (is_removed t (λ _. false) f)
+
+-- the table has the feature f, which enables g
+abbrev pub HasEnabling : Table → Text → Text → Type 0
+HasEnabling t f g = IsTrue (t.has f) × Enables t f g
+
+-- f is left without the hidden features, and it or a hidden one that it reaches names x
+abbrev pub LeavesName : Table → Text → Text → Type 0
+LeavesName t f x = IsKept t (IsHidden t) f × KeepsName t (IsHidden t) f x
+
+-- the answer says so of the features that are listed and the entries
+abbrev pub IsNamed : Listed → List Entry → Text → Text → Bool → Type 0
+IsNamed listed entries f x answer =
+    IsTrue answer ↔ LeavesName (table_of (admitted MAX_ITEMS listed) entries) f x
+
+module _ {M : Type 0} (m : ManifestMeaning M) where
+  -- the answer says whether f enables g
+  abbrev pub IsEnabling : Text → Text → Bool → Type 0
+  IsEnabling f g answer = IsTrue answer ↔ HasEnabling (parsed_table MAX_ITEMS m) f g
+
+  -- the first of the entries of the key that count; nothing where none does
+  abbrev pub first_under : Text → Option DependencyMeaning
+  first_under key =
+      first_target (entries_at (admitted MAX_ITEMS m.features) (parsed_entries MAX_ITEMS m) key)
+
+  -- there are so many features without the hidden ones: as many as a list has that holds each of
+  -- them once
+  pub record IsFeatureCount (count : ℕ) : Type 0 where
+    pub names : List Text
+    pub once : IsOnce names
+    pub exact : (f : Text) → Among names f
+        ↔ IsKept (parsed_table MAX_ITEMS m) (IsHidden (parsed_table MAX_ITEMS m)) f
+    pub counted : count ≡ length names

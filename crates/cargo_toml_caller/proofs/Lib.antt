@@ -1,5 +1,0 @@
-mod Unfiltered
-mod AtLimit
-mod Kept
-mod Written
-mod First

@@ -1,0 +1,8 @@
+use Rattle.std.proofs.Common.{◌≡◌, ◌++◌, codes, map, string_bytes, take}
+use Rattle.std.specs.List.{flat_map}
+use Rattle.cargo_toml_program.proofs.completion.write_texts.Given as goal
+
+abbrev pub invariant-loop-item : goal.invariant-loop-item
+invariant-loop-item l =
+    string_bytes l.text
+    ≡ string_bytes l.initial.text ++ flat_map (λ t. codes ", " ++ t) (map string_bytes (take l.item-index l.rest))

@@ -17,7 +17,9 @@ ghost use Rattle.cargo_toml_bench.specs.Pairs.{IsEnabling, IsFeatureCount, IsNam
 
 use crate::whole::resolve_whole;
 use cargo_toml::features::{ParseDependency, Resolver, complete_and_parse_into};
-use cargo_toml::{AbstractFilesystem, Edition, Error, FromValue, Manifest, Product, ToValue, Value};
+use cargo_toml::{
+    AbstractFilesystem, Edition, Error, FromValue, Manifest, Product, ToValue, Value,
+};
 use std::alloc::Global;
 use std::collections::HashMap;
 use std::hash::BuildHasher;

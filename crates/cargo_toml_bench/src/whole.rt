@@ -55,7 +55,9 @@ pub fn resolve_by<'m, M, F: Fn(&str) -> bool>(
     ensures refused { IfErr result (λ e. e ≡ Memory) }
 {
     let Some(filter) = filter else {
-        return Resolver::new().with_max_items(max_items).parse(alloc, manifest);
+        return Resolver::new()
+            .with_max_items(max_items)
+            .parse(alloc, manifest);
     };
     let resolver = Resolver::new_with_hasher_and_filter(BuildHasherDefault::new(), filter);
     resolver.with_max_items(max_items).parse(alloc, manifest)

@@ -173,7 +173,10 @@ pub fn whole(alloc: Global, bytes: &[u8]) -> Result<String, Error> {
 pub fn kept(alloc: Global, bytes: &[u8]) -> Result<String, Error> {
     let held = HeldManifest::from_slice(alloc, bytes)?;
     let keep = keep_a;
-    lines_of(alloc, resolve_by(alloc, Some(&keep), &*held.manifest, 2048)?)
+    lines_of(
+        alloc,
+        resolve_by(alloc, Some(&keep), &*held.manifest, 2048)?,
+    )
 }
 
 /// What the proved caller prints of the manifest.

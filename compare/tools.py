@@ -125,55 +125,91 @@ def package_value(key, package, workspace):
 # index
 
 
-def index(path, checksum=None):
+def index(path, options=None):
+    """The line of the crate, by the options that a row has in files of these names."""
+    options = options or {}
+    own = options.get("registry", CRATES_IO)
+    names = {"crates-io": CRATES_IO} | dict(options.get("names", []))
     manifest = load(path)
-    workspace = root_of(path, manifest)
     if "package" not in manifest:
         raise Refused("there is no package")
+    workspace = root_of(path, manifest)
     package = manifest["package"]
     version = package_value("version", package, workspace)
     if version is None:
         raise Refused("the package has no version")
+    deps = [entry for entry in entries(manifest, workspace, own, names) if entry]
+    if "force" not in options:
+        check_choices(manifest, package_value("publish", package, workspace), own, names)
+    kept = {entry["name"] for entry in deps}
     features = manifest.get("features", {})
-    lists = {name: enabled_by(value) for name, value in features.items()}
+    lists = {name: kept_texts(enabled_by(value), kept) for name, value in features.items()}
     later = {name for name, texts in lists.items() if any(map(is_of_second_version, texts))}
     line = {
         "name": package["name"],
         "vers": version,
-        "deps": [entry for entry in entries(manifest, workspace) if entry],
-        "features": {name: texts for name, texts in lists.items() if name not in later},
+        "deps": deps,
+        "features": {name: [] if name in later else texts for name, texts in lists.items()},
         "yanked": False,
         "links": package.get("links"),
         "rust_version": package_value("rust-version", package, workspace),
     }
     if later:
         line |= {"features2": {name: lists[name] for name in later}, "v": 2}
-    if checksum:
-        line["cksum"] = checksum
+    if "checksum" in options:
+        line["cksum"] = options["checksum"]
     return json.dumps(line, ensure_ascii=False, separators=(",", ":"), sort_keys=True) + "\n"
+
+
+def check_choices(manifest, publish, own, names):
+    """Refuses what isn't published there, and features with an error."""
+    if publish is False or (
+        isinstance(publish, list) and own not in [names.get(name) for name in publish]
+    ):
+        raise Refused("the package isn't published in this registry")
+    found = Lint(manifest).found()
+    for code in sorted(found):
+        if WORDS_OF[code][0] == "error" and found[code]:
+            name = in_order(name for name, _ in found[code])[0]
+            raise Refused(f"lint finds an error of the feature {name}")
+
+
+def kept_texts(texts, kept):
+    """What stays of a list: no action on a dependency that the line hasn't."""
+    mentions = [(text, mention(text)) for text in texts]
+    return [text for text, (key, action) in mentions if not action or key in kept]
 
 
 def is_of_second_version(text):
     return text.startswith("dep:") or "?/" in text
 
 
-def entries(manifest, workspace):
-    for _, kind, target, table in tables(manifest):
+def entries(manifest, workspace, own, names):
+    targets = manifest.get("target", {})
+    # in the order of Cargo, which has build-dependencies of a target before its dev-dependencies
+    every = [*list(tables(manifest))[:3], *list(tables_to_fill(manifest))[3:]]
+    for name, kind, target, table in every:
+        other = name.replace("-", "_")
+        if other != name and other in (manifest if target is None else targets[target]):
+            raise Refused(f"the table {other} has `_` in its name")
         for key in in_order(table):
-            yield entry(key, kind, target, filled(key, table[key], workspace))
+            value = filled(key, table[key], workspace)
+            if "default_features" in value or "default_features" in detail(table[key]):
+                raise Refused(f"the dependency {key} has `default_features`")
+            if is_inherited(table[key]) and table[key].get("default-features") is True:
+                value["default-features"] = True
+            yield entry(key, kind, target, value, own, names)
 
 
-def entry(key, kind, target, value):
+def entry(key, kind, target, value, own, names):
     text = value.get("version")
     if text is None and ("path" in value or "git" in value):
         if kind == "dev":
             return None
         raise Refused(f"the dependency {key} has no version")
-    registry = value.get("registry-index")
-    if registry is None and "registry" in value:
-        if value["registry"] != "crates-io":
-            raise Refused(f"the registry of the dependency {key} has no address")
-        registry = CRATES_IO
+    registry = value.get("registry-index", names.get(value.get("registry", "crates-io")))
+    if registry is None:
+        raise Refused(f"the registry of the dependency {key} has no address")
     made = {
         "name": key,
         "req": requirement(text or "*"),
@@ -182,9 +218,9 @@ def entry(key, kind, target, value):
         "default_features": value.get("default-features", True),
         "target": target,
         "kind": kind,
-        "registry": registry,
+        "registry": None if registry == own else registry,
     }
-    return made | ({"package": value["package"]} if value.get("package", key) != key else {})
+    return made | ({"package": value["package"]} if "package" in value else {})
 
 
 # escapes
@@ -348,49 +384,120 @@ class Document(Features):
 
 
 WORDS_OF = {
-    "not-optional": ("error", "uses `dep:` or `?` on a dependency that isn't optional"),
+    "bad-name": ("error", "is no name that Cargo takes for a feature"),
+    "bad-request": ("error", "a dependency is asked for what is no feature's name"),
+    "bad-required": ("error", "a target can't require by `dep:` or `?`"),
+    "bad-text": ("error", "is no text that Cargo takes in a feature's list"),
+    "feature-table": ("error", "is written as a table, which Cargo doesn't read"),
+    "names-itself": ("error", "names itself"),
+    "not-optional": ("error", "takes a dependency for optional that isn't"),
+    "optional-dev": ("error", "a dev-dependency can't be optional"),
+    "reserved": ("error", "names an optional dependency that is no feature, by some `dep:`"),
     "same-name": (
         "error",
-        "has the name of an optional dependency that no feature names by `dep:`",
+        "has the name of an optional dependency that no feature acts on",
     ),
-    "unknown": ("error", "names or requires what the manifest doesn't have"),
+    "unknown": ("error", "names or acts on what the manifest doesn't have"),
     "implied": (
         "hint",
         "an optional dependency that no feature names by `dep:` is a feature for users",
     ),
     "private-default": ("hint", "only `default` enables this hidden or private feature"),
     "cycle": ("warning", "enables itself through others"),
-    "over-limit": ("warning", "has a name or actions beyond the limit"),
+    "missing": ("warning", "a target requires what the manifest doesn't have"),
+    "over-limit": ("warning", "is beyond the limit, or some of its texts are"),
     "unreachable": ("warning", "no feature for users leads to this hidden one"),
 }
+PRODUCTS = ["bin", "example", "test", "bench"]
+
+
+def is_name(text):
+    """Whether Cargo takes a text for the name of a feature."""
+    if not text or not (text[0].isidentifier() or text[0] in "0123456789"):
+        return False
+    return all(c in "-+." or f"a{c}".isidentifier() for c in text)
+
+
+def is_bad(text):
+    """Whether a text is of no form that Cargo knows."""
+    _, slash, feature = text.partition("/")
+    return text.startswith("dep:") or not is_name(feature) if slash else text.endswith("?")
 
 
 class Lint(Features):
-    """What is odd of a manifest's features, each as the name of a finding's code and a feature."""
+    """What is odd of a manifest's features, each as the name of a finding's code, with features and
+    texts."""
 
     def __init__(self, manifest, limit=LIMIT):
+        self.written = manifest.get("features", {})
         super().__init__(manifest, limit)
         mentions = [mention(text) for texts in self.lists.values() for text in texts]
+        self.acted = {key for key, action in mentions if action}
         self.reserved = {key for key, action in mentions if action and action[1]}
-        bins = manifest.get("bin", [])
-        self.required = [text for bin in bins for text in bin.get("required-features", [])]
-        self.limit = limit
+        self.manifest, self.limit = manifest, limit
 
-    def is_unknown(self, text, names):
+    def of_text(self, name, text):
+        """The code of what is wrong with a text in the list of a feature."""
         key, action = mention(text)
-        return key not in (self.dependencies if action else names)
+        if is_bad(text):
+            return "bad-text"
+        if action is None and key == name:
+            return "names-itself"
+        if action is None and key in self.lists:
+            return None
+        if action is None and key in self.optional:
+            return "reserved" if key in self.reserved else None
+        if key not in self.dependencies:
+            return "unknown"
+        is_marked = action is None or action[0] or action[1]
+        return "not-optional" if is_marked and key not in self.optional else None
 
-    def is_not_optional(self, text):
+    def of_required(self, text):
+        front, slash, _ = text.partition("/")
+        if front.endswith("?") if slash else text.startswith("dep:"):
+            return "bad-required"
         key, action = mention(text)
-        is_marked = bool(action) and (action[0] or action[1])
-        return is_marked and key in self.dependencies - self.optional
+        names = self.lists.keys() | self.optional - self.reserved
+        is_there = key in (self.dependencies if action else names)
+        return None if is_there and not is_bad(text) else "missing"
 
-    def found(self):
-        graph, lists = self.graph, self.lists
+    def of_lists(self):
+        """Of features as they are written: codes, each with a feature and a text."""
+        for name, texts in self.lists.items():
+            if not is_name(name):
+                yield "bad-name", name, ""
+            if name in self.optional - self.acted:
+                yield "same-name", name, ""
+            if name not in self.graph.explicit or len(texts) > self.limit:
+                yield "over-limit", name, ""
+            for text in texts:
+                yield self.of_text(name, text), name, text
+            table = self.written[name]
+            if isinstance(table, dict) and (table.get("public") is False or "doc" in table):
+                yield "feature-table", name, ""
+
+    def of_dependencies(self):
+        for _, kind, _, table in tables(self.manifest):
+            for place, key in enumerate(in_order(table)):
+                one = detail(table[key])
+                if kind == "dev" and one.get("optional", False):
+                    yield "optional-dev", key, ""
+                if place >= self.limit:
+                    yield "over-limit", key, ""
+                for text in one.get("features", []):
+                    yield None if is_name(text) else "bad-request", key, text
+
+    def of_targets(self):
+        for kind in PRODUCTS:
+            for product in self.manifest.get(kind, []):
+                for text in product.get("required-features", []):
+                    yield self.of_required(text), product.get("name", ""), text
+
+    def of_graph(self):
+        """The features of each code that is about what features turn on."""
+        graph = self.graph
         hidden = {name for name in graph.names if name.startswith("_")}
         private = {name for name, (is_public, _) in graph.said.items() if not is_public}
-        names = lists.keys() | {"default"} | self.optional
-        there = lists.keys() | graph.names.keys()
         turned_on = {name: self.turned_on(name) for name in graph.names}
         reached = {name: self.reached(name) for name in graph.names}
         enablers = {
@@ -398,16 +505,7 @@ class Lint(Features):
             for name in hidden | private
         }
         of_users = set().union(*(reached[name] for name in graph.names.keys() - hidden))
-        admitted = {name for name in graph.explicit if len(lists.get(name, [])) <= self.limit}
         return {
-            "not-optional": {name for name in lists if any(map(self.is_not_optional, lists[name]))},
-            "same-name": lists.keys() & self.optional - self.reserved,
-            "unknown": {
-                name
-                for name in lists
-                if any(self.is_unknown(text, names) for text in lists[name])
-            }
-            | {text for text in self.required if self.is_unknown(text, there)},
             "implied": graph.names.keys() - graph.explicit,
             "private-default": {name for name in enablers if enablers[name] == {"default"}},
             "cycle": {
@@ -415,9 +513,16 @@ class Lint(Features):
                 for name in graph.names
                 if any(name in reached[one] for one in reached[name] - {name})
             },
-            "over-limit": lists.keys() - admitted,
             "unreachable": hidden - of_users,
         }
+
+    def found(self):
+        found = {code: {(name, "") for name in names} for code, names in self.of_graph().items()}
+        for of_kind in self.of_lists, self.of_dependencies, self.of_targets:
+            for code, name, text in of_kind():
+                found.setdefault(code, set()).add((name, text))
+        found.pop(None, None)
+        return found
 
     def lines(self, name=None):
         """The lines, each with the name of the file in front where one is given, and the status."""
@@ -426,8 +531,9 @@ class Lint(Features):
         for code in sorted(found, key=lambda code: (WORDS_OF[code][0], code)):
             level, words = WORDS_OF[code]
             front = "" if name is None else for_line(name) + ": "
-            for feature in in_order(found[code]):
-                text += f"{front}{level} | {code} | {for_line(feature)} | {words}\n"
+            for one in sorted(found[code], key=lambda one: [part.encode() for part in one]):
+                told = " | ".join([level, code, *map(for_line, one), words])
+                text += f"{front}{told}\n"
                 status = status if level == "hint" else 3
         return text, status
 
@@ -619,9 +725,22 @@ WORDS = {
 TELLING = ["lint", "audit", "report"]
 
 
+def options_beside(path):
+    """What a row asks of `index`: texts in files beside its manifest."""
+    options = {}
+    for name in ("registry", "checksum", "force", "names"):
+        beside = os.path.join(os.path.dirname(path), name)
+        if os.path.exists(beside):
+            with open(beside, encoding="utf-8") as file:
+                options[name] = file.read().rstrip()
+    if "names" in options:
+        options["names"] = [line.split("=", 1) for line in options["names"].splitlines()]
+    return options
+
+
 def wanted(tool, path):
     try:
-        return TOOLS[tool](path)
+        return index(path, options_beside(path)) if tool == "index" else TOOLS[tool](path)
     except Refused as why:
         return f"error: {for_line(path)}: {for_line(str(why))}\n"
 

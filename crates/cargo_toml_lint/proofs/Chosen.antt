@@ -1,5 +1,5 @@
 -- Sets of the names that pass a test, as a chain of iterators or a loop makes them.
-use Rattle.std.proofs.Common.{◌≡◌, ◌↔◌, ◌||◌, ◌&&◌, Bool, true, false, cond, Option, None, List, [], ◌∷◌, map, filter, Bor, String, Vec, Global, string_bytes, bytes_eq, IsTrue, refl, sym, ap, ap₂, ◌∙◌}
+use Rattle.std.proofs.Common.{◌≡◌, ◌↔◌, ◌||◌, ◌&&◌, Bool, true, false, cond, Option, None, Some, is_some, List, [], ◌∷◌, map, filter, Bor, String, Vec, Global, string_bytes, bytes_eq, IsTrue, refl, sym, ap, ap₂, ◌∙◌}
 use Rattle.std.proofs.Math.Bool.{and-false}
 use Rattle.std.proofs.lemmas.Bool.{and_from, and_parts}
 use Rattle.std.proofs.lemmas.Iterator.{YieldsList}
@@ -13,12 +13,11 @@ use Rattle.std.specs.Bool.{⊤}
 use Rattle.std.specs.Cmp.Lexicographic.{slice_cmp}
 use Rattle.std.specs.Iterator.{DrainsIf}
 use Rattle.std.specs.List.{list_any}
+use Rattle.std.specs.Map.{lookup}
 use Rattle.std.specs.Ordering.{nat_cmp}
 use Rattle.cargo_toml.specs.Action.{Text}
 use Rattle.cargo_toml.specs.Views.{set_has}
-use Rattle.cargo_toml_features.proofs.Naming.{none_left, none_yet, one_more}
-use Rattle.cargo_toml_features.proofs.TextKeys.{none_in}
-use Rattle.cargo_toml_lint.proofs.Gathered.{has_in, put_if, put_none}
+use Rattle.cargo_toml_lint.proofs.Gathered.{has_in}
 
 -- ---- lists of keys, by bytes
 pub in_keys : (ks : List (Bor Text)) (f : Text) → has_in ks f ≡ list_any (λ k. bytes_eq f k.now) ks
@@ -81,54 +80,32 @@ module _ {S : Type 0} {steps : S → Option (Bor Text) → S → Type 0} {s : S}
       map_id [] = refl
       map_id (x ∷ xs) = ap (λ ys. x ∷ ys) (map_id xs)
 
--- ---- the names of entries that pass, as a loop puts them into a set
-abbrev pub Entry : Type 0
-Entry = String Global × Vec (String Global) Global
-
+-- ---- entries of a map of lists
 -- a name, and the texts of its list
-abbrev pub told : Entry → Text × List Text
-told e = (string_bytes e.0, map string_bytes e.1.items)
+abbrev pub told : List (String Global × Vec (String Global) Global) → List (Text × List Text)
+told es = map (λ e. (string_bytes e.0, map string_bytes e.1.items)) es
 
-module _ (p : Text × List Text → Bool) where
-  abbrev hits : Text → Text × List Text → Bool
-  hits f e = bytes_eq f e.0 && p e
+-- a map of texts has the name
+pub listed_in : {X Y : Type 0} (g : X → Y) (f : Text) (es : List (String Global × X)) →
+    is_some (lookup (is_at (λ k. slice_cmp nat_cmp f (string_bytes k))) es)
+    ≡ list_any (λ (e : Text × Y). bytes_eq f e.0)
+    (map (λ (e : String Global × X). (string_bytes e.0, g e.1)) es)
+listed_in g f [] = refl
+listed_in {X} {Y} g f (e ∷ es) =
+    go (listed_in g f es) (is_at (λ k. slice_cmp nat_cmp f (string_bytes k)) e.0)
+    (is_eq-slice_cmp f (string_bytes e.0))
+  where
+    rest : Bool
+    rest = list_any (λ (e : Text × Y). bytes_eq f e.0)
+        (map (λ (e : String Global × X). (string_bytes e.0, g e.1)) es)
 
-  -- the set, with those that are left, has all
-  pub record Choosing (left all : List Entry) (s : BTreeSet (Bor Text)) : Type 0 where
-    pub each : (f : Text) → (set_has s f || list_any (hits f) (map told left))
-        ≡ list_any (hits f) (map told all)
-
-  pub choosing_begun : (left all : List Entry) (s : BTreeSet (Bor Text)) → s.keys ≡ []
-      → left ≡ all → Choosing left all s
-  choosing_begun left all s none is = record {
-    each = λ f. none_yet (hits f) (set_has s f) _ _ (none_in s none f) (ap (map told) is);
-  }
-
-module _ {p : Text × List Text → Bool} {left rest all : List Entry} {s : BTreeSet (Bor Text)}
-    (choosing : Choosing p left all s) where
-  pub choosing_put : (e : Entry) (n : BTreeSet (Bor Text)) → left ≡ e ∷ rest → p (told e) ≡ true
-      → ((f : Text) → set_has n f ≡ (set_has s f || bytes_eq f (string_bytes e.0)))
-      → Choosing p rest all n
-  choosing_put e n is passes put = record {
-    each = λ f. one_more (hits p f) (set_has s f) (set_has n f) (told e) _ _ _
-        (ap (map told) is) (put_if (set_has s f) (set_has n f) (bytes_eq f (string_bytes e.0))
-        (p (told e)) passes (put f)) (choosing.each f);
-  }
-
-  pub choosing_skipped : (e : Entry) → left ≡ e ∷ rest → p (told e) ≡ false
-      → Choosing p rest all s
-  choosing_skipped e is fails = record {
-    each = λ f. one_more (hits p f) (set_has s f) (set_has s f) (told e) _ _ _
-        (ap (map told) is) (put_none (set_has s f) (bytes_eq f (string_bytes e.0))
-        (p (told e)) fails) (choosing.each f);
-  }
-
--- once none is left
-pub choosing_done : {p : Text × List Text → Bool} {left all : List Entry} {s : BTreeSet (Bor Text)}
-    → left ≡ [] → Choosing p left all s → (f : Text)
-    → set_has s f ≡ list_any (λ e. bytes_eq f e.0 && p e) (map told all)
-choosing_done {p} {s = s} none choosing f =
-    none_left (hits p f) (set_has s f) _ _ (ap (map told) none) (choosing.each f)
+    go : is_some (lookup (is_at (λ k. slice_cmp nat_cmp f (string_bytes k))) es) ≡ rest → (b : Bool)
+        → b ≡ bytes_eq f (string_bytes e.0)
+        → is_some (cond b (Some e.1) (lookup
+        (is_at (λ k. slice_cmp nat_cmp f (string_bytes k))) es))
+        ≡ (bytes_eq f (string_bytes e.0) || rest)
+    go before true same = ap (λ b. b || rest) same
+    go before false same = before ∙ ap (λ b. b || rest) same
 
 -- what passes is among the names anyway
 pub those_are : {s : Bool} (n p : Bool) → s ≡ (n && p) → (IsTrue p → IsTrue n) → IsTrue s ↔ IsTrue p

@@ -15,7 +15,7 @@ use Rattle.cargo_toml.specs.Reach.{Among}
 use Rattle.cargo_toml.specs.Views.{listed_in}
 use Rattle.cargo_toml_features.proofs.Places.{among_at, once}
 use Rattle.cargo_toml_features.specs.Places.{nth_text}
-use Rattle.cargo_toml_lint.specs.Known.{says}
+use Rattle.cargo_toml_lint.specs.Turning.{says}
 use Rattle.cargo_toml_lint.specs.Reached.{Leads}
 use Rattle.cargo_toml_lint.specs.Turning.{turned, turns_to}
 use Rattle.cargo_toml_lint.proofs.Gathered.{any_map}

@@ -1,13 +1,12 @@
 -- What a loop over a list gathers.
-use Rattle.std.proofs.Common.{◌≡◌, ◌⊎◌, ◌↔◌, ◌||◌, ◌&&◌, ◌<◌, ◌≤◌, ◌+◌, ◌==◌, not, ℕ, Bool, true, false, Option, Some, None, MatchOption, is_some, arith, List, [], ◌∷◌, ◌++◌, map, take, length, get_or, Bor, IsTrue, refl, sym, ap, subst, inl, inr, ◌∙◌}
-use Rattle.std.proofs.Math.Bool.{and-false, and-true, or-false, or_assoc}
-use Rattle.std.proofs.lemmas.List.{map_push, take_all, take_more}
+use Rattle.std.proofs.Common.{◌≡◌, ◌⊎◌, ◌↔◌, ◌||◌, ◌&&◌, ◌<◌, ◌+◌, ℕ, Bool, true, false, List, [], ◌∷◌, ◌++◌, map, take, length, get_or, Bor, IsTrue, refl, sym, ap, inl, inr, ◌∙◌}
+use Rattle.std.proofs.Math.Bool.{and-false, and-true, or-false}
+use Rattle.std.proofs.lemmas.List.{map_push, take_more}
 use Rattle.std.proofs.lemmas.Bool.{false≢true, or_cases, or_left, or_right}
 use Rattle.std.proofs.lemmas.List.Folds.{list_any-append}
 use Rattle.std.proofs.lemmas.Map.Text.{is_eq-slice_cmp}
 use Rattle.std.proofs.lemmas.Slice.Eq.{bytes_eq-Decides}
 use Rattle.std.specs.BTreeMap.{is_at}
-use Rattle.std.specs.BTreeSet.{BTreeSet}
 use Rattle.std.specs.Cmp.Lexicographic.{slice_cmp}
 use Rattle.std.specs.List.{list_any}
 use Rattle.std.specs.Ordering.{nat_cmp}
@@ -57,23 +56,7 @@ any_more p g xs i x below read =
     ∙ ap (list_any p) (map_push g (take i xs) x) ∙ list_any-append p (map g (take i xs)) (g x ∷ [])
     ∙ ap (λ b. list_any p (map g (take i xs)) || b) (or-false (p (g x)))
 
--- each of the elements
-pub all_seen : {X Y : Type 0} (p : Y → Bool) (g : X → Y) (xs : List X) (i : ℕ) → length xs ≤ i
-    → list_any p (map g (take i xs)) ≡ list_any p (map g xs)
-all_seen p g xs i past = ap (λ ys. list_any p (map g ys)) (take_all i xs past)
-
 pub any_map : {X Y : Type 0} (p : Y → Bool) (g : X → Y) (xs : List X) → list_any p (map g xs)
     ≡ list_any (λ x. p (g x)) xs
 any_map p g [] = refl
 any_map p g (x ∷ xs) = ap (λ b. p (g x) || b) (any_map p g xs)
-
--- one more hit, after those that were there
-pub more_hits : (start before old new hit now : Bool) → old ≡ (start || before) → new ≡ (old || hit)
-    → now ≡ (before || hit) → new ≡ (start || now)
-more_hits start before old new hit now had put is = put ∙ ap (λ b. b || hit) had
-    ∙ or_assoc start before hit ∙ ap (λ b. start || b) (sym is)
-
-pub no_hit : (start before old hit now : Bool) → old ≡ (start || before) → hit ≡ false → now
-    ≡ (before || hit) → old ≡ (start || now)
-no_hit start before old hit now had miss is = had
-    ∙ ap (λ b. start || b) (sym (is ∙ ap (λ b. before || b) miss ∙ or-false before))

@@ -1,9 +1,9 @@
 pub mod Gathered
 pub mod Chosen
 pub mod Items
-pub mod Added
-pub mod Names
-pub mod Tables
+pub mod Adding
+pub mod Counted
+pub mod Sorting
 pub mod Rows
 pub mod Words
 pub mod Meeting

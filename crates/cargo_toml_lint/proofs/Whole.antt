@@ -1,11 +1,8 @@
 -- What is found in the maps of an answer, of the table of a manifest.
-use Rattle.std.proofs.Common.{◌≡◌, ◌↔◌, ◌||◌, ◌&&◌, ◌==◌, not, cond, Bool, true, false, ℕ, List, [], ◌∷◌, length, Option, Some, None, is_some, Bor, IsTrue, bytes_eq, codes, nat_lt, arith, refl, sym, ap, subst, inl, inr, ◌∙◌}
-use Rattle.std.proofs.lemmas.Bool.{false≢true, and_parts, and_from, not-true, not_from_false, false_from_ne_true, or_cases, or_left, or_right, eqb-true}
-use Rattle.std.proofs.lemmas.Bool.Decides.{Decides-eqb}
-use Rattle.std.proofs.lemmas.Map.Text.{is_eq-slice_cmp}
-use Rattle.std.proofs.lemmas.Slice.Eq.{bytes_eq-Decides}
+use Rattle.std.proofs.Common.{◌≡◌, ◌↔◌, ◌||◌, not, Bool, true, false, ℕ, List, length, Option, Some, None, is_some, Bor, IsTrue, nat_lt, refl, sym, ap, subst, inl, inr, ◌∙◌}
+use Rattle.std.proofs.lemmas.Bool.{false≢true, and_parts, not-true, not_from_false, false_from_ne_true, or_cases, or_left, or_right}
 use Rattle.std.specs.HashMap.{HashMap}
-use Rattle.std.specs.List.{list_any}
+use Rattle.std.specs.List.{flat_map}
 use Rattle.std.specs.Option.{option_map_or}
 use Rattle.cargo_toml.specs.Action.{Text}
 use Rattle.cargo_toml.specs.Admitted.{Listed, is_explicit}
@@ -13,15 +10,14 @@ use Rattle.cargo_toml.specs.Details.{plain_detail}
 use Rattle.cargo_toml.specs.Feature.{Feature}
 use Rattle.cargo_toml.specs.Graph.{Table, IsResolved}
 use Rattle.cargo_toml.specs.Marks.{NamedDetails, FeatureMarks, marked, marks_in, marks_of}
-use Rattle.cargo_toml.specs.Products.{ProductMeaning}
 use Rattle.cargo_toml.specs.Recorded.{Entry, is_implied}
 use Rattle.cargo_toml.specs.Removal.{is_removed}
 use Rattle.cargo_toml.specs.Resolved.{table_of}
 use Rattle.cargo_toml.specs.Views.{resolution_of, table_in, value_at}
 use Rattle.cargo_toml_features.proofs.Unremoved.{held, there}
-use Rattle.cargo_toml_lint.specs.Findings.{is_private, is_required}
+use Rattle.cargo_toml_lint.specs.Findings.{feature_findings, is_private}
 use Rattle.cargo_toml_lint.specs.Known.{Names}
-use Rattle.cargo_toml_lint.specs.Steps.{explicit_at, implied_at, over_at, private_at}
+use Rattle.cargo_toml_lint.specs.Steps.{explicit_at, implied_at, private_at}
 
 -- a filter that keeps each feature removes none
 pub nothing_removed : (t : Table) (f : Text) → ¬ IsTrue (is_removed t (λ _. true) f)
@@ -36,10 +32,6 @@ module _ {S : Type 0} (m : HashMap (Bor Text) Feature S) (t : Table) (Removed : 
     (none : (f : Text) → ¬ Removed f) (resolved : IsResolved t Removed (resolution_of m)) where
   pub has_same : (f : Text) → (table_in m).has f ≡ t.has f
   has_same f = same_truth _ _ (there m t Removed none resolved f, held m t Removed none resolved f)
-
-  pub required_is : (n : Names) (bins : List ProductMeaning) (f : Text)
-      → is_required n (table_in m).has bins f ≡ is_required n t.has bins f
-  required_is n bins f = λ i. is_required n (λ x. has_same x i) bins f
 
 module _ {S : Type 0} (m : HashMap (Bor Text) Feature S) (listed : Listed) (entries : List Entry)
     (details : NamedDetails) (Removed : Text → Type 0) (none : (f : Text) → ¬ Removed f)
@@ -95,11 +87,11 @@ module _ {S : Type 0} (m : HashMap (Bor Text) Feature S) (listed : Listed) (entr
             λ h. not_from_false _ (told ∙ not-true (is_explicit listed f) (and_parts _ _ h).1),
           )
 
-  pub over_is : (limit : ℕ) (all : Listed) (f : Text) → over_at m limit all f
-      ≡ list_any (λ e. bytes_eq f e.0
-      && (nat_lt limit (length e.1) || not (is_explicit listed e.0))) all
-  over_is limit all f = λ i. list_any
-      (λ e. bytes_eq f e.0 && (nat_lt limit (length e.1) || not (explicit_is e.0 i))) all
+  pub written_is : (n : Names) (limit : ℕ) (all : Listed)
+      → flat_map (λ e. feature_findings n (nat_lt limit (length e.1) || not (explicit_at m e.0)) e.0 e.1) all
+      ≡ flat_map (λ e. feature_findings n (nat_lt limit (length e.1) || not (is_explicit listed e.0)) e.0 e.1) all
+  written_is n limit all = λ i. flat_map
+      (λ e. feature_findings n (nat_lt limit (length e.1) || not (explicit_is e.0 i)) e.0 e.1) all
 
 -- what is told of a name is told of a feature
 there_is : {S : Type 0} (m : HashMap (Bor Text) Feature S) (f : Text) (test : Feature → Bool)

@@ -1,15 +1,16 @@
 -- What is found of a manifest.
-use Rattle.std.specs.Prelude.{◌≡◌, ◌≢◌, ◌⊎◌, ℕ, Bool, false, ◌&&◌, ◌||◌, not, nat_eq}
-use Rattle.std.specs.Prelude.{nat_lt, length, List, map, IsTrue, IsFalse, bytes_eq, codes}
-use Rattle.std.specs.Cmp.Lexicographic.{slice_cmp}
-use Rattle.std.specs.List.{list_any, starts_with}
-use Rattle.std.specs.List.Sorted.{IsStrictlySortedBy}
-use Rattle.std.specs.Ordering.{nat_cmp, ordering_then}
-use Rattle.std.specs.declared.cmp.Ordering.{Ordering}
+use Rattle.std.specs.Prelude.{◌≡◌, ◌≢◌, ◌⊎◌, ℕ, ◌-◌, ◌==◌, Bool, false, true, ◌&&◌, ◌||◌, not}
+use Rattle.std.specs.Prelude.{if◌then◌else◌, nat_eq, nat_lt, length, List, [], ◌∷◌, ◌++◌, map}
+use Rattle.std.specs.Prelude.{IsTrue, IsFalse, bytes_eq, codes, Option, Some, None, unwrap_or}
+use Rattle.std.specs.List.{flat_map, starts_with}
 use Rattle.cargo_toml.specs.Action.{Text, Item, item_of}
 use Rattle.cargo_toml.specs.Action.Item.{Name, On}
 use Rattle.cargo_toml.specs.Admitted.{Listed, admitted, is_explicit}
+use Rattle.cargo_toml.specs.Dependencies.{DependencyMeaning, is_optional}
+use Rattle.cargo_toml.specs.Dependencies.DependencyMeaning.{simple, inherited, detailed}
 use Rattle.cargo_toml.specs.Graph.{Table, Edge}
+use Rattle.cargo_toml.specs.InheritedDependencies.{Entries}
+use Rattle.cargo_toml.specs.InheritedManifests.{own_tables}
 use Rattle.cargo_toml.specs.Manifests.{ManifestMeaning}
 use Rattle.cargo_toml.specs.Marks.{NamedDetails, marks_in}
 use Rattle.cargo_toml.specs.Parsed.{parsed_entries, parsed_table}
@@ -17,16 +18,138 @@ use Rattle.cargo_toml.specs.Products.{ProductMeaning}
 use Rattle.cargo_toml.specs.Reach.{Among}
 use Rattle.cargo_toml.specs.Recorded.{is_implied}
 use Rattle.cargo_toml.specs.Recursive.{Enables}
-use Rattle.cargo_toml_lint.specs.Known.{Names, lists, all_names}
+use Rattle.cargo_toml.specs.Targets.{TargetMeaning}
+use Rattle.cargo_toml_lint.specs.Known.{Names, all_names}
+use Rattle.cargo_toml_lint.specs.Taken.{is_bad_text, is_feature_name, is_never_required}
 use Rattle.cargo_toml_lint.specs.Turning.{turning}
 use Rattle.cargo_toml_lint.specs.declared.finding.Code.{Code}
-use Rattle.cargo_toml_lint.specs.declared.finding.Code.TheVariants.{NotOptional, SameName, Unknown}
+use Rattle.cargo_toml_lint.specs.declared.finding.Code.TheVariants.{BadName, BadRequest}
+use Rattle.cargo_toml_lint.specs.declared.finding.Code.TheVariants.{BadRequired, BadText}
+use Rattle.cargo_toml_lint.specs.declared.finding.Code.TheVariants.{FeatureTable, NamesItself}
+use Rattle.cargo_toml_lint.specs.declared.finding.Code.TheVariants.{NotOptional, OptionalDev}
+use Rattle.cargo_toml_lint.specs.declared.finding.Code.TheVariants.{Reserved, SameName, Unknown}
 use Rattle.cargo_toml_lint.specs.declared.finding.Code.TheVariants.{Implied, PrivateDefault, Cycle}
-use Rattle.cargo_toml_lint.specs.declared.finding.Code.TheVariants.{OverLimit, Unreachable}
+use Rattle.cargo_toml_lint.specs.declared.finding.Code.TheVariants.{Missing, OverLimit, Unreachable}
 use Rattle.cargo_toml_lint.specs.declared.finding.Finding.{Finding}
 use Rattle.cargo_toml_lint.specs.declared.finding.Level.{Level}
 use Rattle.cargo_toml_lint.specs.declared.finding.Level.TheVariants.{Error, Hint, Warning}
 
+-- a code, with the feature and the text that it is about; the text is empty where it is of none
+abbrev pub About : Type 0
+About = Code × Text × Text
+
+abbrev pub when : Bool → Code → Option Code
+when b c = if b then Some c else None
+
+abbrev pub told : Text → Text → Option Code → List About
+told f t None = []
+told f t (Some c) = (c, f, t) ∷ []
+
+-- ---- what is wrong with what is written
+-- with the name x in the list of f
+abbrev pub name_fault : Names → Text → Text → Option Code
+name_fault n f x =
+    if bytes_eq x f then Some NamesItself
+    else if n.listed x then None
+    else if n.optional x then when (n.reserved x) Reserved
+    else if n.dependency x then Some NotOptional
+    else Some Unknown
+
+-- with an action on k, which has to be optional where the mark says so
+abbrev pub action_fault : Names → Text → Bool → Option Code
+action_fault n k marked =
+    if not (n.dependency k) then Some Unknown else when (marked && not (n.optional k)) NotOptional
+
+abbrev pub item_fault : Names → Text → Item → Option Code
+item_fault n f (Name x) = name_fault n f x
+item_fault n f (On k a) = action_fault n k (a.is_dep_only || a.is_conditional)
+
+-- with a text in the list of f
+abbrev pub text_fault : Names → Text → Text → Option Code
+text_fault n f t = if is_bad_text t then Some BadText else item_fault n f (item_of t)
+
+-- a name that no feature has, be it listed or the key of an optional dependency that no text names
+-- by `dep:`; or an action on no dependency
+abbrev pub is_missing : Names → Item → Bool
+is_missing n (Name x) = not (n.listed x || (n.optional x && not (n.reserved x)))
+is_missing n (On k a) = not (n.dependency k)
+
+-- with a text that a target requires
+abbrev pub required_fault : Names → Text → Option Code
+required_fault n t =
+    if is_never_required t then Some BadRequired
+    else when (is_bad_text t || is_missing n (item_of t)) Missing
+
+-- the name of an optional dependency on which no text acts: of a listed feature, so that Cargo
+-- would never turn the dependency on
+abbrev pub has_same_name : Names → Text → Bool
+has_same_name n f = n.optional f && not (n.acted f)
+
+-- more texts than count, or a name that the limit left out
+abbrev pub is_over : ℕ → Listed → Text → List Text → Bool
+is_over limit listed f ts =
+    nat_lt limit (length ts) || not (is_explicit (admitted limit listed) f)
+
+-- ---- what is found in what is written
+-- of the list of f
+abbrev pub list_findings : Names → Text → List Text → List About
+list_findings n f ts = flat_map (λ t. told f t (text_fault n f t)) ts
+
+-- of the listed feature f
+abbrev pub feature_findings : Names → Bool → Text → List Text → List About
+feature_findings n over f ts =
+    told f [] (when (not (is_feature_name f)) BadName)
+    ++ (told f [] (when (has_same_name n f) SameName)
+    ++ (told f [] (when over OverLimit) ++ list_findings n f ts))
+
+-- the features that are asked for of a dependency
+abbrev pub asked_of : DependencyMeaning → List Text
+asked_of (simple r) = []
+asked_of (inherited i) = i.features
+asked_of (detailed d) = d.features
+
+abbrev pub request_findings : Text → List Text → List About
+request_findings k ts = flat_map (λ t. told k t (when (not (is_feature_name t)) BadRequest)) ts
+
+-- of an entry of a table, which may be of dev-dependencies, or beyond the limit
+abbrev pub entry_findings : Bool → Bool → Text → DependencyMeaning → List About
+entry_findings dev over k d =
+    told k [] (when (dev && is_optional d) OptionalDev)
+    ++ (told k [] (when over OverLimit) ++ request_findings k (asked_of d))
+
+-- of a table, of which so many entries count
+abbrev pub table_findings : Bool → ℕ → Entries → List About
+table_findings dev n [] = []
+table_findings dev n (e ∷ es) =
+    entry_findings dev (n == 0) e.0 e.1 ++ table_findings dev (n - 1) es
+
+abbrev pub target_findings : ℕ → TargetMeaning → List About
+target_findings limit t =
+    table_findings false limit t.dependencies
+    ++ (table_findings false limit t.build_dependencies
+    ++ table_findings true limit t.dev_dependencies)
+
+-- of all tables of dependencies
+abbrev pub tables_findings : {M : Type 0} → ℕ → ManifestMeaning M → List About
+tables_findings limit m =
+    target_findings limit (own_tables m) ++ flat_map (λ t. target_findings limit t.1) m.target
+
+-- of the texts that a target of the name f requires
+abbrev pub required_findings : Names → Text → List Text → List About
+required_findings n f ts = flat_map (λ t. told f t (required_fault n t)) ts
+
+-- of a target that is built: a binary, an example, a test or a benchmark
+abbrev pub product_findings : Names → ProductMeaning → List About
+product_findings n p = required_findings n (unwrap_or p.name []) p.required_features
+
+-- of all such targets
+abbrev pub products_findings : {M : Type 0} → Names → ManifestMeaning M → List About
+products_findings n m =
+    flat_map (product_findings n) m.bin
+    ++ (flat_map (product_findings n) m.example
+    ++ (flat_map (product_findings n) m.test ++ flat_map (product_findings n) m.bench))
+
+-- ---- by a table of what features turn on
 -- what users aren't meant to ask for by its name
 abbrev pub is_hidden : Text → Bool
 is_hidden f = starts_with nat_eq f (codes "_")
@@ -36,41 +159,6 @@ is_hidden f = starts_with nat_eq f (codes "_")
 abbrev pub is_private : Listed → NamedDetails → Text → Bool
 is_private listed details f = not (marks_in listed details f).public
 
--- a name that is neither a feature nor an optional dependency, or an action on no dependency
-abbrev pub is_unknown : Names → Item → Bool
-is_unknown n (Name x) = not (n.listed x || (bytes_eq x (codes "default") || n.optional x))
-is_unknown n (On k a) = not (n.dependency k)
-
--- `dep:d` or `d?/f`, where d is a dependency that isn't optional
-abbrev pub is_not_optional : Names → Item → Bool
-is_not_optional n (Name x) = false
-is_not_optional n (On k a) =
-    (a.is_dep_only || a.is_conditional) && (n.dependency k && not (n.optional k))
-
--- a name that no feature has, or an action on no dependency
-abbrev pub is_missing : Names → (Text → Bool) → Item → Bool
-is_missing n has (Name x) = not (has x || n.listed x)
-is_missing n has (On k a) = not (n.dependency k)
-
--- f is among the texts, and isn't there
-abbrev pub asks_for : Names → (Text → Bool) → List Text → Text → Bool
-asks_for n has texts f = list_any (λ text. bytes_eq f text && is_missing n has (item_of text)) texts
-
--- some binary requires f, which isn't there
-abbrev pub is_required : Names → (Text → Bool) → List ProductMeaning → Text → Bool
-is_required n has bins f = list_any (λ b. asks_for n has b.required_features f) bins
-
--- a listed feature with the name of an optional dependency that no action names by `dep:`
-abbrev pub has_same_name : Names → Text → Bool
-has_same_name n f = n.listed f && (n.optional f && not (n.reserved f))
-
--- a listed feature that the limit left out, or more of whose actions than count
-abbrev pub is_over : ℕ → Listed → Text → Bool
-is_over limit listed f =
-    list_any (λ e. bytes_eq f e.0
-    && (nat_lt limit (length e.1) || not (is_explicit (admitted limit listed) e.0))) listed
-
--- ---- by a table of what features turn on
 -- a hidden feature that none turns on which isn't hidden
 pub record IsUnreachable (t : Table) (f : Text) : Type 0 where
   pub known : IsTrue (t.has f)
@@ -90,86 +178,45 @@ pub record IsOnlyDefault (t : Table) (f : Text) : Type 0 where
   pub default_does : Edge t (codes "default") f
   pub no_other : (e : Text) → Edge t e f → e ≡ codes "default"
 
--- where so many names of the table of features count, actions of a feature, and keys of a table
--- of dependencies
+-- where so many names of the table of features count, texts of a feature, and keys of a table of
+-- dependencies
 module _ {M : Type 0} (limit : ℕ) (m : ManifestMeaning M) where
-  -- what a finding of the code says of f
-  abbrev pub HoldsOf : Code → Text → Type 0
-  HoldsOf NotOptional f = IsTrue (lists m.features (is_not_optional (all_names m)) f)
-  HoldsOf SameName f = IsTrue (has_same_name (all_names m) f)
-  HoldsOf Unknown f =
-      IsTrue (lists m.features (is_unknown (all_names m)) f)
-      ⊎ IsTrue (is_required (all_names m) (parsed_table limit m).has m.bin f)
-  HoldsOf Implied f = IsTrue (is_implied (admitted limit m.features) (parsed_entries limit m) f)
-  HoldsOf PrivateDefault f =
+  -- the findings of all that is written
+  abbrev pub written_findings : List About
+  written_findings =
+      flat_map (λ e. feature_findings (all_names m) (is_over limit m.features e.0 e.1) e.0 e.1)
+      m.features
+      ++ (flat_map (λ e. told e.0 [] (Some FeatureTable)) m.feature_details
+      ++ (tables_findings limit m ++ products_findings (all_names m) m))
+
+  -- what holds of f among the features that count, listed or implied, and of what they turn on
+  abbrev pub Counts : Code → Text → Type 0
+  Counts Implied f = IsTrue (is_implied (admitted limit m.features) (parsed_entries limit m) f)
+  Counts PrivateDefault f =
       IsTrue (is_hidden f || is_private (admitted limit m.features) m.feature_details f)
       × IsOnlyDefault (turning m (parsed_table limit m).has) f
-  HoldsOf Cycle f = IsCyclic (turning m (parsed_table limit m).has) f
-  HoldsOf OverLimit f = IsTrue (is_over limit m.features f)
-  HoldsOf Unreachable f = IsUnreachable (turning m (parsed_table limit m).has) f
+  Counts Cycle f = IsCyclic (turning m (parsed_table limit m).has) f
+  Counts Unreachable f = IsUnreachable (turning m (parsed_table limit m).has) f
+  Counts _ f = ⊥
 
--- the level of a code, and its place among them in byte order of level and code
+  -- what a finding of the code says of f, and of the text t
+  abbrev pub HoldsOf : Code → Text → Text → Type 0
+  HoldsOf c f t = Among written_findings (c, f, t) ⊎ ((t ≡ []) × Counts c f)
+
+-- ---- the answer
+-- the level of a code
 abbrev pub code_level : Code → Level
-code_level NotOptional = Error
-code_level SameName = Error
-code_level Unknown = Error
 code_level Implied = Hint
 code_level PrivateDefault = Hint
 code_level Cycle = Warning
+code_level Missing = Warning
 code_level OverLimit = Warning
 code_level Unreachable = Warning
+code_level _ = Error
 
-abbrev pub code_rank : Code → ℕ
-code_rank NotOptional = 0
-code_rank SameName = 1
-code_rank Unknown = 2
-code_rank Implied = 3
-code_rank PrivateDefault = 4
-code_rank Cycle = 5
-code_rank OverLimit = 6
-code_rank Unreachable = 7
+abbrev pub about : Finding → About
+about x = (x.code, x.feature.now, x.text.now)
 
-abbrev pub level_name : Level → Text
-level_name Error = codes "error"
-level_name Hint = codes "hint"
-level_name Warning = codes "warning"
-
-abbrev pub code_name : Code → Text
-code_name NotOptional = codes "not-optional"
-code_name SameName = codes "same-name"
-code_name Unknown = codes "unknown"
-code_name Implied = codes "implied"
-code_name PrivateDefault = codes "private-default"
-code_name Cycle = codes "cycle"
-code_name OverLimit = codes "over-limit"
-code_name Unreachable = codes "unreachable"
-
--- what a finding of the code says in words
-abbrev pub words_of : Code → Text
-words_of NotOptional = codes "uses `dep:` or `?` on a dependency that isn't optional"
-words_of SameName = codes "has the name of an optional dependency that no feature names by `dep:`"
-words_of Unknown = codes "names or requires what the manifest doesn't have"
-words_of Implied =
-    codes "an optional dependency that no feature names by `dep:` is a feature for users"
-words_of PrivateDefault = codes "only `default` enables this hidden or private feature"
-words_of Cycle = codes "enables itself through others"
-words_of OverLimit = codes "has a name or actions beyond the limit"
-words_of Unreachable = codes "no feature for users leads to this hidden one"
-
-abbrev pub about : Finding → Code × Text
-about x = (x.code, x.feature.now)
-
--- there is a finding of the code for f
-abbrev pub IsFound : List Finding → Code → Text → Type 0
-IsFound xs c f = Among (map about xs) (c, f)
-
--- by level and code, then by feature, each in byte order
-abbrev pub about_cmp : Code × Text → Code × Text → Ordering
-about_cmp a b = ordering_then (nat_cmp (code_rank a.0) (code_rank b.0)) (slice_cmp nat_cmp a.1 b.1)
-
-abbrev pub AreSorted : List Finding → Type 0
-AreSorted xs = IsStrictlySortedBy about_cmp (map about xs)
-
--- a finding has the level and the words of its code
-abbrev pub IsTold : Finding → Type 0
-IsTold x = (x.level ≡ code_level x.code) × (x.words.now ≡ words_of x.code)
+-- there is a finding of the code for f and its text t
+abbrev pub IsFound : List Finding → Code → Text → Text → Type 0
+IsFound xs c f t = Among (map about xs) (c, f, t)

@@ -1,31 +1,22 @@
 -- The names that are gathered of a manifest: words of steps, on which no public contract rests.
-use Rattle.std.specs.Prelude.{◌≡◌, Bool, true, ◌||◌, List, map, string_bytes}
-use Rattle.std.specs.Borrow.{Bor}
-use Rattle.std.specs.BTreeSet.{BTreeSet}
-use Rattle.std.specs.List.{list_any}
-use Rattle.cargo_toml.specs.Action.{Item, Text}
+use Rattle.std.specs.Prelude.{◌≡◌, ◌||◌, map, string_bytes}
+use Rattle.cargo_toml.specs.Action.{Text}
 use Rattle.cargo_toml.specs.Admitted.{Listed}
-use Rattle.cargo_toml.specs.Dependencies.{DependencyMeaning, is_optional}
-use Rattle.cargo_toml.specs.InheritedDependencies.{Entries}
 use Rattle.cargo_toml.specs.Reads.{map_meaning}
 use Rattle.cargo_toml.specs.Views.{set_has}
-use Rattle.cargo_toml_lint.specs.Findings.{is_not_optional, is_unknown}
-use Rattle.cargo_toml_lint.specs.Known.{Names, has_entry, is_name}
+use Rattle.cargo_toml_lint.specs.Known.{Marked, Names, has_key, has_marked, is_name}
 use Rattle.cargo_toml_lint.specs.declared.known.Keys.{Keys}
 use Rattle.cargo_toml_lint.specs.declared.known.Known.{Known}
-use Rattle.cargo_toml_lint.specs.declared.lists.Fault.{Fault}
-use Rattle.cargo_toml_lint.specs.declared.lists.Fault.TheVariants.{NotOptional, Unknown}
 
--- the keys of the tables' entries that pass the test are added to a set
-abbrev pub Adds : (DependencyMeaning → Bool) → List Entries → BTreeSet (Bor Text)
-    → BTreeSet (Bor Text) → Type 0
-Adds test ts old new =
-    (k : Text) → set_has new k ≡ (set_has old k || list_any (has_entry test k) ts)
+-- keys are added to sets, the marked ones to one of their own
+pub record AddsKeys (ks : Marked) (old new : Keys) : Type 0 where
+  pub all : (k : Text) → set_has new.all k ≡ (set_has old.all k || has_key ks k)
+  pub marked : (k : Text) → set_has new.marked k ≡ (set_has old.marked k || has_marked ks k)
 
--- the keys of the tables are added
-pub record AddsKeys (ts : List Entries) (old new : Keys) : Type 0 where
-  pub all : Adds (λ d. true) ts old.all new.all
-  pub optional : Adds is_optional ts old.optional new.optional
+-- the sets have these keys
+pub record HoldsKeys (ks : Marked) (keys : Keys) : Type 0 where
+  pub all : (k : Text) → set_has keys.all k ≡ has_key ks k
+  pub marked : (k : Text) → set_has keys.marked k ≡ has_marked ks k
 
 -- the features as they are listed
 abbrev pub listed_by : Known → Listed
@@ -37,10 +28,6 @@ held_names known = record {
   listed = is_name (listed_by known);
   dependency = set_has known.dependencies;
   optional = set_has known.optional;
+  acted = set_has known.acted;
   reserved = set_has known.reserved;
 }
-
--- what is wrong with the text of such an item
-abbrev pub at_fault : Fault → Names → Item → Bool
-at_fault NotOptional n = is_not_optional n
-at_fault Unknown n = is_unknown n

@@ -1,7 +1,7 @@
 -- Which feature turns on which.
-use Rattle.std.specs.Prelude.{Bool, ◌&&◌, not, None, bytes_eq}
+use Rattle.std.specs.Prelude.{Bool, ◌&&◌, not, List, None, bytes_eq}
 use Rattle.std.specs.List.{list_any}
-use Rattle.cargo_toml.specs.Action.{Text, Item}
+use Rattle.cargo_toml.specs.Action.{Text, Item, item_of}
 use Rattle.cargo_toml.specs.Action.Item.{Name, On}
 use Rattle.cargo_toml.specs.Admitted.{Listed, items}
 use Rattle.cargo_toml.specs.Graph.{Table}
@@ -13,6 +13,10 @@ abbrev pub turns_to : (Text → Bool) → Text → Item → Bool
 turns_to optional x (Name y) = bytes_eq x y
 turns_to optional x (On k a) =
     bytes_eq x k && (optional k && (not a.is_conditional && not a.is_dep_only))
+
+-- some text of a list is such
+abbrev pub says : (Item → Bool) → List Text → Bool
+says test texts = list_any (λ text. test (item_of text)) texts
 
 -- some item of the list of f does so
 abbrev pub turned : Listed → (Text → Bool) → Text → Text → Bool

@@ -1,12 +1,11 @@
 //! What is found of a manifest.
 ghost use Rattle.std.specs.Prelude.{◌≡◌};
-ghost use Rattle.cargo_toml_lint.specs.Findings.{code_name, level_name, code_level, words_of};
+ghost use Rattle.cargo_toml_lint.specs.Findings.{code_level};
 
 /// How much a finding weighs.
 #[derive(Debug, Copy, Clone, PartialEq, Eq)]
 pub enum Level {
-    /// Cargo refuses such a manifest, but for two cases. It takes `SameName` where a feature acts
-    /// on the dependency by `d/f` or `d?/f`, and it mostly just warns of what a binary requires.
+    /// Cargo refuses such a manifest.
     Error,
     /// It works as it stands, but may not be meant so.
     Hint,
@@ -14,24 +13,41 @@ pub enum Level {
     Warning,
 }
 
-/// What is found.
-#[derive(Debug, Copy, Clone, PartialEq, Eq)]
+/// What is found, in byte order of level and name.
+#[derive(Debug, Copy, Clone, PartialEq, Eq, PartialOrd, Ord)]
 pub enum Code {
-    /// The feature uses `dep:d` or `d?/f`, where `d` is a dependency that isn't optional.
+    /// The feature's name isn't one that Cargo takes.
+    BadName,
+    /// A dependency is asked for a feature whose name can't be one.
+    BadRequest,
+    /// A target requires `dep:d` or `d?/f`.
+    BadRequired,
+    /// The text is of no form that Cargo knows.
+    BadText,
+    /// The feature is written as a table, which says something beside what it enables.
+    FeatureTable,
+    /// The list of the feature has its own name.
+    NamesItself,
+    /// The text is `d`, `dep:d` or `d?/f`, where `d` is a dependency that isn't optional.
     NotOptional,
-    /// The feature is listed, and has the name of an optional dependency that no action names by
+    /// A dev-dependency is optional.
+    OptionalDev,
+    /// The text names an optional dependency whose key is no feature, since some text has its
     /// `dep:`.
+    Reserved,
+    /// The feature is listed, and has the name of an optional dependency on which no text acts.
     SameName,
-    /// The feature names what is neither a feature nor an optional dependency, or acts on what is
-    /// no dependency; or a binary requires this feature, which isn't there.
+    /// The text names or acts on what the manifest doesn't have.
     Unknown,
-    /// An optional dependency that no action names by `dep:`, so that its key is a feature.
+    /// An optional dependency that no text names by `dep:`, so that its key is a feature.
     Implied,
     /// `default` enables the feature, which is hidden or private, and nothing else does.
     PrivateDefault,
     /// The feature enables itself through others.
     Cycle,
-    /// The name, or actions of the feature, are beyond the limit of what counts.
+    /// A target requires what the manifest doesn't have. Cargo warns of it.
+    Missing,
+    /// A feature, some of its texts, or the key of a dependency is beyond the limit of what counts.
     OverLimit,
     /// The feature is hidden, and no feature that isn't hidden leads to it.
     Unreachable,
@@ -39,9 +55,7 @@ pub enum Code {
 
 impl Level {
     /// The level's name.
-    pub fn name(self) -> &'static str
-        ensures { result.now ≡ level_name self }
-    {
+    pub fn name(self) -> &'static str {
         match self {
             Level::Error => "error",
             Level::Hint => "hint",
@@ -52,16 +66,23 @@ impl Level {
 
 impl Code {
     /// The code's name.
-    pub fn name(self) -> &'static str
-        ensures { result.now ≡ code_name self }
-    {
+    pub fn name(self) -> &'static str {
         match self {
+            Code::BadName => "bad-name",
+            Code::BadRequest => "bad-request",
+            Code::BadRequired => "bad-required",
+            Code::BadText => "bad-text",
+            Code::FeatureTable => "feature-table",
+            Code::NamesItself => "names-itself",
             Code::NotOptional => "not-optional",
+            Code::OptionalDev => "optional-dev",
+            Code::Reserved => "reserved",
             Code::SameName => "same-name",
             Code::Unknown => "unknown",
             Code::Implied => "implied",
             Code::PrivateDefault => "private-default",
             Code::Cycle => "cycle",
+            Code::Missing => "missing",
             Code::OverLimit => "over-limit",
             Code::Unreachable => "unreachable",
         }
@@ -72,42 +93,46 @@ impl Code {
         ensures { result ≡ code_level self }
     {
         match self {
-            Code::NotOptional | Code::SameName | Code::Unknown => Level::Error,
             Code::Implied | Code::PrivateDefault => Level::Hint,
-            Code::Cycle | Code::OverLimit | Code::Unreachable => Level::Warning,
+            Code::Cycle | Code::Missing | Code::OverLimit | Code::Unreachable => Level::Warning,
+            _ => Level::Error,
         }
     }
 
     /// What a finding of this code says.
-    pub fn words(self) -> &'static str
-        ensures { result.now ≡ words_of self }
-    {
+    pub fn words(self) -> &'static str {
         match self {
-            Code::NotOptional => "uses `dep:` or `?` on a dependency that isn't optional",
-            Code::SameName => {
-                "has the name of an optional dependency that no feature names by `dep:`"
-            }
-            Code::Unknown => "names or requires what the manifest doesn't have",
+            Code::BadName => "is no name that Cargo takes for a feature",
+            Code::BadRequest => "a dependency is asked for what is no feature's name",
+            Code::BadRequired => "a target can't require by `dep:` or `?`",
+            Code::BadText => "is no text that Cargo takes in a feature's list",
+            Code::FeatureTable => "is written as a table, which Cargo doesn't read",
+            Code::NamesItself => "names itself",
+            Code::NotOptional => "takes a dependency for optional that isn't",
+            Code::OptionalDev => "a dev-dependency can't be optional",
+            Code::Reserved => "names an optional dependency that is no feature, by some `dep:`",
+            Code::SameName => "has the name of an optional dependency that no feature acts on",
+            Code::Unknown => "names or acts on what the manifest doesn't have",
             Code::Implied => {
                 "an optional dependency that no feature names by `dep:` is a feature for users"
             }
             Code::PrivateDefault => "only `default` enables this hidden or private feature",
             Code::Cycle => "enables itself through others",
-            Code::OverLimit => "has a name or actions beyond the limit",
+            Code::Missing => "a target requires what the manifest doesn't have",
+            Code::OverLimit => "is beyond the limit, or some of its texts are",
             Code::Unreachable => "no feature for users leads to this hidden one",
         }
     }
 }
 
-/// One finding: a code holds for a feature.
-#[derive(Debug, Clone, Copy)]
+/// One finding: a code holds for a feature, and for one of its texts where the code is of texts.
+/// Findings stand in byte order of their code's level and name, then of feature and text.
+#[derive(Debug, Clone, Copy, PartialEq, Eq, PartialOrd, Ord)]
 pub struct Finding<'m> {
-    /// How much it weighs: the level of its code.
-    pub level: Level,
     /// What is found.
     pub code: Code,
-    /// The feature, as the manifest writes it; or the text that a binary requires.
+    /// The feature, the key of the dependency or the name of the target, as the manifest writes it.
     pub feature: &'m str,
-    /// What a finding of this code says.
-    pub words: &'static str,
+    /// The text at fault; empty where the code is of no text.
+    pub text: &'m str,
 }

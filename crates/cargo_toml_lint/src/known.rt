@@ -1,19 +1,17 @@
 //! Which names a manifest has: of features, of dependencies, and those that `dep:` names.
-ghost use Rattle.std.specs.Prelude.{◌≡◌, ◌||◌, ◌∷◌, [], true, IfOk, OnOk};
-ghost use Rattle.std.specs.Prelude.{bytes_eq, codes, map, string_bytes};
-ghost use Rattle.std.specs.List.{flat_map, list_any};
-ghost use Rattle.cargo_toml.specs.Action.{Text, item_of};
-ghost use Rattle.cargo_toml.specs.Dependencies.{dependency_meaning, is_optional};
+ghost use Rattle.std.specs.Prelude.{◌≡◌, ◌&&◌, ◌||◌, ◌∷◌, [], not, IfOk, OnOk, map, string_bytes};
+ghost use Rattle.std.specs.List.{flat_map};
+ghost use Rattle.cargo_toml.specs.Dependencies.{dependency_meaning};
 ghost use Rattle.cargo_toml.specs.Manifests.{held};
 ghost use Rattle.cargo_toml.specs.Reads.{map_meaning};
 ghost use Rattle.cargo_toml.specs.Targets.{target_meaning};
-ghost use Rattle.cargo_toml.specs.Views.{set_has};
-ghost use Rattle.cargo_toml_lint.specs.Known.{has_entry, all_names, reserves};
-ghost use Rattle.cargo_toml_lint.specs.Known.{says, tables, tables_in};
-ghost use Rattle.cargo_toml_lint.specs.Names.{AddsKeys, listed_by, held_names};
+ghost use Rattle.cargo_toml_lint.specs.Known.{Marked, acted_by, acted_keys, all_names};
+ghost use Rattle.cargo_toml_lint.specs.Known.{dependency_keys, keys_in, target_keys};
+ghost use Rattle.cargo_toml_lint.specs.Names.{AddsKeys, HoldsKeys, listed_by, held_names};
+ghost use Rattle.cargo_toml_lint.specs.declared.known.Keys.{Keys};
 
 use cargo_toml::{DepsSet, FeatureSet, Manifest, Target, TargetDepsSet};
-use cargo_toml_features::action::read_action;
+use cargo_toml_features::action::{add_text, read_action};
 use std::alloc::{AllocError, Global};
 use std::collections::BTreeSet;
 
@@ -26,31 +24,49 @@ pub(crate) struct Known<'m> {
     pub dependencies: BTreeSet<&'m str>,
     /// Those of optional dependencies.
     pub optional: BTreeSet<&'m str>,
-    /// The keys that actions name by `dep:`.
+    /// The keys on which texts act.
+    pub acted: BTreeSet<&'m str>,
+    /// Those that texts name by `dep:`.
     pub reserved: BTreeSet<&'m str>,
 }
 
-// The keys of tables of dependencies.
+// Keys of dependencies, some of which are marked.
 #[derive(Drop)]
 struct Keys<'m> {
-    // Those of all dependencies.
+    // All of them.
     all: BTreeSet<&'m str>,
-    // Those of optional ones.
-    optional: BTreeSet<&'m str>,
+    // Those that are marked.
+    marked: BTreeSet<&'m str>,
+}
+
+fn no_keys<'m>(alloc: Global) -> Keys<'m>
+    ensures { (ks : Marked) (keys : Keys) → AddsKeys ks result keys → HoldsKeys ks keys }
+{
+    Keys {
+        all: BTreeSet::new(alloc),
+        marked: BTreeSet::new(alloc),
+    }
 }
 
 impl<'m> Keys<'m> {
-    // Adds those of a table.
+    fn add(&mut self, key: &'m str, is_marked: bool) -> Result<(), AllocError>
+        ensures { OnOk result (AddsKeys ((key.now, is_marked) ∷ []) self.old self.new) }
+    {
+        add_text(&mut self.all, key)?;
+        if is_marked {
+            add_text(&mut self.marked, key)
+        } else {
+            Ok(())
+        }
+    }
+
+    // Adds those of a table: marked are those of optional dependencies.
     fn add_table(&mut self, table: &'m DepsSet) -> Result<(), AllocError>
         ensures { OnOk result
-            (AddsKeys (map_meaning dependency_meaning table.now ∷ []) self.old self.new) }
+            (AddsKeys (keys_in (map_meaning dependency_meaning table.now)) self.old self.new) }
     {
         for (key, dependency) in table {
-            let key = key.as_str();
-            self.all.insert(key)?;
-            if dependency.optional() {
-                self.optional.insert(key)?;
-            }
+            self.add(key.as_str(), dependency.optional())?;
         }
         Ok(())
     }
@@ -58,7 +74,7 @@ impl<'m> Keys<'m> {
     // Adds those of the tables of a target.
     fn add_target(&mut self, target: &'m Target) -> Result<(), AllocError>
         ensures { OnOk result
-            (AddsKeys (tables_in (target_meaning target.now)) self.old self.new) }
+            (AddsKeys (target_keys (target_meaning target.now)) self.old self.new) }
     {
         self.add_table(&target.dependencies)?;
         self.add_table(&target.build_dependencies)?;
@@ -68,7 +84,7 @@ impl<'m> Keys<'m> {
     // Adds those of each target.
     fn add_targets(&mut self, targets: &'m TargetDepsSet) -> Result<(), AllocError>
         ensures { OnOk result
-            (AddsKeys (flat_map (λ t. tables_in t.1) (map_meaning target_meaning targets.now))
+            (AddsKeys (flat_map (λ t. target_keys t.1) (map_meaning target_meaning targets.now))
             self.old self.new) }
     {
         for target in targets.values() {
@@ -76,19 +92,26 @@ impl<'m> Keys<'m> {
         }
         Ok(())
     }
+
+    // Adds those on which the texts of a list act: marked are those that they name by `dep:`.
+    fn add_list(&mut self, texts: &'m [String]) -> Result<(), AllocError>
+        ensures { OnOk result (AddsKeys (acted_by (map string_bytes texts.now)) self.old self.new) }
+    {
+        for text in texts {
+            let action = read_action(text.as_str());
+            if action.acts() {
+                self.add(action.target, action.is_dep_only)?;
+            }
+        }
+        Ok(())
+    }
 }
 
 // The keys of all tables of dependencies of a manifest.
-fn keys_of<M>(alloc: Global, manifest: &Manifest<M>) -> Result<Keys<'_>, AllocError>
-    ensures all { IfOk result (λ keys. (k : Text) → set_has keys.all k
-        ≡ list_any (has_entry (λ _. true) k) (tables (held manifest.now))) }
-    ensures optional { IfOk result (λ keys. (k : Text) → set_has keys.optional k
-        ≡ list_any (has_entry is_optional k) (tables (held manifest.now))) }
+fn dependency_keys<M>(alloc: Global, manifest: &Manifest<M>) -> Result<Keys<'_>, AllocError>
+    ensures { IfOk result (HoldsKeys (dependency_keys (held manifest.now))) }
 {
-    let mut keys = Keys {
-        all: BTreeSet::new(alloc),
-        optional: BTreeSet::new(alloc),
-    };
+    let mut keys = no_keys(alloc);
     keys.add_table(&manifest.dependencies)?;
     keys.add_table(&manifest.build_dependencies)?;
     keys.add_table(&manifest.dev_dependencies)?;
@@ -96,30 +119,16 @@ fn keys_of<M>(alloc: Global, manifest: &Manifest<M>) -> Result<Keys<'_>, AllocEr
     Ok(keys)
 }
 
-// Adds the keys that the texts of a list name by `dep:`.
-fn add_reserved<'m>(reserved: &mut BTreeSet<&'m str>, texts: &'m [String]) -> Result<(), AllocError>
-    ensures { OnOk result ((k : Text) → set_has reserved.new k
-        ≡ (set_has reserved.old k || says (reserves k) (map string_bytes texts.now))) }
+// The keys on which the texts of features act.
+fn acted_keys(alloc: Global, features: &FeatureSet) -> Result<Keys<'_>, AllocError>
+    ensures { IfOk result (HoldsKeys (acted_keys
+        (map_meaning (λ v. map string_bytes v.items) features.now))) }
 {
-    for text in texts {
-        let action = read_action(text.as_str());
-        if action.is_dep_only {
-            reserved.insert(action.target)?;
-        }
-    }
-    Ok(())
-}
-
-// The keys that actions name by `dep:`.
-fn reserved_keys(alloc: Global, features: &FeatureSet) -> Result<BTreeSet<&str>, AllocError>
-    ensures { IfOk result (λ s. (k : Text) → set_has s k ≡ list_any (λ e. says (reserves k) e.1)
-        (map_meaning (λ v. map string_bytes v.items) features.now)) }
-{
-    let mut reserved = BTreeSet::new(alloc);
+    let mut keys = no_keys(alloc);
     for texts in features.values() {
-        add_reserved(&mut reserved, texts.as_slice())?;
+        keys.add_list(texts.as_slice())?;
     }
-    Ok(reserved)
+    Ok(keys)
 }
 
 /// The names that a manifest has.
@@ -132,13 +141,14 @@ pub(crate) fn known_names<'m, M>(
     ensures listed { IfOk result (λ known. listed_by known
         ≡ (held manifest.now).features) }
 {
-    let keys = keys_of(alloc, manifest)?;
-    let reserved = reserved_keys(alloc, &manifest.features)?;
+    let keys = dependency_keys(alloc, manifest)?;
+    let acted = acted_keys(alloc, &manifest.features)?;
     Ok(Known {
         features: &manifest.features,
         dependencies: keys.all,
-        optional: keys.optional,
-        reserved,
+        optional: keys.marked,
+        acted: acted.all,
+        reserved: acted.marked,
     })
 }
 
@@ -150,11 +160,13 @@ impl Known<'_> {
         self.features.contains_key(name)
     }
 
-    /// Whether the name is that of a feature or of an optional dependency.
-    pub(crate) fn has_name(&self, name: &str) -> bool
+    /// Whether the name is that of a feature: one that is listed, or an optional dependency that no
+    /// text names by `dep:`.
+    pub(crate) fn has_feature(&self, name: &str) -> bool
         ensures { result ≡ ((held_names self.now).listed name.now
-            || (bytes_eq name.now (codes "default") || (held_names self.now).optional name.now)) }
+            || ((held_names self.now).optional name.now
+            && not ((held_names self.now).reserved name.now))) }
     {
-        self.lists(name) || name == "default" || self.optional.contains(name)
+        self.lists(name) || (self.optional.contains(name) && !self.reserved.contains(name))
     }
 }

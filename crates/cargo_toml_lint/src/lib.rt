@@ -2,15 +2,17 @@
 //! its features turn on which.
 #![tactic(auto)]
 
-mod adding;
 mod bits;
+mod faults;
 mod finding;
+mod gathering;
 mod graph;
 mod known;
 mod linking;
 mod linting;
-mod lists;
+mod names;
 mod reach;
+mod tables;
 mod walks;
 
 pub use cargo_toml_features::admit::MAX_ITEMS;

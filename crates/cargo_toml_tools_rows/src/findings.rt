@@ -9,7 +9,7 @@ use std::fs;
 use std::hash::{BuildHasherDefault, FoldHasher};
 use std::rt::Files;
 
-/// A line `LEVEL | CODE | FEATURE | words` for each finding of the manifest in a file, at a limit
+/// A line `LEVEL | CODE | FEATURE | TEXT | words` for each finding of the manifest in a file, at a limit
 /// of items where one is handed in.
 pub fn lines<R: Files + AllocGlobal>(
     rt: &R,
@@ -43,12 +43,15 @@ fn findings<'m>(
 }
 
 fn push_finding(text: &mut String, finding: &Finding<'_>) -> Result<(), Error> {
-    let level = finding.level.name();
-    let code = finding.code.name();
+    let code = finding.code;
     write!(
         text,
-        "{level} | {code} | {} | {}\n",
-        finding.feature, finding.words
+        "{} | {} | {} | {} | {}\n",
+        code.level().name(),
+        code.name(),
+        finding.feature,
+        finding.text,
+        code.words()
     )?;
     Ok(())
 }

@@ -6,6 +6,7 @@ pub returns-clause-names : goal.returns-clause-names
 returns-clause-names g c = λ i. record {
   listed = is_name (manifest_meaning (λ m. m) c.args.manifest.now).features;
   dependency = λ k. c.in_ok-keys.ensures.all k i;
-  optional = λ k. c.in_ok-keys.ensures.optional k i;
-  reserved = λ k. c.in_ok-reserved.ensures k i;
+  optional = λ k. c.in_ok-keys.ensures.marked k i;
+  acted = λ k. c.in_ok-acted.ensures.all k i;
+  reserved = λ k. c.in_ok-acted.ensures.marked k i;
 }

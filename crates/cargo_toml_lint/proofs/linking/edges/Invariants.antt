@@ -1,4 +1,4 @@
-use Rattle.std.proofs.Common.{◌<◌, ℕ, IsTrue, length, map}
+use Rattle.std.proofs.Common.{◌<◌, IsTrue, length, map}
 use Rattle.cargo_toml_features.specs.Places.{nth_text}
 use Rattle.cargo_toml_lint.specs.Names.{held_names, listed_by}
 use Rattle.cargo_toml_lint.specs.Turning.{turned}

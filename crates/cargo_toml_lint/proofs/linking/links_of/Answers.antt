@@ -1,4 +1,4 @@
-use Rattle.std.proofs.Common.{◌≡◌, ◌↔◌, ◌<◌, ℕ, IsTrue, ap, length, map, subst, sym, ◌∙◌}
+use Rattle.std.proofs.Common.{◌↔◌, ◌<◌, ℕ, IsTrue, ap, length, map, subst, sym, ◌∙◌}
 use Rattle.cargo_toml_features.specs.Places.{nth_text}
 use Rattle.cargo_toml_lint.specs.Names.{held_names, listed_by}
 use Rattle.cargo_toml_lint.specs.Reached.{Leads}

@@ -1,18 +1,13 @@
-use Rattle.std.proofs.Common.{map, ap}
 use Rattle.cargo_toml.specs.Manifests.{manifest_meaning}
-use Rattle.cargo_toml.specs.Products.{product_meaning}
-use Rattle.cargo_toml_lint.proofs.Exact.{holds_in}
+use Rattle.cargo_toml_lint.proofs.Exact.{holds_is}
 use Rattle.cargo_toml_lint.proofs.linting.lint_limited.Goals as goal
 
 pub returns-clause-exact : goal.returns-clause-exact
 returns-clause-exact g c =
     let m = manifest_meaning (λ m. m) c.args.manifest.now in
     let found = c.in_ok-found_in.ensures.exact in
-    λ d f.
-    let same =
-    holds_in c.args.limit m c.in_ok-resolved.resolved c.in_ok-known.known
+    λ d f t.
+    let same = holds_is c.args.limit m c.in_ok-resolved.resolved c.in_ok-known.known
     c.in_ok-known.ensures.names c.in_ok-known.ensures.listed c.in_ok-resolved.ensures.resolved
-    found.0 found.1
-    (map product_meaning c.as_slice.result.now)
-    (ap (map product_meaning) c.as_slice.ensures.value) d f in
-    (λ i. same.0 ((found.2 d f).0 i), λ h. (found.2 d f).1 (same.1 h))
+    found.0 found.1 d f t in
+    (λ i. same.0 ((found.2 d f t).0 i), λ h. (found.2 d f t).1 (same.1 h))

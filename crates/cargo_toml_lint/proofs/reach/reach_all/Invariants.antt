@@ -1,4 +1,4 @@
-use Rattle.std.proofs.Common.{◌≡◌, ◌<◌, ℕ, length}
+use Rattle.std.proofs.Common.{◌≡◌, ◌<◌, ℕ}
 use Rattle.cargo_toml_lint.specs.Reached.{IsSettled, IsWhole}
 use Rattle.cargo_toml_lint.proofs.reach.reach_all.Given as goal
 

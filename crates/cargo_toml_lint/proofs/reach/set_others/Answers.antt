@@ -1,4 +1,4 @@
-use Rattle.std.proofs.Common.{◌≡◌, ◌≢◌, arith, inl, inr, subst, sym, ◌∙◌}
+use Rattle.std.proofs.Common.{◌≢◌, arith, inl, inr, subst, sym, ◌∙◌}
 use Rattle.cargo_toml_lint.proofs.Rows.{among_at, among_more}
 use Rattle.cargo_toml_lint.proofs.reach.set_others.Goals.{then-x-own, else-x-own}
 use Rattle.cargo_toml_lint.proofs.reach.set_others.Goals as goal

@@ -1,4 +1,4 @@
-use Rattle.std.proofs.Common.{◌≡◌, map, not, take}
+use Rattle.std.proofs.Common.{◌≡◌, map, take}
 use Rattle.cargo_toml_lint.specs.Linked.{is_default}
 use Rattle.cargo_toml_lint.proofs.walks.are_default.Given as goal
 

@@ -1,4 +1,4 @@
-use Rattle.std.proofs.Common.{◌≡◌, ◌||◌, ◌<◌, [], Bool, Bor, IsTrue, ap, arith, get_or, length, map, subst, sym, true, false, ◌∙◌}
+use Rattle.std.proofs.Common.{◌≡◌, ◌||◌, [], Bool, Bor, IsTrue, ap, get_or, map, subst, sym, true, false, ◌∙◌}
 use Rattle.std.proofs.lemmas.Bool.{false≢true}
 use Rattle.cargo_toml.specs.Action.{Text}
 use Rattle.cargo_toml_features.proofs.TextKeys.{inserted}

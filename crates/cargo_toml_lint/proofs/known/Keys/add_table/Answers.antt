@@ -1,43 +1,29 @@
-use Rattle.std.proofs.Common.{bytes_eq, map, string_bytes, sym, ap, ◌∙◌}
+use Rattle.std.proofs.Common.{◌∷◌, [], Bool, Global, List, String, map, string_bytes, ap, ap₂, subst}
 use Rattle.std.proofs.lemmas.Map.Iter.{rest_all, rest_more}
 use Rattle.std.specs.Map.Iter.{deref_pair}
-use Rattle.cargo_toml.specs.Views.{set_has}
-use Rattle.cargo_toml_lint.proofs.Gathered.{put_if, put_none}
-use Rattle.cargo_toml_lint.proofs.Names.{adding_begun, adding_done, adding_more, alone, entry_put, table_added}
-use Rattle.cargo_toml_lint.proofs.Tables.{put_key}
+use Rattle.cargo_toml.specs.Action.{Text}
+use Rattle.cargo_toml.specs.Dependencies.{dependency_meaning}
+use Rattle.cargo_toml_dependencies.specs.declared.dependency.Dependency.{Dependency}
+use Rattle.cargo_toml_lint.specs.Known.{Marked, keys_in}
+use Rattle.cargo_toml_lint.specs.Names.{AddsKeys}
+use Rattle.cargo_toml_lint.proofs.Adding.{adding_done, adding_more, begun}
 use Rattle.cargo_toml_lint.proofs.known.Keys.add_table.Goals as goal
 
-pub loop-key-init : goal.loop-key-init
-loop-key-init c = adding_begun _ _ c.args.self.now
-    (ap (map alone) c.into_iter-key-iterator.ensures.into_iter_gives.0)
+abbrev keys : List (String Global × Dependency) → Marked
+keys es = keys_in (map (λ e. (string_bytes e.0, dependency_meaning e.1)) es)
 
-pub loop-key-preserved-in_ok-insert-2 : goal.loop-key-preserved-in_ok-insert-2
-loop-key-preserved-in_ok-insert-2 c =
-    adding_more (ap (map alone) (rest_more deref_pair _ _ _ (c.in-Some.key, c.in-Some.dependency)
-    c.in-Some.is c.next.ensures.steps))
-    (entry_put (c.in-Some.key.now, c.in-Some.dependency.now) c.loop-key.self
-    (record { all = c.insert.new.self; optional = c.insert-then-optional.new.self })
-    (put_key c.as_str-key.result.now (string_bytes c.in-Some.key.now) c.loop-key.self.all
-    c.insert.new.self c.as_str-key.ensures.value c.in_ok-insert.ensures.updates)
-    (λ k. put_if (set_has c.loop-key.self.optional k) (set_has c.insert-then-optional.new.self k)
-    (bytes_eq k (string_bytes c.in-Some.key.now)) _ (sym c.optional.ensures ∙ c.if-optional.true)
-    (put_key c.as_str-key.result.now (string_bytes c.in-Some.key.now) c.loop-key.self.optional
-    c.insert-then-optional.new.self c.as_str-key.ensures.value c.in_ok-insert-2.ensures.updates k)))
-    c.loop-key.invariant
+pub loop-key-init : goal.loop-key-init
+loop-key-init c = begun AddsKeys _ _ c.args.self.now (ap keys
+    c.into_iter-key-iterator.ensures.into_iter_gives.0)
 
 pub loop-key-preserved : goal.loop-key-preserved
-loop-key-preserved c =
-    adding_more (ap (map alone) (rest_more deref_pair _ _ _ (c.in-Some.key, c.in-Some.dependency)
-    c.in-Some.is c.next.ensures.steps))
-    (entry_put (c.in-Some.key.now, c.in-Some.dependency.now) c.loop-key.self
-    (record { all = c.insert.new.self; optional = c.loop-key.self.optional })
-    (put_key c.as_str-key.result.now (string_bytes c.in-Some.key.now) c.loop-key.self.all
-    c.insert.new.self c.as_str-key.ensures.value c.in_ok-insert.ensures.updates)
-    (λ k. put_none (set_has c.loop-key.self.optional k)
-    (bytes_eq k (string_bytes c.in-Some.key.now)) _ (sym c.optional.ensures ∙ c.if-optional.false)))
-    c.loop-key.invariant
+loop-key-preserved c = adding_more
+    (ap keys (rest_more deref_pair _ _ _ (c.in-Some.key, c.in-Some.dependency) c.in-Some.is
+    c.next.ensures.steps))
+    (subst (λ ks. AddsKeys ks c.loop-key.self c.add.new.self)
+    (ap₂ (λ (k : Text) (m : Bool). (k, m) ∷ []) c.as_str.ensures.value c.optional.ensures)
+    c.in_ok-add.ensures) c.loop-key.invariant
 
 pub returns : goal.returns
-returns c = table_added c.args.table.now c.args.self.now c.loop-key.self
-    (adding_done (ap (map alone) (rest_all deref_pair _ _ _ c.in-None.is c.next.ensures.steps))
-    c.loop-key.invariant)
+returns c = adding_done (ap keys (rest_all deref_pair _ _ _ c.in-None.is c.next.ensures.steps))
+    c.loop-key.invariant

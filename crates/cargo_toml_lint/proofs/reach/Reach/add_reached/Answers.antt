@@ -1,4 +1,4 @@
-use Rattle.std.proofs.Common.{◌≡◌, ◌⊎◌, ◌↔◌, ◌<◌, ℕ, inl, inr, length, sym, subst, ◌∙◌}
+use Rattle.std.proofs.Common.{◌≡◌, ◌<◌, inl, inr, length, sym, subst, ◌∙◌}
 use Rattle.cargo_toml_lint.specs.Bits.{HasBit}
 use Rattle.cargo_toml_lint.proofs.Meeting.{path_alone, path_row}
 use Rattle.cargo_toml_lint.proofs.Rows.{is_none, not_none, row_read}

@@ -1,8 +1,8 @@
-use Rattle.std.proofs.Common.{◌≡◌, ◌<◌, ℕ, refl, inl, inr, sym, subst, get_or, ◌∙◌}
+use Rattle.std.proofs.Common.{ℕ, refl, inl, inr, sym, subst, get_or, ◌∙◌}
 use Rattle.std.proofs.lemmas.Bool.{false≢true}
 use Rattle.cargo_toml.specs.Reach.{Among}
 use Rattle.cargo_toml.specs.Reach.Reaches.{edge}
-use Rattle.cargo_toml_lint.specs.Reached.{Leads, Path, row_items}
+use Rattle.cargo_toml_lint.specs.Reached.{Leads, Path}
 use Rattle.cargo_toml_lint.proofs.Meeting.{first_step}
 use Rattle.cargo_toml_lint.proofs.Rows.{among_all, among_at, among_more, row_read}
 use Rattle.cargo_toml_lint.proofs.reach.Reach.is_in_ring.Goals.{else-x-own-via-then-x-own+else-leads, else-x-own-via-else-x-own}

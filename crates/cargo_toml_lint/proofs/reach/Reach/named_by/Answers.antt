@@ -1,5 +1,5 @@
-use Rattle.std.proofs.Common.{◌≡◌, ◌≢◌, ◌<◌, rules, arith, inl, inr, length, subst, sym, ◌∙◌}
-use Rattle.std.proofs.lemmas.Bool.{cases_eq, false≢true}
+use Rattle.std.proofs.Common.{◌≢◌, ◌<◌, rules, arith, inl, inr, length, subst, sym, ◌∙◌}
+use Rattle.std.proofs.lemmas.Bool.{cases_eq}
 use Rattle.cargo_toml.specs.Reach.{Among}
 use Rattle.cargo_toml_lint.specs.Reached.{IsFlagged, Leads}
 use Rattle.cargo_toml_lint.proofs.Meeting.{flag_inside}

@@ -1,0 +1,20 @@
+use Rattle.std.proofs.Common.{◌≡◌, ◌<◌, ℕ, List, [], ◌∷◌, Option, Some, None, length, get_or, slice_get, refl, ap, arith}
+use Rattle.std.proofs.lemmas.Iterator.{YieldsList-from_chars}
+use Rattle.std.proofs.lemmas.Iterator.Consumers.{YieldsList-turn, YieldsList-end}
+use Rattle.std.specs.Str.{chars}
+use Rattle.cargo_toml_lint.proofs.names.first_char.Goals as goal
+
+at_first : (all : List ℕ) (r : Option ℕ)
+    → ((x : ℕ) → r ≡ Some x → (0 < length all) × (x ≡ get_or all 0 x)) → (r ≡ None → [] ≡ all)
+    → r ≡ slice_get all 0
+at_first [] (Some x) some none = let lt = (some x refl).0 in absurd (omega (arith, lt))
+at_first [] None some none = refl
+at_first (y ∷ ys) (Some x) some none = ap Some (some x refl).1
+at_first (y ∷ ys) None some none = let same : [] ≡ y ∷ ys = none refl in absurd (cc)
+
+pub returns : goal.returns
+returns c =
+    let of = YieldsList-from_chars c.args.text.now c.utf8.text cc in
+    at_first (chars c.args.text.now) c.next.result
+    (λ x is. YieldsList-turn of [] _ refl _ _ x is c.next.ensures.steps)
+    (λ is. (YieldsList-end of [] _ refl _ _ is c.next.ensures.steps).0)

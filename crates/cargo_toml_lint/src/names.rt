@@ -1,0 +1,101 @@
+//! Which names and texts Cargo takes.
+ghost use Rattle.std.specs.Prelude.{◌≡◌, IfSome, codes, is_some, nat_eq, slice_get};
+ghost use Rattle.std.specs.List.{after_first, before_first, ends_with, list_all, list_any};
+ghost use Rattle.std.specs.List.{starts_with};
+ghost use Rattle.std.specs.Str.{chars};
+ghost use Rattle.cargo_toml.specs.Action.{is_slash};
+ghost use Rattle.cargo_toml_lint.specs.Taken.{is_bad_text, is_feature_name, is_never_required};
+ghost use Rattle.cargo_toml_lint.specs.Taken.{may_follow, may_start};
+
+use unicode_ident::{is_xid_continue, is_xid_start};
+
+// Whether a feature's name may begin with the character.
+fn may_start(c: char) -> bool
+    ensures { result ≡ may_start c }
+{
+    is_xid_start(c) || c == '_' || c.is_ascii_digit()
+}
+
+// Whether the character may stand in a feature's name.
+fn may_follow(c: char) -> bool
+    ensures { result ≡ may_follow c }
+{
+    is_xid_continue(c) || c == '-' || c == '+' || c == '.'
+}
+
+fn first_char(text: &str) -> Option<char>
+    ensures { result ≡ slice_get (chars text.now) 0 }
+{
+    text.chars().next()
+}
+
+// Whether each character may stand in a feature's name.
+fn all_may_follow(text: &str) -> bool
+    ensures { result ≡ list_all may_follow (chars text.now) }
+{
+    text.chars().all(|c| may_follow(c))
+}
+
+/// Whether Cargo takes the text for the name of a feature.
+pub(crate) fn is_feature_name(name: &str) -> bool
+    ensures { result ≡ is_feature_name name.now }
+{
+    match first_char(name) {
+        Some(first) => may_start(first) && all_may_follow(name),
+        None => false,
+    }
+}
+
+// Whether the text begins with `dep:`.
+fn has_dep(text: &str) -> bool
+    ensures { result ≡ starts_with nat_eq text.now (codes "dep:") }
+{
+    match text.strip_prefix("dep:") {
+        Some(_) => true,
+        None => false,
+    }
+}
+
+// Whether the text ends in `?`.
+fn has_mark(text: &str) -> bool
+    ensures { result ≡ ends_with nat_eq text.now (codes "?") }
+{
+    match text.strip_suffix('?') {
+        Some(_) => true,
+        None => false,
+    }
+}
+
+// The text up to its first slash, and what follows that.
+fn split_slash(text: &str) -> (&str, Option<&str>)
+    ensures front { result.0.now ≡ before_first is_slash text.now }
+    ensures found { is_some result.1 ≡ list_any is_slash text.now }
+    ensures after { IfSome result.1 (λ rest. rest.now ≡ after_first is_slash text.now) }
+{
+    match text.split_once('/') {
+        Some((front, feature)) => (front, Some(feature)),
+        None => (text, None),
+    }
+}
+
+/// Whether the text is of no form that Cargo knows in a feature's list.
+pub(crate) fn is_bad_text(text: &str) -> bool
+    ensures { result ≡ is_bad_text text.now }
+{
+    let parts = split_slash(text);
+    match parts.1 {
+        Some(feature) => has_dep(text) | !is_feature_name(feature),
+        None => has_mark(text),
+    }
+}
+
+/// Whether Cargo refuses a target that requires the text.
+pub(crate) fn is_never_required(text: &str) -> bool
+    ensures { result ≡ is_never_required text.now }
+{
+    let parts = split_slash(text);
+    match parts.1 {
+        Some(_) => has_mark(parts.0),
+        None => has_dep(text),
+    }
+}

@@ -1,6 +1,7 @@
 -- What is gathered of all features that one turns on.
 use Rattle.std.proofs.Common.{◌≡◌, ◌≢◌, ◌⊎◌, ◌↔◌, ◌&&◌, ◌||◌, ◌∙◌, Bool, Bor, IsTrue, List, [], ◌∷◌}
-use Rattle.std.proofs.Common.{None, Option, Some, ap, ap₂, false, inl, inr, not, refl, subst, sym, true}
+use Rattle.std.proofs.Common.{None, Option, Some, ap, ap₂, false, inl, inr, not, option_map, refl}
+use Rattle.std.proofs.Common.{subst, sym, true}
 use Rattle.std.proofs.Math.Bool.{and-false, and-true, or-false}
 use Rattle.std.proofs.lemmas.Bool.{and_from, and_parts, false≢true, false_from_ne_true, not-true}
 use Rattle.std.proofs.lemmas.Bool.{not_from_false, or_left, or_right}
@@ -11,21 +12,21 @@ use Rattle.std.specs.BTreeSet.{BTreeSet}
 use Rattle.std.specs.Cmp.Lexicographic.{slice_cmp}
 use Rattle.std.specs.HashMap.{HashMap}
 use Rattle.std.specs.List.{list_any}
+use Rattle.std.specs.Map.{lookup}
 use Rattle.std.specs.Option.{option_map_or}
 use Rattle.std.specs.Ordering.{nat_cmp}
 use Rattle.std.specs.Prelude.{bytes_eq}
 use Rattle.cargo_toml.specs.Action.{Action, IsJoin, Text, join_option}
 use Rattle.cargo_toml.specs.Feature.{Feature}
 use Rattle.cargo_toml.specs.Graph.{Table}
-use Rattle.cargo_toml.specs.Reached.{IsKeyed}
-use Rattle.cargo_toml.specs.Views.{action_at, set_has, table_in, value_at}
+use Rattle.cargo_toml.specs.Views.{action_at, action_of, set_has, table_in, value_at}
+use Rattle.cargo_toml_features.specs.declared.features.DepAction.{DepAction}
 use Rattle.cargo_toml_features.proofs.Naming.{none_left, none_yet, one_more}
-use Rattle.cargo_toml_features.proofs.Pending.{key_of}
 use Rattle.cargo_toml_features.proofs.TextKeys.{none_in}
 use Rattle.cargo_toml_graph.proofs.JoinLaws.{join_option_assoc, join_option_none}
 use Rattle.cargo_toml_graph.proofs.Joins.{join_alike, join_halves, join_one}
 use Rattle.cargo_toml_lint.proofs.Gathered.{at_head, has_in}
-use Rattle.cargo_toml_tools.specs.Documented.{Acts, IsOn, TurnsOnOther, is_internal, is_told_beside}
+use Rattle.cargo_toml_tools.specs.Documented.{Acts, IsOn, is_told_beside}
 
 module _ {S : Type 0} (m : HashMap (Bor Text) Feature S) (name : Text) where
   -- ---- the features beside the one of this name
@@ -113,40 +114,19 @@ module _ {S : Type 0} (m : HashMap (Bor Text) Feature S) (name : Text) where
       none_left (hits x) (set_has others x) left _ none (h x)
       ∙ both (is_at (λ q. slice_cmp nat_cmp x q.now)) (is_beside x) names.keys
 
-  module _ (t : Table) (keyed : IsKeyed m) (names others : BTreeSet (Bor Text))
-      (on : (x : Text) → IsTrue (set_has names x) ↔ IsOn t m name x)
-      (are : (x : Text) → set_has others x ≡ (set_has names x && is_beside x)) where
-    other : (x : Text) (o : Option Feature) → value_at m x ≡ o
-        → IsTrue (option_map_or (is_told_beside name) o false)
-        → (x ≢ name) × IsTrue (option_map_or (λ v. not (is_internal v)) o false)
-    other x None at e = absurd (false≢true e)
-    other x (Some v) at e =
-        let p = and_parts (not (bytes_eq v.key.now name)) (not (is_internal v)) e in (
-          λ same. false≢true (sym (not-true (bytes_eq v.key.now name) p.0)
-              ∙ (bytes_eq-Decides v.key.now name).1 (key_of m keyed x v at ∙ same)),
-          p.1,
-        )
-
-    beside : (x : Text) (o : Option Feature) → value_at m x ≡ o → (x ≢ name)
-        → IsTrue (option_map_or (λ v. not (is_internal v)) o false)
-        → IsTrue (option_map_or (is_told_beside name) o false)
-    beside x None at apart e = absurd (false≢true e)
-    beside x (Some v) at apart e =
-        and_from (not (bytes_eq v.key.now name)) (not (is_internal v))
-        (not_from_false (bytes_eq v.key.now name)
-        (false_from_ne_true (bytes_eq v.key.now name)
-        (λ same. apart (sym (key_of m keyed x v at) ∙ (bytes_eq-Decides v.key.now name).0 same)))) e
-
-    pub others_are : (x : Text) → IsTrue (set_has others x) ↔ TurnsOnOther t m name x
-    others_are x = (
-      λ h.
-          let p = and_parts (set_has names x) (is_beside x) (sym (are x) ∙ h) in
-          let q = other x (value_at m x) refl p.1 in (q.0, (on x).0 p.0, q.1),
-      λ h. are x ∙ and_from (set_has names x) (is_beside x) ((on x).1 h.1)
-          (beside x (value_at m x) refl h.0 h.2),
-    )
+  pub others_are : (t : Table) (names others : BTreeSet (Bor Text))
+      → ((x : Text) → IsTrue (set_has names x) ↔ IsOn t m name x)
+      → ((x : Text) → set_has others x ≡ (set_has names x && is_beside x))
+      → (x : Text) → IsTrue (set_has others x) ↔ (IsOn t m name x × IsTrue (is_beside x))
+  others_are t names others on are x = (
+    λ h. (let p = and_parts (set_has names x) (is_beside x) (sym (are x) ∙ h) in ((on x).0 p.0, p.1)),
+    λ h. are x ∙ and_from (set_has names x) (is_beside x) ((on x).1 h.0) h.1,
+  )
 
 -- ---- the actions of all of them
+abbrev pub found_in : Text → List (Bor Text × DepAction) → Option Action
+found_in k es = option_map action_of (lookup (is_at (λ q. slice_cmp nat_cmp k q.now)) es)
+
 module _ {S : Type 0} (t : Table) (m : HashMap (Bor Text) Feature S) (name : Text) where
   -- some name of the list acts so on k
   abbrev SaysOf : List (Bor Text) → Text → Action → Type 0

@@ -1,17 +1,16 @@
 //! What a feature turns on, by any number of steps.
-ghost use Rattle.std.specs.Prelude.{◌≡◌, ◌&&◌, ◌||◌, IfOk, None, OnOk, Some, bytes_eq};
-ghost use Rattle.std.specs.Prelude.{if◌then◌else◌};
-ghost use Rattle.cargo_toml.specs.Action.{Text, join, join_option};
+ghost use Rattle.std.specs.Prelude.{◌≡◌, ◌&&◌, ◌||◌, IfOk, OnOk, bytes_eq};
+ghost use Rattle.cargo_toml.specs.Action.{Text};
 ghost use Rattle.cargo_toml.specs.Graph.{Table};
 ghost use Rattle.cargo_toml.specs.Reached.{IsKeyed};
-ghost use Rattle.cargo_toml.specs.Views.{action_at, action_of, set_has};
+ghost use Rattle.cargo_toml.specs.Views.{set_has};
 ghost use Rattle.cargo_toml_lint.specs.Linked.{AreFound, AreLinks};
 ghost use Rattle.cargo_toml_tools.specs.Documented.{IsReachedFrom, is_told_beside};
 
 use super::listing::{FeatureMap, is_private};
 use cargo_toml::features::{DepAction, Feature};
-use cargo_toml_features::action::neutral_action;
 use cargo_toml_lint::Links;
+use cargo_toml_resolve::joining::add_actions;
 use std::alloc::{AllocError, Global};
 use std::collections::{BTreeMap, BTreeSet};
 use std::hash::BuildHasher;
@@ -42,7 +41,7 @@ pub(crate) fn reach<'m, S: BuildHasher>(
     for other in &names {
         if let Some(feature) = features.get(*other) {
             add_other(&mut others, feature, name)?;
-            join_actions(alloc, &mut actions, feature)?;
+            add_actions(alloc, &mut actions, &feature.enables_deps)?;
         }
     }
     Ok(Reached {
@@ -64,52 +63,4 @@ fn add_other<'m>(
         others.insert(feature.key)?;
     }
     Ok(())
-}
-
-/// Joins the actions of a feature into what is done to dependencies.
-fn join_actions<'m>(
-    alloc: Global,
-    actions: &mut BTreeMap<&'m str, DepAction<'m>>,
-    feature: &Feature<'m>,
-) -> Result<(), AllocError>
-    ensures { OnOk result ((k : Text) → action_at actions.new k
-        ≡ join_option (action_at actions.old k) (action_at feature.now.enables_deps k)) }
-{
-    for (key, action) in &feature.enables_deps {
-        join(alloc, actions, *key, action)?;
-    }
-    Ok(())
-}
-
-/// Joins an action into what is done to its dependency. Two are conditional only where both are.
-fn join<'m>(
-    alloc: Global,
-    actions: &mut BTreeMap<&'m str, DepAction<'m>>,
-    key: &'m str,
-    action: &DepAction<'m>,
-) -> Result<(), AllocError>
-    ensures { OnOk result ((k : Text) → action_at actions.new k
-        ≡ join_option (action_at actions.old k)
-        (if bytes_eq k key.now then Some (action_of action.now) else None)) }
-{
-    let first = neutral_action(alloc);
-    join_into(actions.entry(key)?.or_insert(first), action)?;
-    Ok(())
-}
-
-fn join_into<'m>(joined: &mut DepAction<'m>, action: &DepAction<'m>) -> Result<(), AllocError>
-    ensures { OnOk result
-        (action_of joined.new ≡ join (action_of joined.old) (action_of action.now)) }
-{
-    add_texts(&mut joined.dep_features, &action.dep_features)?;
-    joined.is_conditional &= action.is_conditional;
-    joined.is_dep_only |= action.is_dep_only;
-    Ok(())
-}
-
-fn add_texts<'m>(set: &mut BTreeSet<&'m str>, texts: &BTreeSet<&'m str>) -> Result<(), AllocError>
-    ensures { OnOk result ((x : Text) → set_has set.new x
-        ≡ (set_has set.old x || set_has texts.now x)) }
-{
-    set.extend(texts.iter().copied())
 }

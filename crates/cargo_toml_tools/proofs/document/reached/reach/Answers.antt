@@ -6,9 +6,8 @@ use Rattle.cargo_toml.specs.Feature.{Feature}
 use Rattle.cargo_toml.specs.Action.{join_option}
 use Rattle.cargo_toml.specs.Views.{action_at, value_at}
 use Rattle.cargo_toml_features.proofs.Pending.{key_of}
-use Rattle.cargo_toml_tools.proofs.Joined.{found_in}
 use Rattle.cargo_toml_tools.proofs.Reaching.{Besides, besides_all, besides_begun, besides_none}
-use Rattle.cargo_toml_tools.proofs.Reaching.{besides_one, joining_begun, joining_end, joining_none}
+use Rattle.cargo_toml_tools.proofs.Reaching.{besides_one, found_in, joining_begun, joining_end, joining_none}
 use Rattle.cargo_toml_tools.proofs.Reaching.{joining_one, others_are}
 use Rattle.cargo_toml_tools.proofs.document.reached.reach.Goals as goal
 
@@ -35,8 +34,8 @@ loop-other-preserved-in-Continue-branch-3 g c = λ keyed t are.
       others = besides_one m name _ k _ _ _ c.loop-other.others c.add_other.new.others is at
           (key_of m keyed _ _ at) c.in_ok-add_other.ensures held.others;
       actions = joining_one t m name k _ _ (action_at c.loop-other.actions)
-          (action_at c.join_actions.new.actions) is
-          (λ q. c.in_ok-join_actions.ensures q ∙ ap (join_option (action_at c.loop-other.actions q))
+          (action_at c.add_actions.new.own) is
+          (λ q. c.in_ok-add_actions.ensures q ∙ ap (join_option (action_at c.loop-other.actions q))
           (sym (ap (λ o. option_map_or (λ (f : Feature). action_at f.enables_deps q) o None) at)))
           held.actions;
     }
@@ -65,7 +64,7 @@ returns g c = λ keyed t are.
     let held = c.loop-other.invariant keyed t are in
     let all = c.into_iter-other-iterator.ensures.into_iter_gives.0 in
     record {
-      features = others_are m name t keyed names c.loop-other.others
+      features = others_are m name t names c.loop-other.others
           (c.in_ok-names.ensures t are)
           (besides_all m name names c.loop-other.others _ none
           (subst (λ ks. Besides m name ks c.loop-other.others c.loop-other.other-iterator) all

@@ -4,7 +4,7 @@ use Rattle.std.specs.Prelude.{List, [], ◌∷◌, Option, Some, None, is_none, 
 use Rattle.std.specs.Prelude.{bytes_eq, codes, option_and_then, option_map, unwrap_or}
 use Rattle.std.specs.List.{flat_map, list_any}
 use Rattle.std.specs.Option.{option_map_or, option_or}
-use Rattle.toml.specs.Data.{Data, Members, as_bool, as_table, get, get_member, no_members}
+use Rattle.toml.specs.Data.{Data, Members, as_bool, as_table, get_member, no_members}
 use Rattle.toml.specs.Parse.{parse_document}
 use Rattle.cargo_toml.specs.Action.{Text}
 use Rattle.cargo_toml.specs.Dependencies.{DependencyMeaning, simple, inherited, detailed}
@@ -202,7 +202,7 @@ table_refusal names t =
 
 -- what the table `package` has under a key
 abbrev pub in_package : Text → Members → Option Data
-in_package key ms = option_and_then (get key) (get_member (codes "package") ms)
+in_package key ms = option_and_then (get_member key) (table_in (codes "package") ms)
 
 -- of the version. One that isn't written reads as 0.0.0
 abbrev pub version_refusal : Members → Inheritable Parts → Option Refusal

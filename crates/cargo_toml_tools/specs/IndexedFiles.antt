@@ -1,8 +1,9 @@
 -- What `index` answers of a file.
-use Rattle.std.specs.Prelude.{◌≡◌, ◌⊎◌, List, None, Result, Some, ⊤}
+use Rattle.std.specs.Prelude.{◌≡◌, ◌⊎◌, ◌++◌, [], ◌∷◌, List, None, Result, Some, ⊤}
 use Rattle.std.specs.declared.fmt.Error.{Error as FmtError}
 use Rattle.std.specs.declared.fmt.Formatter.{Formatter}
 use Rattle.serde_json.specs.Data.{Data}
+use Rattle.serde_json.specs.Written.{IsInOrder}
 use Rattle.toml.specs.declared.value.Value.{Value}
 use Rattle.cargo_toml.specs.Action.{Text}
 use Rattle.cargo_toml.specs.Manifest.{Manifest}
@@ -33,6 +34,14 @@ pub record IsIndexed (path : Text) (w : Wanted) (line : Data) : Type 0 where
   pub looked_at : IsLookedAt path text manifest findings
   pub taken : refusal_of w findings text (held manifest) ≡ None
   pub is : Some line ≡ index_data w text (held manifest)
+
+-- what is printed is the text of such a line, and a line feed
+pub record IsPrinted (path : Text) (w : Wanted) (printed : Text) : Type 0 where
+  pub line : Data
+  pub indexed : IsIndexed path w line
+  pub text : Text
+  pub exact : IsInOrder text line
+  pub ended : printed ≡ text ++ 10 ∷ []
 
 -- there is such a manifest, which an index doesn't take, for what is told
 pub record IsUntaken (path : Text) (w : Wanted) (e : IndexError) : Type 0 where

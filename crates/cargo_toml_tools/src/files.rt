@@ -4,11 +4,9 @@ mod auditing;
 mod documenting;
 mod indexing;
 mod linting;
-mod printing;
 mod reading;
 
 pub use auditing::audit;
-pub use documenting::{document, graph_in};
-pub use indexing::{Fault, index};
-pub use linting::lint;
-pub use printing::{document_text, index_line, lint_lines};
+pub use documenting::{document, document_text};
+pub use indexing::{Fault, index_line};
+pub use linting::{lint, lint_lines};

@@ -10,7 +10,7 @@ ghost use Rattle.cargo_toml_tools.specs.FromFiles.{IsOfInput, IsUnreadable};
 ghost use Rattle.cargo_toml_tools.specs.declared.document.listing.Row.{Row};
 
 use super::reading::manifest_in;
-use crate::document::{TakesRows, graph, rows};
+use crate::document::{Page, TakesRows, graph, rows};
 use cargo_toml::features::{Features, Resolver};
 use cargo_toml::{Error, Manifest};
 use std::hash::RandomState;
@@ -32,8 +32,24 @@ pub fn document<R: Files + RandomSource + AllocGlobal, T: TakesRows>(
     hand_on(rt, &*held.manifest, taker)
 }
 
-/// The graph of the features of the crate of this file, in Graphviz's language. Refused as above.
-pub fn graph_in<R: Files + RandomSource + AllocGlobal>(rt: &R, file: &str) -> Result<String, Error>
+/// The same as a page, or the graph in Graphviz's language where `dot` is set. Refused as above.
+pub fn document_text<R: Files + RandomSource + AllocGlobal>(
+    rt: &R,
+    file: &str,
+    dot: bool,
+) -> Result<String, Error>
+    ensures { IfErr result IsUnreadable }
+{
+    if dot {
+        return graph_in(rt, file);
+    }
+    let mut page = Page::new(rt.alloc());
+    document(rt, file, &mut page)?;
+    Ok(page.text)
+}
+
+/// The graph of the features of the crate of this file.
+fn graph_in<R: Files + RandomSource + AllocGlobal>(rt: &R, file: &str) -> Result<String, Error>
     ensures { IfErr result IsUnreadable }
 {
     let held = manifest_in(rt, file)?;

@@ -1,7 +1,8 @@
 //! The line of a registry's index.
-ghost use Rattle.std.specs.Prelude.{IfErr, IfOk};
+ghost use Rattle.std.specs.Prelude.{IfErr, IfOk, IsSome, OnOk, string_bytes};
+ghost use Rattle.std.specs.Path.{path_parent};
 ghost use Rattle.serde_json.specs.View.{view};
-ghost use Rattle.cargo_toml_tools.specs.IndexedFiles.{IsIndexFault, IsIndexed};
+ghost use Rattle.cargo_toml_tools.specs.IndexedFiles.{IsIndexFault, IsIndexed, IsPrinted};
 ghost use Rattle.cargo_toml_tools.specs.Sections.{wanted_of};
 
 use super::linting::findings_of;
@@ -71,14 +72,32 @@ impl fmt::Display for Fault {
     }
 }
 
-/// What an index has of the crate of this file, which is completed first: an object of JSON.
-/// Refused where the file can't be read or completed as a manifest, or has what no index takes.
-pub fn index<R: Files + RandomSource + AllocGlobal>(
+/// The line that an index has of the crate of this file, which is completed first: an object of
+/// JSON. Refused where the file can't be read or completed as a manifest, or has what no index takes.
+pub fn index_line<R: Files + RandomSource + AllocGlobal>(
+    rt: &R,
+    file: &str,
+    options: Options<'_>,
+) -> Result<String, Fault>
+    ensures printed { IfOk result
+        (λ line. IsPrinted file.now (wanted_of options.entry) (string_bytes line)) }
+    ensures named { OnOk result (IsSome (path_parent file.now)) }
+    ensures refused { IfErr result (IsIndexFault file.now (wanted_of options.entry)) }
+{
+    let entry = entry_in(rt, file, options)?;
+    let mut line = entry.to_string(rt.alloc())?;
+    line.push_str("\n")?;
+    Ok(line)
+}
+
+/// The same as a value.
+fn entry_in<R: Files + RandomSource + AllocGlobal>(
     rt: &R,
     file: &str,
     options: Options<'_>,
 ) -> Result<Value, Fault>
     ensures indexed { IfOk result (λ v. IsIndexed file.now (wanted_of options.entry) (view v)) }
+    ensures named { OnOk result (IsSome (path_parent file.now)) }
     ensures refused { IfErr result (IsIndexFault file.now (wanted_of options.entry)) }
 {
     let read = text_in(rt, file)?;

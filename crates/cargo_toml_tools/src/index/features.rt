@@ -192,7 +192,7 @@ fn is_newer(text: &str) -> bool
 {
     let action = read_action(text);
     if action.acts() {
-        action.is_dep_only || action.is_conditional
+        action.is_dep_only | action.is_conditional
     } else {
         false
     }

@@ -24,7 +24,7 @@ ghost use Rattle.cargo_toml_tools.specs.Sections.{names_of, refused, table_of, w
 
 use super::Options;
 use super::registries::{Named, address_named, source_of};
-use super::sections::Section;
+use super::sections::{Section, table_in};
 use cargo_toml::features::Kind;
 use cargo_toml::{Dependency, Inheritable, Package, Publish, SemVer};
 use cargo_toml_lint::{Finding, Level};
@@ -143,7 +143,10 @@ fn is_zero(version: &SemVer) -> bool
 fn in_package<'a>(document: &'a Table, key: &str) -> Option<&'a Value>
     ensures { option_map (λ v. view v.now) result ≡ in_package key.now (table_view document.now) }
 {
-    member(document, "package")?.get(key)
+    match table_in(document, "package") {
+        Some(package) => member(package, key),
+        None => None,
+    }
 }
 
 /// What a package may leave to the workspace.

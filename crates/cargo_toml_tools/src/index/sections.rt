@@ -122,7 +122,7 @@ fn section_in(place: Option<&Table>, kind: Kind) -> Option<&Table>
 }
 
 /// The table of this key in another.
-fn table_in<'a>(table: &'a Table, key: &str) -> Option<&'a Table>
+pub(super) fn table_in<'a>(table: &'a Table, key: &str) -> Option<&'a Table>
     ensures { option_map (λ t. table_view t.now) result ≡ table_in key.now (table_view table.now) }
 {
     match member(table, key) {

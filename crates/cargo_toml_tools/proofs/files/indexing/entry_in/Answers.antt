@@ -6,7 +6,7 @@ use Rattle.cargo_toml.specs.Texts.{AnyRefuses, any_tree}
 use Rattle.cargo_toml_manifest.proofs.PathFaults.{refused_in_file}
 use Rattle.cargo_toml_tools.specs.FromFiles.{IsCompletedIn}
 use Rattle.cargo_toml_tools.specs.Linted.{AreFindingsOf}
-use Rattle.cargo_toml_tools.proofs.files.indexing.index.Goals as goal
+use Rattle.cargo_toml_tools.proofs.files.indexing.entry_in.Goals as goal
 
 pub returns-in_err-read-clause-refused : goal.returns-in_err-read-clause-refused
 returns-in_err-read-clause-refused g c =

@@ -13,8 +13,6 @@ pub mod Refused
 pub mod Walked
 pub mod Within
 pub mod Yielded
-pub mod KeysInOrder
-pub mod Ordered
 pub mod Reaching
 pub mod Rowed
 pub mod Exactly

@@ -13,7 +13,7 @@ use Rattle.cargo_toml.specs.Kind.TheVariants.{Build, Dev, Normal}
 use Rattle.cargo_toml.specs.Requirements.{requirement_text}
 use Rattle.cargo_toml_tools.specs.Indexed.{DependencyTable, Wanted, elsewhere, lacks_version}
 use Rattle.cargo_toml_tools.specs.Indexed.{source_of, written_flag}
-use Rattle.cargo_toml_tools.specs.IndexRows.{text_array, text_or_null, with_rows}
+use Rattle.cargo_toml_tools.specs.IndexRows.{rows_if, text_array, text_or_null, with_rows}
 
 -- the requirement on the version, if there is one, and how it is written
 abbrev pub required_version : DependencyMeaning → Option (List Held)
@@ -44,11 +44,6 @@ asks_default table key =
 abbrev pub has_default : Option Members → Text → DependencyMeaning → Bool
 has_default table key d = own_default d || asks_default table key
 
--- the name of the crate, where the entry states it
-abbrev pub package_rows : Option Text → List (Text × Data)
-package_rows None = []
-package_rows (Some name) = (codes "package", string name) ∷ []
-
 abbrev pub kind_text : Kind → Text
 kind_text Normal = codes "normal"
 kind_text Build = codes "build"
@@ -67,10 +62,11 @@ abbrev pub place_rows : DependencyTable → List (Text × Data)
 place_rows t =
     (codes "target", text_or_null t.target) ∷ (codes "kind", string (kind_text t.kind)) ∷ []
 
--- all members of an entry. `registry` is there where the dependency is of another one
+-- all members of an entry: `package` where it states the name of the crate. `registry` is there
+-- where the dependency is of another one
 abbrev pub index_rows : Wanted → DependencyTable → Text × DependencyMeaning → List (Text × Data)
 index_rows w t e =
-    wanted_rows t e.0 e.1 ++ (package_rows (package_of e.1) ++ (place_rows t
+    wanted_rows t e.0 e.1 ++ (rows_if (codes "package") (package_of e.1) ++ (place_rows t
     ++ (codes "registry", text_or_null (elsewhere w.registry (source_of w.names e.1))) ∷ []))
 
 -- the entry, unless the dependency has a path or a repository and no version: it is for tests then

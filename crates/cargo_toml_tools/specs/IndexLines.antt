@@ -9,7 +9,7 @@ use Rattle.cargo_toml.specs.Packages.{PackageMeaning}
 use Rattle.cargo_toml_tools.specs.Indexed.{DependencyTable, Wanted, dependency_tables, written}
 use Rattle.cargo_toml_tools.specs.IndexEntries.{table_entries}
 use Rattle.cargo_toml_tools.specs.IndexFeatures.{feature_rows, kept_lists}
-use Rattle.cargo_toml_tools.specs.IndexRows.{checksum_rows, rows_of_package, with_rows}
+use Rattle.cargo_toml_tools.specs.IndexRows.{rows_if, rows_of_package, with_rows}
 
 -- an object of what is of the package alone, of its dependencies, its features and a checksum, with
 -- each member once
@@ -18,7 +18,7 @@ abbrev pub line_data : {M : Type 0} → Wanted → List DependencyTable → List
 line_data w ts features p = object (with_rows
     (rows_of_package p
     ++ ((codes "deps", array (items_of (flat_map (table_entries w) ts)))
-    ∷ (feature_rows (kept_lists ts features) ++ checksum_rows w.checksum))) no_members)
+    ∷ (feature_rows (kept_lists ts features) ++ rows_if (codes "cksum") w.checksum))) no_members)
 
 -- that of a manifest, which was read from the text
 abbrev pub index_data : {M : Type 0} → Wanted → Text → ManifestMeaning M → Option Data

@@ -30,6 +30,7 @@ rows_of_package p =
     ∷ (codes "links", text_or_null p.links)
     ∷ (codes "rust_version", text_or_null (option_and_then value_of p.rust_version)) ∷ []
 
-abbrev pub checksum_rows : Option Text → List (Text × Data)
-checksum_rows None = []
-checksum_rows (Some checksum) = (codes "cksum", string checksum) ∷ []
+-- a text under a key, where there is one
+abbrev pub rows_if : Text → Option Text → List (Text × Data)
+rows_if key None = []
+rows_if key (Some text) = (key, string text) ∷ []

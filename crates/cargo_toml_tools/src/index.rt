@@ -12,7 +12,7 @@ ghost use Rattle.cargo_toml.specs.Packages.{held_package};
 ghost use Rattle.cargo_toml_tools.specs.declared.index.IndexError.TheVariants.{Memory};
 ghost use Rattle.cargo_toml_tools.specs.Indexed.{refusal_of, written};
 ghost use Rattle.cargo_toml_tools.specs.IndexLines.{index_data, line_data};
-ghost use Rattle.cargo_toml_tools.specs.IndexRows.{checksum_rows, rows_of_package, with_rows};
+ghost use Rattle.cargo_toml_tools.specs.IndexRows.{rows_of_package, with_rows};
 ghost use Rattle.cargo_toml_tools.specs.Checked.{lists_meaning};
 ghost use Rattle.cargo_toml_tools.specs.Sections.{refused, table_of, told, wanted_of};
 
@@ -22,7 +22,7 @@ mod refusals;
 mod registries;
 mod sections;
 
-use crate::json::put_text;
+use crate::json::{put_text, put_text_if};
 use cargo_toml::{FeatureSet, Inheritable, Manifest, Package, SemVer};
 use cargo_toml_lint::Finding;
 use entry::entries;
@@ -175,7 +175,7 @@ fn line_of<M>(
     put(&mut line, alloc, "deps", Value::from(entries))?;
     let lists = kept_lists(alloc, sections, features)?;
     put_features(alloc, &mut line, lists.as_slice())?;
-    put_checksum(alloc, &mut line, options.checksum)?;
+    put_text_if(alloc, &mut line, "cksum", options.checksum)?;
     Ok(Value::from(line))
 }
 
@@ -215,20 +215,5 @@ fn stated(text: &Option<Inheritable<String>>) -> Option<&str>
     match text {
         Some(Inheritable::Set(text)) => Some(text.as_str()),
         _ => None,
-    }
-}
-
-fn put_checksum(
-    alloc: Global,
-    line: &mut Map<String, Value>,
-    checksum: Option<&str>,
-) -> Result<(), AllocError>
-    ensures { OnOk result (members_view line.new.entries
-        ≡ with_rows (checksum_rows (option_copied checksum.entry))
-        (members_view line.old.entries)) }
-{
-    match checksum {
-        Some(_) => put_text(alloc, line, "cksum", checksum),
-        None => Ok(()),
     }
 }

@@ -6,7 +6,7 @@ ghost use Rattle.serde_json.specs.View.{members_view, view};
 ghost use Rattle.cargo_toml.specs.Dependencies.{dependency_meaning};
 ghost use Rattle.cargo_toml_tools.specs.IndexEntries.{asks_default, has_default, index_entries};
 ghost use Rattle.cargo_toml_tools.specs.IndexEntries.{index_rows};
-ghost use Rattle.cargo_toml_tools.specs.IndexEntries.{kind_text, own_default, package_rows};
+ghost use Rattle.cargo_toml_tools.specs.IndexEntries.{kind_text, own_default};
 ghost use Rattle.cargo_toml_tools.specs.IndexEntries.{place_rows, req_text, required_version};
 ghost use Rattle.cargo_toml_tools.specs.IndexEntries.{table_entries, wanted_rows};
 ghost use Rattle.cargo_toml_tools.specs.IndexRows.{with_rows};
@@ -16,7 +16,7 @@ use super::Options;
 use super::refusals::lacks_version;
 use super::registries::{elsewhere, source_of};
 use super::sections::Section;
-use crate::json::{put_text, put_texts};
+use crate::json::{put_text, put_text_if, put_texts};
 use crate::requirement::required_version;
 use cargo_toml::Dependency;
 use cargo_toml::features::Kind;
@@ -91,7 +91,7 @@ fn entry(
 {
     let mut entry = Map::new(alloc);
     put_wanted(alloc, &mut entry, section, key, dependency)?;
-    put_package(alloc, &mut entry, dependency.package())?;
+    put_text_if(alloc, &mut entry, "package", dependency.package())?;
     put_place(alloc, &mut entry, section)?;
     let registry = elsewhere(options.registry, source_of(options.names, dependency));
     put_text(alloc, &mut entry, "registry", registry)?;
@@ -159,22 +159,6 @@ fn own_default(dependency: &Dependency) -> bool
     match dependency {
         Dependency::Detailed(detail) => detail.default_features,
         _ => true,
-    }
-}
-
-/// Puts the name of the crate, where the entry states it.
-fn put_package(
-    alloc: Global,
-    entry: &mut Map<String, Value>,
-    package: Option<&str>,
-) -> Result<(), AllocError>
-    ensures { OnOk result (members_view entry.new.entries
-        ≡ with_rows (package_rows (option_copied «package».entry))
-        (members_view entry.old.entries)) }
-{
-    match package {
-        Some(_) => put_text(alloc, entry, "package", package),
-        None => Ok(()),
     }
 }
 

@@ -40,20 +40,21 @@ pub record AreTexts (P : Text → Type 0) (texts : List Text) : Type 0 where
 abbrev pub is_beside : {S : Type 0} → HashMap (Bor Text) Feature S → Text → Text → Bool
 is_beside m name x = option_map_or (is_told_beside name) (value_at m x) false
 
+-- some feature of these acts so on the dependency k
+abbrev pub ActsOf : {S : Type 0} → HashMap (Bor Text) Feature S → (Text → Type 0) → Text → Action
+    → Type 0
+ActsOf m Of k a = (g : Text) × Of g × ((table_in m).action g k ≡ Some a)
+
 -- by a table of what features turn on, and the features as they are resolved
 module _ {S : Type 0} (t : Table) (m : HashMap (Bor Text) Feature S) where
   -- f turns x on, by any number of steps
   abbrev pub IsOn : Text → Text → Type 0
   IsOn f x = IsTrue (t.has f) × Enables t f x
 
-  -- some feature that f turns on acts so on the dependency k
-  abbrev pub Acts : Text → Text → Action → Type 0
-  Acts f k a = (g : Text) × IsOn f g × ((table_in m).action g k ≡ Some a)
-
   -- what is reached from f: the others, and what all of them do to each dependency, joined
   pub record IsReachedFrom (f : Text) (r : Reached) : Type 0 where
     pub features : (x : Text) → IsTrue (set_has r.features x) ↔ (IsOn f x × IsTrue (is_beside m f x))
-    pub actions : (k : Text) → IsJoin (Acts f k) (action_at r.actions k)
+    pub actions : (k : Text) → IsJoin (ActsOf m (IsOn f) k) (action_at r.actions k)
 
   -- the row tells of the feature v
   pub record IsRowOf (r : Row) (v : Feature) : Type 0 where

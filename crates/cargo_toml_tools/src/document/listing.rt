@@ -80,7 +80,7 @@ fn row_of<'m, S: BuildHasher>(
     defaults: &BTreeSet<&str>,
 ) -> Result<Row<'m>, AllocError>
     requires { AreFound links.now }
-    ensures { IfOk result (λ row. IsKeyed features.now → (t : Table) → AreLinks t links.now
+    ensures { IfOk result (λ row. (t : Table) → AreLinks t links.now
         → ((x : Text) → IsTrue (set_has defaults.now x)
         ↔ IsOn t features.now (codes "default") x)
         → IsRowOf t features.now row feature.now) }

@@ -1,14 +1,13 @@
 //! What a feature turns on, by any number of steps.
-ghost use Rattle.std.specs.Prelude.{◌≡◌, ◌&&◌, ◌||◌, IfOk, OnOk, bytes_eq};
-ghost use Rattle.cargo_toml.specs.Action.{Text};
+ghost use Rattle.std.specs.Prelude.{◌≡◌, ◌&&◌, IfOk, IsTrue};
+ghost use Rattle.cargo_toml.specs.Action.{IsJoin, Text};
 ghost use Rattle.cargo_toml.specs.Graph.{Table};
-ghost use Rattle.cargo_toml.specs.Reached.{IsKeyed};
-ghost use Rattle.cargo_toml.specs.Views.{set_has};
+ghost use Rattle.cargo_toml.specs.Views.{action_at, set_has};
 ghost use Rattle.cargo_toml_lint.specs.Linked.{AreFound, AreLinks};
-ghost use Rattle.cargo_toml_tools.specs.Documented.{IsReachedFrom, is_told_beside};
+ghost use Rattle.cargo_toml_tools.specs.Documented.{ActsOf, IsReachedFrom, is_beside};
 
 use super::listing::{FeatureMap, is_private};
-use cargo_toml::features::{DepAction, Feature};
+use cargo_toml::features::DepAction;
 use cargo_toml_lint::Links;
 use cargo_toml_resolve::joining::add_actions;
 use std::alloc::{AllocError, Global};
@@ -32,35 +31,55 @@ pub(crate) fn reach<'m, S: BuildHasher>(
     name: &str,
 ) -> Result<Reached<'m>, AllocError>
     requires { AreFound links.now }
-    ensures { IfOk result (λ r. IsKeyed features.now → (t : Table) → AreLinks t links.now
+    ensures { IfOk result (λ r. (t : Table) → AreLinks t links.now
         → IsReachedFrom t features.now name.now r) }
 {
-    let mut others = BTreeSet::new(alloc);
-    let mut actions = BTreeMap::new(alloc);
-    let names = links.turned_on(alloc, name)?;
-    for other in &names {
-        if let Some(feature) = features.get(*other) {
-            add_other(&mut others, feature, name)?;
-            add_actions(alloc, &mut actions, &feature.enables_deps)?;
-        }
-    }
+    let mut names = links.turned_on(alloc, name)?;
+    let actions = actions_of(alloc, features, &names)?;
+    keep_told(&mut names, features, name);
     Ok(Reached {
-        features: others,
+        features: names,
         actions,
     })
 }
 
-/// Adds a feature that is another, unless it is private.
-fn add_other<'m>(
-    others: &mut BTreeSet<&'m str>,
-    feature: &Feature<'m>,
-    name: &str,
-) -> Result<(), AllocError>
-    ensures { OnOk result ((x : Text) → set_has others.new x ≡ (set_has others.old x
-        || (bytes_eq x feature.now.key.now && is_told_beside name.now feature.now))) }
+/// What the features of these names do to dependencies, joined.
+fn actions_of<'m, S: BuildHasher>(
+    alloc: Global,
+    features: &FeatureMap<'m, S>,
+    names: &BTreeSet<&'m str>,
+) -> Result<BTreeMap<&'m str, DepAction<'m>>, AllocError>
+    ensures { IfOk result (λ actions. (k : Text)
+        → IsJoin (ActsOf features.now (λ g. IsTrue (set_has names.now g)) k)
+        (action_at actions k)) }
 {
-    if feature.key != name && !is_private(feature) {
-        others.insert(feature.key)?;
+    let mut actions = BTreeMap::new(alloc);
+    for name in names {
+        if let Some(feature) = features.get(*name) {
+            add_actions(alloc, &mut actions, &feature.enables_deps)?;
+        }
     }
-    Ok(())
+    Ok(actions)
+}
+
+/// Leaves those that are told of beside the feature of this name.
+fn keep_told<'m, S: BuildHasher>(
+    names: &mut BTreeSet<&'m str>,
+    features: &FeatureMap<'m, S>,
+    name: &str,
+)
+    ensures { (x : Text) → set_has names.new x
+        ≡ (set_has names.old x && is_beside features.now name.now x) }
+{
+    names.retain(|other| is_beside(features, name, *other));
+}
+
+/// Whether the last is another feature, and isn't private.
+fn is_beside<S: BuildHasher>(features: &FeatureMap<'_, S>, name: &str, other: &str) -> bool
+    ensures { result ≡ is_beside features.now name.now other.now }
+{
+    match features.get(other) {
+        Some(feature) => feature.key != name && !is_private(feature),
+        None => false,
+    }
 }

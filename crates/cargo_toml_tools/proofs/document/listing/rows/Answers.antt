@@ -30,7 +30,7 @@ loop-name-preserved-in_ok-push g c = λ keyed.
     let row = c.in_ok-row_of.field-0 in
     let at = sym c.get.ensures.value ∙ ap option_copied c.in-Some-get.is in
     let key = key_of m keyed _ _ at in
-    let tells = c.in_ok-row_of.ensures keyed t c.in_ok-links.ensures (c.in_ok-defaults.ensures t c.in_ok-links.ensures) in
+    let tells = c.in_ok-row_of.ensures t c.in_ok-links.ensures (c.in_ok-defaults.ensures t c.in_ok-links.ensures) in
     rowed_one t has m _ _ _ _
     (drop_next c.in_ok-links.links.names.items c.loop-name.name-index _ c.loop-name-test.true) row c.loop-name.rows.items c.push.new.self.items
     c.in_ok-push.ensures.items (tells.name ∙ key)

@@ -6,7 +6,7 @@ mod dot;
 mod listing;
 mod reached;
 
-use crate::escape::{Format, push_code, push_escaped};
+use crate::escape::{Format, comma_before, push_code, push_escaped};
 use cargo_toml::features::DepAction;
 pub use dot::graph;
 pub use listing::{Row, TakesRows, rows};
@@ -111,12 +111,8 @@ fn push_row(
 }
 
 fn push_names(page: &mut String, names: &BTreeSet<&str>) -> Result<(), AllocError> {
-    let mut is_first = true;
-    for name in names {
-        if !is_first {
-            page.push_str(", ")?;
-        }
-        is_first = false;
+    for (i, name) in names.iter().enumerate() {
+        page.push_str(comma_before(i))?;
         push_code(page, *name)?;
     }
     Ok(())
@@ -129,12 +125,8 @@ fn push_actions(
     page: &mut String,
     actions: &BTreeMap<&str, DepAction<'_>>,
 ) -> Result<(), AllocError> {
-    let mut is_first = true;
-    for (key, action) in actions {
-        if !is_first {
-            page.push_str(", ")?;
-        }
-        is_first = false;
+    for (i, (key, action)) in actions.iter().enumerate() {
+        page.push_str(comma_before(i))?;
         let mark = if action.is_conditional { "?" } else { "" };
         let front = format!(in alloc; "{key}{mark}")?;
         push_asked(alloc, page, front.as_str(), &action.dep_features)?;
@@ -152,12 +144,8 @@ fn push_asked(
     if asked.is_empty() {
         return push_code(page, front);
     }
-    let mut is_first = true;
-    for feature in asked {
-        if !is_first {
-            page.push_str(", ")?;
-        }
-        is_first = false;
+    for (i, feature) in asked.iter().enumerate() {
+        page.push_str(comma_before(i))?;
         push_code(page, format!(in alloc; "{front}/{feature}")?.as_str())?;
     }
     Ok(())

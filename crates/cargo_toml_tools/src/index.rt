@@ -32,7 +32,7 @@ use refusals::{Refusal, package_refusal};
 pub use registries::{CRATES_IO, Named};
 use sections::{Section, sections};
 use serde_json::{Map, Value, put};
-use std::alloc::{AllocError, AllocFailed, Global};
+use std::alloc::{AllocError, Global};
 use std::fmt;
 use toml::Table;
 
@@ -65,16 +65,6 @@ impl From<AllocError> for IndexError {
     ghost from_gives = { λ _ e. e ≡ Memory };
 
     fn from(_fault: AllocError) -> IndexError {
-        IndexError::Memory
-    }
-}
-
-impl<T: Drop> From<AllocFailed<T>> for IndexError {
-    ghost use Rattle.cargo_toml_tools.specs.declared.index.IndexError.TheVariants.{Memory};
-
-    ghost from_gives = { λ _ e. e ≡ Memory };
-
-    fn from(_fault: AllocFailed<T>) -> IndexError {
         IndexError::Memory
     }
 }

@@ -1,5 +1,5 @@
 -- The first refusal, where one element after the other is passed over.
-use Rattle.std.proofs.Common.{◌≡◌, ◌∙◌, Bool, true, false, List, [], ◌∷◌, Option, None, Some, is_some, option_map, ap, refl, sym}
+use Rattle.std.proofs.Common.{◌≡◌, ◌∙◌, true, false, List, [], ◌∷◌, Option, None, Some, is_some, option_map, ap, refl, sym}
 use Rattle.std.specs.Option.{option_or}
 use Rattle.cargo_toml_tools.specs.Indexed.{Refusal, first_refusal}
 

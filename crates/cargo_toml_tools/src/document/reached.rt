@@ -6,12 +6,13 @@ ghost use Rattle.cargo_toml.specs.Views.{action_at, set_has};
 ghost use Rattle.cargo_toml_lint.specs.Linked.{AreFound, AreLinks};
 ghost use Rattle.cargo_toml_tools.specs.Documented.{ActsOf, IsReachedFrom, is_beside};
 
+use super::gathered::others_of;
 use super::listing::{FeatureMap, is_private};
-use cargo_toml::features::DepAction;
+use cargo_toml::features::{DepAction, Feature};
 use cargo_toml_lint::Links;
 use cargo_toml_resolve::joining::add_actions;
 use std::alloc::{AllocError, Global};
-use std::collections::{BTreeMap, BTreeSet};
+use std::collections::{BTreeMap, BTreeSet, HashMap};
 use std::hash::BuildHasher;
 
 /// What a feature turns on.
@@ -34,11 +35,11 @@ pub(crate) fn reach<'m, S: BuildHasher>(
     ensures { IfOk result (λ r. (t : Table) → AreLinks t links.now
         → IsReachedFrom t features.now name.now r) }
 {
-    let mut names = links.turned_on(alloc, name)?;
+    let names = links.turned_on(alloc, name)?;
     let actions = actions_of(alloc, features, &names)?;
-    keep_told(&mut names, features, name);
+    let others = others_of(alloc, features, &names, name)?;
     Ok(Reached {
-        features: names,
+        features: others,
         actions,
     })
 }
@@ -63,10 +64,10 @@ fn actions_of<'m, S: BuildHasher>(
 }
 
 /// Leaves those that are told of beside the feature of this name.
-fn keep_told<'m, S: BuildHasher>(
+pub(crate) fn keep_told<'a, 'm, S: BuildHasher>(
     names: &mut BTreeSet<&'m str>,
-    features: &FeatureMap<'m, S>,
-    name: &str,
+    features: &'a FeatureMap<'m, S>,
+    name: &'a str,
 )
     ensures { (x : Text) → set_has names.new x
         ≡ (set_has names.old x && is_beside features.now name.now x) }
@@ -75,7 +76,11 @@ fn keep_told<'m, S: BuildHasher>(
 }
 
 /// Whether the last is another feature, and isn't private.
-fn is_beside<S: BuildHasher>(features: &FeatureMap<'_, S>, name: &str, other: &str) -> bool
+pub(super) fn is_beside<S: BuildHasher>(
+    features: &HashMap<&str, Feature<'_>, S>,
+    name: &str,
+    other: &str,
+) -> bool
     ensures { result ≡ is_beside features.now name.now other.now }
 {
     match features.get(other) {

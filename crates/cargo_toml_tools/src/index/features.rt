@@ -2,7 +2,7 @@
 ghost use Rattle.std.specs.Prelude.{◌≡◌, ◌++◌, ◌∷◌, [], IfOk, OnOk, filter, map, string_bytes};
 ghost use Rattle.std.specs.List.{list_any};
 ghost use Rattle.serde_json.specs.View.{members_view, view};
-ghost use Rattle.cargo_toml.specs.Action.{Text, item_of};
+ghost use Rattle.cargo_toml.specs.Action.{item_of};
 ghost use Rattle.cargo_toml_dependencies.specs.Replacing.{entries_meaning};
 ghost use Rattle.cargo_toml_tools.specs.Checked.{lists_meaning};
 ghost use Rattle.cargo_toml_tools.specs.IndexFeatures.{feature_rows, is_extended, is_kept};

@@ -12,7 +12,6 @@ ghost use Rattle.cargo_toml.specs.Manifests.{is_zero};
 ghost use Rattle.cargo_toml.specs.Packages.{held_package};
 ghost use Rattle.cargo_toml.specs.Reads.{map_meaning};
 ghost use Rattle.cargo_toml.specs.Settings.{publish_meaning};
-ghost use Rattle.cargo_toml_lint.specs.Findings.{code_level};
 ghost use Rattle.cargo_toml_tools.specs.Indexed.{choice_refusal, entry_refusal};
 ghost use Rattle.cargo_toml_tools.specs.Indexed.{finding_refusal, first_refusal};
 ghost use Rattle.cargo_toml_tools.specs.Indexed.{has_other_flag, is_dev, is_error, is_named};

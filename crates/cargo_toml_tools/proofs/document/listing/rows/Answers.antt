@@ -1,4 +1,4 @@
-use Rattle.std.proofs.Common.{◌≡◌, ◌∙◌, Bool, None, ap, is_some, refl, subst, sym}
+use Rattle.std.proofs.Common.{◌∙◌, Bool, ap, is_some, refl, subst, sym}
 use Rattle.std.proofs.lemmas.List.{drop_all}
 use Rattle.std.specs.Map.{lookup}
 use Rattle.std.specs.Option.{IfSome, option_copied}
@@ -10,7 +10,7 @@ use Rattle.cargo_toml_features.proofs.Pending.{key_of}
 use Rattle.cargo_toml_lint.specs.Turning.{turning}
 use Rattle.cargo_toml_tools.specs.Documented.{IsRowOf}
 use Rattle.cargo_toml_tools.proofs.Grown.{drop_next}
-use Rattle.cargo_toml_tools.proofs.Rowed.{Rowed, lists_default, rowed_all, rowed_begun, rowed_none}
+use Rattle.cargo_toml_tools.proofs.Rowed.{lists_default, rowed_all, rowed_begun, rowed_none}
 use Rattle.cargo_toml_tools.proofs.Rowed.{rowed_one, told_at, untold_at}
 use Rattle.cargo_toml_tools.proofs.document.listing.rows.Goals as goal
 

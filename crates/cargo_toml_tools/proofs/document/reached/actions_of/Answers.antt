@@ -13,8 +13,8 @@ loop-name-init g c =
     joining_begun c.args.features.now c.args.names.now.keys _ _ (λ k. ap (found_in k) c.new-actions.ensures.empty)
     c.into_iter-name-iterator.ensures.into_iter_gives.0
 
-pub loop-name-preserved-in_ok-add_actions : goal.loop-name-preserved-in_ok-add_actions
-loop-name-preserved-in_ok-add_actions g c =
+pub loop-name-preserved-in-Continue-1 : goal.loop-name-preserved-in-Continue-1
+loop-name-preserved-in-Continue-1 g c =
     let at = sym c.get.ensures.value ∙ ap option_copied c.in-Some-get.is in
     joining_one c.args.features.now c.args.names.now.keys c.in-Some.name.now _ _ (action_at c.loop-name.actions) (action_at c.add_actions.new.own)
     (rest_more deref _ _ _ c.in-Some.name c.in-Some.is c.next.ensures.steps)

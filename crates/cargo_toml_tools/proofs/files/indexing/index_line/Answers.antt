@@ -1,4 +1,4 @@
-use Rattle.std.proofs.Common.{inl, refl, string_bytes}
+use Rattle.std.proofs.Common.{string_bytes}
 use Rattle.std.proofs.lemmas.Result.{err_from_is_err_and}
 use Rattle.serde_json.specs.View.{view}
 use Rattle.cargo_toml_tools.proofs.files.indexing.index_line.Goals as goal

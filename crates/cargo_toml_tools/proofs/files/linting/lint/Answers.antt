@@ -1,9 +1,6 @@
-use Rattle.std.proofs.Common.{List, subst, sym}
-use Rattle.std.proofs.lemmas.Result.{err_from_is_err_and, on_ok_weaker}
-use Rattle.toml.specs.declared.value.Value.{Value}
-use Rattle.cargo_toml.specs.Manifest.{Manifest}
+use Rattle.std.proofs.Common.{subst, sym}
+use Rattle.std.proofs.lemmas.Result.{err_from_is_err_and}
 use Rattle.cargo_toml.specs.Manifests.{held}
-use Rattle.cargo_toml_lint.specs.declared.finding.Finding.{Finding}
 use Rattle.cargo_toml_tools.specs.FromFiles.{IsManifestIn}
 use Rattle.cargo_toml_tools.specs.Linted.{AreFindingsOf}
 use Rattle.cargo_toml_tools.proofs.FileFacts.{of_input}

@@ -3,9 +3,9 @@ use Rattle.std.proofs.Common.{inr, subst, sym}
 use Rattle.toml.specs.View.{view}
 use Rattle.toml.specs.declared.value.Value.{Value}
 use Rattle.cargo_toml.specs.Manifest.{Manifest}
-use Rattle.cargo_toml.specs.Manifests.{ManifestRefuses, held, manifest_meaning, manifest_reads}
+use Rattle.cargo_toml.specs.Manifests.{manifest_meaning, manifest_reads}
 use Rattle.cargo_toml.specs.RealFiles.{ReadsAs}
-use Rattle.cargo_toml.specs.Texts.{AnyRefuses, any_tree}
+use Rattle.cargo_toml.specs.Texts.{any_tree}
 use Rattle.cargo_toml_tools.proofs.files.reading.completed_of.Goals as goal
 
 pub returns-clause-completed : goal.returns-clause-completed

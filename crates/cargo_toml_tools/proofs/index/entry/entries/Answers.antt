@@ -1,7 +1,5 @@
-use Rattle.std.proofs.Common.{ap, drop, map, ◌++◌}
+use Rattle.std.proofs.Common.{ap, map}
 use Rattle.std.proofs.lemmas.List.{drop_all}
-use Rattle.std.specs.List.{flat_map}
-use Rattle.serde_json.specs.View.{view}
 use Rattle.cargo_toml_tools.specs.IndexEntries.{table_entries}
 use Rattle.cargo_toml_tools.specs.Sections.{table_of, wanted_of}
 use Rattle.cargo_toml_tools.proofs.Grown.{flat_end, flat_step, left_next}

@@ -21,4 +21,4 @@ pub mod Inserted
 pub mod Using
 pub mod Sorting
 mod FileFacts
-pub mod Beside
+pub mod Ordered

@@ -6,6 +6,7 @@ use Rattle.std.proofs.lemmas.Bool.{false≢true}
 use Rattle.std.proofs.lemmas.List.{append-nil, map-append}
 use Rattle.std.proofs.lemmas.List.Kept.{IsStrictlySortedBy-filter}
 use Rattle.std.specs.BTreeMap.{BTreeMap, get_by_text}
+use Rattle.std.specs.BTreeSet.{BTreeSet}
 use Rattle.std.specs.Cmp.Lexicographic.{slice_cmp}
 use Rattle.std.specs.HashMap.{HashMap}
 use Rattle.std.specs.List.{AllByRecursion}
@@ -18,10 +19,18 @@ use Rattle.cargo_toml.specs.Ascending.{Ascend}
 use Rattle.cargo_toml.specs.Feature.{Feature}
 use Rattle.cargo_toml.specs.Graph.{Table}
 use Rattle.cargo_toml.specs.Reach.{Among}
-use Rattle.cargo_toml.specs.Views.{listed_in, table_in, value_at}
+use Rattle.cargo_toml.specs.Views.{listed_in, set_has, table_in, value_at}
 use Rattle.cargo_toml_tools.specs.Documented.{AreRows, IsRowOf, is_shown, is_told_of}
 use Rattle.cargo_toml_tools.specs.declared.document.listing.Row.{Row}
+use Rattle.cargo_toml_tools.proofs.Ordered.{among_in, among_out, key_texts}
 use Rattle.cargo_toml_lint.proofs.Edges.{listed_at}
+
+-- ---- the texts of a set
+pub texts_among : (s : BTreeSet (Bor Text)) (x : Text) → Among (key_texts s) x ↔ IsTrue (set_has s x)
+texts_among s x = (
+  λ i. among_in (λ (k : Bor Text). k.now) x s.keys i,
+  λ h. among_out (λ (k : Bor Text). k.now) x s.keys h,
+)
 
 -- ---- those of the texts that pass
 picked : (p : Text → Bool) (t : Text) (ts : List Text) (b : Bool) → p t ≡ b
@@ -52,9 +61,6 @@ filtered_among p (t ∷ ts) x = go (p t) refl (filtered_among p ts x)
         | inr j ↦ later.1 (j, h.1)
       ]),
     )
-
-abbrev texts : List (Bor Text) → List Text
-texts names = map (λ k. k.now) names
 
 -- ---- the rows so far, with the names that are left
 module _ {S : Type 0} (t : Table) (has_default : Bool) (m : HashMap (Bor Text) Feature S) where
@@ -111,18 +117,18 @@ module _ {S : Type 0} (t : Table) (has_default : Bool) (m : HashMap (Bor Text) F
       go None e = e
       go (Some v) e = refl
 
-  pub rowed_all : (names left : List (Bor Text)) (rows : List Row) → left ≡ [] → Ascend (texts names)
-      → ((x : Text) → IsTrue ((table_in m).has x) ↔ Among (texts names) x) → Rowed names left rows → AreRows t m has_default rows
-  rowed_all names left rows none up known h =
-      let same : names_of_rows rows ≡ filter told (texts names) =
-      sym (append-nil (names_of_rows rows)) ∙ ap (λ ks. names_of_rows rows ++ filter told (texts ks)) (sym none) ∙ h.names in
+  pub rowed_all : (names : BTreeSet (Bor Text)) (left : List (Bor Text)) (rows : List Row) → left ≡ [] → Ascend (key_texts names)
+      → ((x : Text) → set_has names x ≡ (table_in m).has x) → Rowed names.keys left rows → AreRows t m has_default rows
+  rowed_all names left rows none up are h =
+      let same : names_of_rows rows ≡ filter told (key_texts names) =
+      sym (append-nil (names_of_rows rows)) ∙ ap (λ ks. names_of_rows rows ++ filter told (map (λ (q : Bor Text). q.now) ks)) (sym none) ∙ h.names in
       record {
         names = record {
           exact = λ x. (
-            λ i. ((filtered_among told (texts names) x).0 (subst (λ ts. Among ts x) same i)).1,
-            λ u. subst (λ ts. Among ts x) (sym same) ((filtered_among told (texts names) x).1 ((known x).0 (has_told x u), u)),
+            λ i. ((filtered_among told (key_texts names) x).0 (subst (λ ts. Among ts x) same i)).1,
+            λ u. subst (λ ts. Among ts x) (sym same) ((filtered_among told (key_texts names) x).1 ((texts_among names x).1 (are x ∙ has_told x u), u)),
           );
-          in_order = subst Ascend (sym same) (IsStrictlySortedBy-filter (slice_cmp nat_cmp) told (texts names) up);
+          in_order = subst Ascend (sym same) (IsStrictlySortedBy-filter (slice_cmp nat_cmp) told (key_texts names) up);
         };
         each = h.each;
       }

@@ -3,7 +3,6 @@
 //! What a row of the page tells is proved, by `rows`. How it is printed no clause says.
 
 mod dot;
-mod gathered;
 mod listing;
 mod reached;
 

@@ -4,7 +4,7 @@ ghost use Rattle.cargo_toml.specs.Action.{Text};
 ghost use Rattle.cargo_toml.specs.Graph.{Table};
 ghost use Rattle.cargo_toml.specs.Manifests.{held};
 ghost use Rattle.cargo_toml.specs.Reached.{IsKeyed};
-ghost use Rattle.cargo_toml.specs.Views.{set_has};
+ghost use Rattle.cargo_toml.specs.Views.{set_has, table_in};
 ghost use Rattle.cargo_toml_lint.specs.Linked.{AreFound, AreLinks};
 ghost use Rattle.cargo_toml_tools.specs.Documented.{AreRowsOf, IsOn, IsRowOf};
 ghost use Rattle.cargo_toml_tools.specs.Documented.{is_internal, is_shown};
@@ -12,6 +12,7 @@ ghost use Rattle.cargo_toml_tools.specs.Documented.{is_internal, is_shown};
 use super::reached::{Reached, reach};
 use cargo_toml::Manifest;
 use cargo_toml::features::Feature;
+use cargo_toml_features::texts::keys_in_order;
 use cargo_toml_lint::Links;
 use std::alloc::{AllocError, Global};
 use std::collections::{BTreeSet, HashMap};
@@ -62,7 +63,8 @@ pub fn rows<'m, M, S: BuildHasher>(
     let has_default = manifest.features.contains_key("default");
     let defaults = links.turned_on(alloc, "default")?;
     let mut rows = Vec::new(alloc);
-    for name in &links.names {
+    let names = names(alloc, features)?;
+    for name in &names {
         if let Some(feature) = features.get(*name) {
             if is_shown(feature, has_default) {
                 rows.push(row_of(alloc, &links, features, feature, &defaults)?)?;
@@ -93,6 +95,16 @@ fn row_of<'m, S: BuildHasher>(
         is_default: defaults.contains(feature.key),
         turns_on,
     })
+}
+
+/// The names of the features, in byte order.
+fn names<'m, S: BuildHasher>(
+    alloc: Global,
+    features: &FeatureMap<'m, S>,
+) -> Result<BTreeSet<&'m str>, AllocError>
+    ensures { IfOk result (λ s. (f : Text) → set_has s f ≡ (table_in features.now).has f) }
+{
+    keys_in_order(alloc, features)
 }
 
 /// Whether a feature is told of: one that isn't private, and `default` where the manifest has it.

@@ -6,7 +6,6 @@ ghost use Rattle.cargo_toml.specs.Views.{action_at, set_has};
 ghost use Rattle.cargo_toml_lint.specs.Linked.{AreFound, AreLinks};
 ghost use Rattle.cargo_toml_tools.specs.Documented.{ActsOf, IsReachedFrom, is_beside};
 
-use super::gathered::others_of;
 use super::listing::{FeatureMap, is_private};
 use cargo_toml::features::{DepAction, Feature};
 use cargo_toml_lint::Links;
@@ -35,11 +34,11 @@ pub(crate) fn reach<'m, S: BuildHasher>(
     ensures { IfOk result (λ r. (t : Table) → AreLinks t links.now
         → IsReachedFrom t features.now name.now r) }
 {
-    let names = links.turned_on(alloc, name)?;
+    let mut names = links.turned_on(alloc, name)?;
     let actions = actions_of(alloc, features, &names)?;
-    let others = others_of(alloc, features, &names, name)?;
+    keep_told(&mut names, features, name);
     Ok(Reached {
-        features: others,
+        features: names,
         actions,
     })
 }
@@ -64,7 +63,7 @@ fn actions_of<'m, S: BuildHasher>(
 }
 
 /// Leaves those that are told of beside the feature of this name.
-pub(crate) fn keep_told<'a, 'm, S: BuildHasher>(
+fn keep_told<'a, 'm, S: BuildHasher>(
     names: &mut BTreeSet<&'m str>,
     features: &'a FeatureMap<'m, S>,
     name: &'a str,
@@ -76,7 +75,7 @@ pub(crate) fn keep_told<'a, 'm, S: BuildHasher>(
 }
 
 /// Whether the last is another feature, and isn't private.
-pub(super) fn is_beside<S: BuildHasher>(
+fn is_beside<S: BuildHasher>(
     features: &HashMap<&str, Feature<'_>, S>,
     name: &str,
     other: &str,

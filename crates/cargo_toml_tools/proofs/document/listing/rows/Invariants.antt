@@ -1,4 +1,4 @@
-use Rattle.std.proofs.Common.{drop, is_some}
+use Rattle.std.proofs.Common.{is_some}
 use Rattle.std.specs.Map.{lookup}
 use Rattle.std.specs.Prelude.{bytes_eq, codes}
 use Rattle.cargo_toml.specs.Manifests.{manifest_meaning}
@@ -13,4 +13,4 @@ invariant-loop-name g l =
     let d = manifest_meaning (λ m. m) l.manifest in
     IsKeyed l.features → Rowed (turning d (table_in l.features).has)
     (is_some (lookup (bytes_eq (codes "default")) d.features)) l.features
-    l.links.names.items (drop l.name-index l.links.names.items) l.rows.items
+    l.initial.name-iterator l.name-iterator l.rows.items

@@ -12,8 +12,8 @@ returns g c = λ t are.
     let beside = is_beside c.args.features.now c.args.name.now in
     record {
       features = λ x. (
-        λ h. (let p = and_parts (set_has names x) (beside x) (sym (c.in_ok-others.ensures x) ∙ h) in ((on x).0 p.0, p.1)),
-        λ h. c.in_ok-others.ensures x ∙ and_from (set_has names x) (beside x) ((on x).1 h.0) h.1,
+        λ h. (let p = and_parts (set_has names x) (beside x) (sym (c.keep_told.ensures x) ∙ h) in ((on x).0 p.0, p.1)),
+        λ h. c.keep_told.ensures x ∙ and_from (set_has names x) (beside x) ((on x).1 h.0) h.1,
       );
       actions = λ k. join_alike (λ a. (
         λ s. (s.0, (on s.0).0 s.1, s.2),

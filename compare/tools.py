@@ -125,55 +125,91 @@ def package_value(key, package, workspace):
 # index
 
 
-def index(path, checksum=None):
+def index(path, options=None):
+    """The line of the crate, by the options that a row has in files of these names."""
+    options = options or {}
+    own = options.get("registry", CRATES_IO)
+    names = {"crates-io": CRATES_IO} | dict(options.get("names", []))
     manifest = load(path)
-    workspace = root_of(path, manifest)
     if "package" not in manifest:
         raise Refused("there is no package")
+    workspace = root_of(path, manifest)
     package = manifest["package"]
     version = package_value("version", package, workspace)
     if version is None:
         raise Refused("the package has no version")
+    deps = [entry for entry in entries(manifest, workspace, own, names) if entry]
+    if "force" not in options:
+        check_choices(manifest, package_value("publish", package, workspace), own, names)
+    kept = {entry["name"] for entry in deps}
     features = manifest.get("features", {})
-    lists = {name: enabled_by(value) for name, value in features.items()}
+    lists = {name: kept_texts(enabled_by(value), kept) for name, value in features.items()}
     later = {name for name, texts in lists.items() if any(map(is_of_second_version, texts))}
     line = {
         "name": package["name"],
         "vers": version,
-        "deps": [entry for entry in entries(manifest, workspace) if entry],
-        "features": {name: texts for name, texts in lists.items() if name not in later},
+        "deps": deps,
+        "features": {name: [] if name in later else texts for name, texts in lists.items()},
         "yanked": False,
         "links": package.get("links"),
         "rust_version": package_value("rust-version", package, workspace),
     }
     if later:
         line |= {"features2": {name: lists[name] for name in later}, "v": 2}
-    if checksum:
-        line["cksum"] = checksum
+    if "checksum" in options:
+        line["cksum"] = options["checksum"]
     return json.dumps(line, ensure_ascii=False, separators=(",", ":"), sort_keys=True) + "\n"
+
+
+def check_choices(manifest, publish, own, names):
+    """Refuses what isn't published there, and features with an error."""
+    if publish is False or (
+        isinstance(publish, list) and own not in [names.get(name) for name in publish]
+    ):
+        raise Refused("the package isn't published in this registry")
+    found = Lint(manifest).found()
+    for code in sorted(found):
+        if WORDS_OF[code][0] == "error" and found[code]:
+            name = in_order(name for name, _ in found[code])[0]
+            raise Refused(f"lint finds an error of the feature {name}")
+
+
+def kept_texts(texts, kept):
+    """What stays of a list: no action on a dependency that the line hasn't."""
+    mentions = [(text, mention(text)) for text in texts]
+    return [text for text, (key, action) in mentions if not action or key in kept]
 
 
 def is_of_second_version(text):
     return text.startswith("dep:") or "?/" in text
 
 
-def entries(manifest, workspace):
-    for _, kind, target, table in tables(manifest):
+def entries(manifest, workspace, own, names):
+    targets = manifest.get("target", {})
+    # in the order of Cargo, which has build-dependencies of a target before its dev-dependencies
+    every = [*list(tables(manifest))[:3], *list(tables_to_fill(manifest))[3:]]
+    for name, kind, target, table in every:
+        other = name.replace("-", "_")
+        if other != name and other in (manifest if target is None else targets[target]):
+            raise Refused(f"the table {other} has `_` in its name")
         for key in in_order(table):
-            yield entry(key, kind, target, filled(key, table[key], workspace))
+            value = filled(key, table[key], workspace)
+            if "default_features" in value or "default_features" in detail(table[key]):
+                raise Refused(f"the dependency {key} has `default_features`")
+            if is_inherited(table[key]) and table[key].get("default-features") is True:
+                value["default-features"] = True
+            yield entry(key, kind, target, value, own, names)
 
 
-def entry(key, kind, target, value):
+def entry(key, kind, target, value, own, names):
     text = value.get("version")
     if text is None and ("path" in value or "git" in value):
         if kind == "dev":
             return None
         raise Refused(f"the dependency {key} has no version")
-    registry = value.get("registry-index")
-    if registry is None and "registry" in value:
-        if value["registry"] != "crates-io":
-            raise Refused(f"the registry of the dependency {key} has no address")
-        registry = CRATES_IO
+    registry = value.get("registry-index", names.get(value.get("registry", "crates-io")))
+    if registry is None:
+        raise Refused(f"the registry of the dependency {key} has no address")
     made = {
         "name": key,
         "req": requirement(text or "*"),
@@ -182,9 +218,9 @@ def entry(key, kind, target, value):
         "default_features": value.get("default-features", True),
         "target": target,
         "kind": kind,
-        "registry": registry,
+        "registry": None if registry == own else registry,
     }
-    return made | ({"package": value["package"]} if value.get("package", key) != key else {})
+    return made | ({"package": value["package"]} if "package" in value else {})
 
 
 # escapes
@@ -689,9 +725,22 @@ WORDS = {
 TELLING = ["lint", "audit", "report"]
 
 
+def options_beside(path):
+    """What a row asks of `index`: texts in files beside its manifest."""
+    options = {}
+    for name in ("registry", "checksum", "force", "names"):
+        beside = os.path.join(os.path.dirname(path), name)
+        if os.path.exists(beside):
+            with open(beside, encoding="utf-8") as file:
+                options[name] = file.read().rstrip()
+    if "names" in options:
+        options["names"] = [line.split("=", 1) for line in options["names"].splitlines()]
+    return options
+
+
 def wanted(tool, path):
     try:
-        return TOOLS[tool](path)
+        return index(path, options_beside(path)) if tool == "index" else TOOLS[tool](path)
     except Refused as why:
         return f"error: {for_line(path)}: {for_line(str(why))}\n"
 

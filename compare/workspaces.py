@@ -121,6 +121,117 @@ class Workspaces:
         return root
 
 
+PLACES = ["a", "b", "ab", "c", "c/a", "c/b", "c/d", "c/d/x", "c/x", "m/a/inner", "m/b/inner"]
+PLACES += ["m/a", "n", "n/s", "x"]
+PATTERNS = ["?", "[ab]", "[a-c]", "a*", "c/[!s]*", "c/?", "c/[a-b]", "m/*/inner", "m/a/[!s]*"]
+PATTERNS += ["**/x", "c/**/x", "**/inner", "m/**/inner", "[!b-z]b", "c/*/x", "*/a", "[!ms]*", "?/"]
+ODD_ENTRIES = ["a/../b", "./a", "a/", ".", "", "absent", "c/../m/a/inner", "a**", "***", "[a", "a//b"]
+ODD_ENTRIES += ["file", "link", "loop", "c/*/../a", "absent/../a", "m/*/absent", "z*", "[]", "[!]"]
+ODDITIES = 0.06
+
+
+class OddWorkspaces(Workspaces):
+    """Workspaces as Cargo takes them, each with few things that it may refuse."""
+
+    def odd(self, often=1.0):
+        return self.happens(ODDITIES * often)
+
+    def entries(self, most):
+        chosen = self.some(PLACES * 2 + PATTERNS, most)
+        if self.odd(3):
+            chosen.append(self.random.choice(ODD_ENTRIES))
+        if self.odd():
+            chosen.append(self.random.choice(["../out", f"{self.top}/root/b", f"{self.top}/out"]))
+        return chosen
+
+    def features(self):
+        texts = self.some(["std", "log", "dep:log", "log/std"] if self.odd(0.3) else ["std"], 2)
+        return ["[features]", "std = []", f"all = {quoted_list(texts)}"]
+
+    def paths(self, place):
+        """Dependencies by paths, some of them of the workspace."""
+        lines = []
+        for table in TABLES:
+            keys = sorted(set(self.some(PLACES, 2))) if self.happens(0.25) else []
+            if not keys:
+                continue
+            lines.append(f"[{table}]")
+            for key in keys:
+                path = os.path.relpath(key, place)
+                name = key.replace("/", "-")
+                if key in self.shared_paths and self.happens(0.5):
+                    lines.append(f"{name} = {{ workspace = {'false' if self.odd(0.3) else 'true'} }}")
+                else:
+                    path = "../" * 3 + "out" if self.odd(0.2) else path
+                    lines.append(f'{name} = {{ path = "{path}" }}')
+        return lines
+
+    def crate(self, place):
+        name = "same" if self.odd(0.3) else place.replace("/", "-").replace(".", "root")
+        lines = ["[package]", f'name = "{name}"']
+        lines += self.inheritable("version", '"0.1.0"') if self.has_package else ['version = "1.0.0"']
+        if self.happens(0.6):
+            lines.append(f'edition = "{self.random.choice(EDITIONS[:3])}"')
+        elif self.has_package and self.has_edition:
+            lines.append("edition.workspace = true")
+        if self.happens(0.3):
+            lines.append(f'license = "{self.random.choice(LICENSES)}"')
+        if self.happens(0.2):
+            lines.append(f"publish = {self.random.choice(PUBLISH)}")
+        if self.odd(0.6) and place != ".":
+            up = "/".join([".."] * (place.count("/") + 1))
+            lines.append(f'workspace = "{up if self.happens(0.6) else self.random.choice(PLACES)}"')
+        if self.odd(0.3):
+            lines += ["[lints]", "workspace = true"]
+        if self.happens(0.3):
+            lines += self.features()
+        if self.odd(0.2) and place != ".":
+            lines += ["[workspace]"]
+        return lines + self.paths(place)
+
+    def root_lines(self):
+        lines = ["[workspace]", f"members = {quoted_list(self.entries(4))}", 'resolver = "2"']
+        if self.happens(0.3):
+            excluded = self.some(PLACES + ["c", "m", "m/a", "./a", "a/../b", "[ab]"], 2)
+            lines.append(f"exclude = {quoted_list(excluded)}")
+        if self.odd(1.5):
+            lines.append(f"default-members = {quoted_list(self.entries(2))}")
+        if self.has_package:
+            lines += ["[workspace.package]", 'version = "1.2.3"']
+            if self.has_edition:
+                lines.append(f'edition = "{self.random.choice(EDITIONS[:3])}"')
+        if self.odd(2):
+            lines += ["[workspace.lints.rust]", 'unsafe_code = "forbid"']
+        lines.append("[workspace.dependencies]")
+        for key in self.shared_paths:
+            optional = ", optional = true" if self.odd(0.3) else ""
+            lines.append(f'{key.replace("/", "-")} = {{ path = "{key}"{optional} }}')
+        return lines
+
+    def write(self, folder):
+        """Writes a workspace into this folder, and answers the folder that is asked for."""
+        self.top, root = folder, f"{folder}/root"
+        self.has_package, self.has_edition = self.happens(0.7), self.happens(0.7)
+        self.shared_paths = sorted(set(self.some(PLACES, 3)))
+        lines = self.root_lines()
+        if self.happens(0.5):
+            lines = self.crate(".") + lines
+            put(f"{root}/src/lib.rs", [])
+        put(f"{root}/Cargo.toml", lines)
+        for place in [*PLACES, "../out"]:
+            if self.odd(0.3):
+                continue
+            if not self.odd(0.4):
+                put(f"{root}/{place}/Cargo.toml", self.crate(place))
+            target = self.random.choice(["src/lib.rs"] * 6 + ["src/main.rs", "src/bin/x.rs"])
+            put(f"{root}/{place}/{target if not self.odd(0.2) else 'notes'}", [])
+        if self.odd():
+            put(f"{root}/{self.random.choice(['file', 'c/file', 'm/file'])}", [])
+        if self.odd():
+            os.symlink(self.random.choice(["loop", "a", "nowhere"]), f"{root}/loop")
+        return f"{root}/{self.random.choice(PLACES)}" if self.odd(0.8) else root
+
+
 def put(path, lines):
     os.makedirs(os.path.dirname(path), exist_ok=True)
     with open(path, "w", encoding="utf-8") as file:

@@ -17,19 +17,11 @@ pub flat_flat : {A B C : Type 0} (f : B → List C) (g : A → List B) (xs : Lis
 flat_flat f g [] = refl
 flat_flat f g (x ∷ xs) = flat_map-append f (g x) (flat_map g xs) ∙ ap (λ t. flat_map f (g x) ++ t) (flat_flat f g xs)
 
--- three pieces, one behind the other
-pub three_pieces : {A : Type 0} (a b c d x y z : List A) → b ≡ a ++ x → c ≡ b ++ y → d ≡ c ++ z → d ≡ a ++ (x ++ (y ++ (z ++ [])))
-three_pieces a b c d x y z first second third =
-    third ∙ ap (λ t. t ++ z) (second ∙ ap (λ t. t ++ y) first)
-    ∙ ap (λ t. t ++ z) (append_assoc a x y) ∙ append_assoc a (x ++ y) z
-    ∙ ap (λ t. a ++ t) (append_assoc x y z ∙ ap (λ t. x ++ (y ++ t)) (sym (append-nil z)))
-
--- one more element of a list was mapped
-pub mapped_more : {A B : Type 0} (f : A → B) (xs : List A) (i : ℕ) (d : A) (ys : List B) (y : B) → i < length xs → ys ≡ map f (take i xs) → y ≡ f (get_or xs i d)
-    → ys ++ y ∷ [] ≡ map f (take (i + 1) xs)
-mapped_more f xs i d ys y h e g =
-    ap (λ t. t ++ y ∷ []) e ∙ ap (λ t. map f (take i xs) ++ t ∷ []) g
-    ∙ sym (ap (map f) (take_more xs i d h) ∙ map-append f (take i xs) (get_or xs i d ∷ []))
+-- three elements, one behind the other
+pub three_more : {A : Type 0} (a b c d : List A) (x y z : A) → b ≡ a ++ x ∷ [] → c ≡ b ++ y ∷ [] → d ≡ c ++ z ∷ [] → d ≡ a ++ (x ∷ y ∷ z ∷ [])
+three_more a b c d x y z first second third =
+    third ∙ ap (λ t. t ++ z ∷ []) (second ∙ ap (λ t. t ++ y ∷ []) first)
+    ∙ ap (λ t. t ++ z ∷ []) (append_assoc a (x ∷ []) (y ∷ [])) ∙ append_assoc a (x ∷ y ∷ []) (z ∷ [])
 
 pub map_twice : {A B C : Type 0} (g : B → C) (f : A → B) (xs : List A) → map g (map f xs) ≡ map (λ x. g (f x)) xs
 map_twice g f [] = refl
@@ -57,3 +49,7 @@ all_mapped test f (x ∷ xs) = ap (λ b. test (f x) && b) (all_mapped test f xs)
 -- what is left begins with the next
 pub drop_next : {A : Type 0} (xs : List A) (i : ℕ) (d : A) → i < length xs → drop i xs ≡ get_or xs i d ∷ drop (i + 1) xs
 drop_next xs i d h = rw (add-one, drop-cons xs i d)
+
+-- the same, where an element is the next
+pub left_next : {A B : Type 0} (f : A → B) (xs : List A) (i : ℕ) (x : A) → i < length xs → x ≡ get_or xs i x → map f (drop i xs) ≡ f x ∷ map f (drop (i + 1) xs)
+left_next f xs i x within is = ap (map f) (drop_next xs i x within ∙ ap (λ t. t ∷ drop (i + 1) xs) (sym is))

@@ -1,47 +1,18 @@
 -- Members that are put into an object one after another.
-use Rattle.std.proofs.Common.{◌≡◌, ◌++◌, ◌∙◌, Bool, true, false, if◌then◌else◌, List, [], ◌∷◌, map, refl, sym, ap, subst}
-use Rattle.std.proofs.lemmas.List.{append-nil, map-append}
-use Rattle.std.specs.Prelude.{Result, Ok, Err, IfOk, String, codes}
-use Rattle.std.specs.List.{flat_map, list_any}
-use Rattle.std.specs.declared.alloc.Global.{Global}
-use Rattle.serde_json.specs.Data.{Data, Members, no_members, number, put, unsigned}
-use Rattle.serde_json.specs.View.{members_view, view}
+use Rattle.std.proofs.Common.{◌≡◌, ◌++◌, ◌∙◌, Bool, true, false, if◌then◌else◌, List, [], ◌∷◌, map, refl, sym, ap}
+use Rattle.std.proofs.lemmas.List.{map-append}
+use Rattle.std.specs.Prelude.{codes}
+use Rattle.std.specs.List.{list_any}
+use Rattle.serde_json.specs.Data.{Data, Members, number, put, unsigned}
+use Rattle.serde_json.specs.View.{view}
 use Rattle.serde_json.specs.declared.value.Value.{Value}
-use Rattle.serde_json.specs.Written.{IsInOrder}
 use Rattle.cargo_toml.specs.Action.{Text}
-use Rattle.cargo_toml_tools.specs.IndexRows.{text_array, with_rows}
-use Rattle.cargo_toml_tools.specs.IndexFeatures.{feature_rows, is_chosen, is_extended, list_rows, lists_object}
+use Rattle.cargo_toml_tools.specs.IndexRows.{with_rows}
+use Rattle.cargo_toml_tools.specs.IndexFeatures.{feature_rows, is_extended, lists_object}
 
 pub with_both : (xs ys : List (Text × Data)) (ms : Members) → with_rows (xs ++ ys) ms ≡ with_rows ys (with_rows xs ms)
 with_both [] ys ms = refl
 with_both (x ∷ xs) ys ms = with_both xs ys (put x.0 x.1 ms)
-
-pub chained : (xs : List (Text × Data)) (row : Text × Data) (ys zs : List (Text × Data)) (a b c d e : Members)
-    → b ≡ with_rows xs a → c ≡ put row.0 row.1 b → d ≡ with_rows ys c → e ≡ with_rows zs d
-    → e ≡ with_rows (xs ++ (row ∷ (ys ++ zs))) a
-chained xs row ys zs a b c d e first then_row then_ys then_zs =
-    then_zs ∙ ap (with_rows zs) (then_ys ∙ ap (with_rows ys) (then_row ∙ ap (put row.0 row.1) first))
-    ∙ sym (with_both ys zs (put row.0 row.1 (with_rows xs a)))
-    ∙ sym (with_both xs (row ∷ (ys ++ zs)) a)
-
-pub in_order_of : (line : Text) (a b : Data) → a ≡ b → IsInOrder line a → IsInOrder line b
-in_order_of line a b e h = let P : Data → Type 0 = λ d. IsInOrder line d in subst P e h
-
-pub if_ok_weaker : {T E : Type 0} (r : Result T E) (P Q : T → Type 0) → ((x : T) → P x → Q x) → IfOk r P → IfOk r Q
-if_ok_weaker (Ok x) P Q f h = f x h
-if_ok_weaker (Err e) P Q f h = tt
-
-pub begun_empty : (rows : List (Text × Data)) (es : List (String Global × Value)) → es ≡ [] → with_rows rows (members_view es) ≡ with_rows rows no_members
-begun_empty rows es e = ap (λ xs. with_rows rows (members_view xs)) e
-
--- members of what is left, one after another
-module _ {A : Type 0} (f : A → List (Text × Data)) where
-  pub rows_step : (x : A) (left rest : List A) (a b whole : Members) → left ≡ x ∷ rest → b ≡ with_rows (f x) a → with_rows (flat_map f left) a ≡ whole → with_rows (flat_map f rest) b ≡ whole
-  rows_step x left rest a b whole is puts before =
-      ap (with_rows (flat_map f rest)) puts ∙ sym (with_both (f x) (flat_map f rest) a) ∙ ap (λ t. with_rows (flat_map f t) a) (sym is) ∙ before
-
-  pub rows_end : (left : List A) (a whole : Members) → left ≡ [] → with_rows (flat_map f left) a ≡ whole → a ≡ whole
-  rows_end left a whole none before = ap (λ t. with_rows (flat_map f t) a) (sym none) ∙ before
 
 -- the members of an entry, in four parts
 pub in_four : (ws xs ys zs : List (Text × Data)) (a b c d e : Members) → b ≡ with_rows ws a → c ≡ with_rows xs b → d ≡ with_rows ys c → e ≡ with_rows zs d
@@ -57,9 +28,6 @@ pub one_entry : (old new : List Value) (v : Value) (d : Data) (lacks : Bool) →
     → map view new ≡ map view old ++ (if lacks then [] else d ∷ [])
 one_entry old new v d lacks e is h =
     ap (map view) e ∙ map-append view old (v ∷ []) ∙ ap (λ x. map view old ++ x ∷ []) is ∙ ap (λ b. map view old ++ (if b then [] else d ∷ [])) (sym h)
-
-pub no_entry : (old : List Value) (d : Data) (lacks : Bool) → lacks ≡ true → map view old ≡ map view old ++ (if lacks then [] else d ∷ [])
-no_entry old d lacks h = sym (append-nil (map view old)) ∙ ap (λ b. map view old ++ (if b then [] else d ∷ [])) (sym h)
 
 -- five members, and what stands for each
 pub in_five : (r s t u v : Text × Data) (a b c d e f : Members) → b ≡ put r.0 r.1 a → c ≡ put s.0 s.1 b → d ≡ put t.0 t.1 c → e ≡ put u.0 u.1 d → f ≡ put v.0 v.1 e
@@ -86,10 +54,3 @@ second_version fs a b c d x y z first is some second is_too third two =
     (put_same (codes "features2") y (lists_object true fs) b c second is_too
     ∙ ap (put (codes "features2") (lists_object true fs)) (put_same (codes "features") x (lists_object false fs) a b first is))
     ∙ ap (λ o. with_rows (if o then (codes "features2", lists_object true fs) ∷ (codes "v", number (unsigned 2)) ∷ [] else []) (put (codes "features") (lists_object false fs) a)) (sym some)
-
--- a list that is put, or isn't
-pub list_put : (extended : Bool) (f : Text × List Text) (a b : Members) → is_chosen extended f.1 ≡ true → b ≡ put f.0 (text_array f.1) a → b ≡ with_rows (list_rows extended f) a
-list_put extended f a b h puts = puts ∙ ap (λ c. with_rows (if c then (f.0, text_array f.1) ∷ [] else []) a) (sym h)
-
-pub list_left : (extended : Bool) (f : Text × List Text) (a : Members) → is_chosen extended f.1 ≡ false → a ≡ with_rows (list_rows extended f) a
-list_left extended f a h = ap (λ c. with_rows (if c then (f.0, text_array f.1) ∷ [] else []) a) (sym h)

@@ -22,8 +22,7 @@ use Rattle.cargo_toml.specs.Reach.{Among}
 use Rattle.cargo_toml.specs.Views.{listed_in, set_has, table_in, value_at}
 use Rattle.cargo_toml_tools.specs.Documented.{AreRows, IsRowOf, is_shown, is_told_of}
 use Rattle.cargo_toml_tools.specs.declared.document.listing.Row.{Row}
-use Rattle.cargo_toml_tools.proofs.KeysInOrder.{among_in, among_out}
-use Rattle.cargo_toml_tools.proofs.Ordered.{key_texts}
+use Rattle.cargo_toml_tools.proofs.Ordered.{among_in, among_out, key_texts}
 use Rattle.cargo_toml_lint.proofs.Edges.{listed_at}
 
 -- ---- the texts of a set

@@ -1,5 +1,5 @@
 -- Which features are documented, and what each turns on.
-use Rattle.std.specs.Prelude.{◌≡◌, ◌≢◌, ◌↔◌, ◌&&◌, ◌||◌, Bool, false, IfSome, IsTrue, List, Some}
+use Rattle.std.specs.Prelude.{◌≡◌, ◌↔◌, ◌&&◌, ◌||◌, Bool, false, IfSome, IsTrue, List, Some}
 use Rattle.std.specs.Prelude.{bytes_eq, codes, is_some, map, nat_eq, not}
 use Rattle.std.specs.Borrow.{Bor}
 use Rattle.std.specs.HashMap.{HashMap}
@@ -27,7 +27,7 @@ abbrev pub is_shown : Bool → Feature → Bool
 is_shown has_default f =
     not (is_internal f) && (has_default || not (bytes_eq f.key.now (codes "default")))
 
--- told of beside the feature of this name
+-- another feature than the one of this name, neither hidden nor private
 abbrev pub is_told_beside : Text → Feature → Bool
 is_told_beside name f = not (bytes_eq f.key.now name) && not (is_internal f)
 
@@ -36,25 +36,25 @@ pub record AreTexts (P : Text → Type 0) (texts : List Text) : Type 0 where
   pub exact : (x : Text) → Among texts x ↔ P x
   pub in_order : Ascend texts
 
+-- the feature x is told of beside that of this name
+abbrev pub is_beside : {S : Type 0} → HashMap (Bor Text) Feature S → Text → Text → Bool
+is_beside m name x = option_map_or (is_told_beside name) (value_at m x) false
+
+-- some feature of these acts so on the dependency k
+abbrev pub ActsOf : {S : Type 0} → HashMap (Bor Text) Feature S → (Text → Type 0) → Text → Action
+    → Type 0
+ActsOf m Of k a = (g : Text) × Of g × ((table_in m).action g k ≡ Some a)
+
 -- by a table of what features turn on, and the features as they are resolved
 module _ {S : Type 0} (t : Table) (m : HashMap (Bor Text) Feature S) where
   -- f turns x on, by any number of steps
   abbrev pub IsOn : Text → Text → Type 0
   IsOn f x = IsTrue (t.has f) × Enables t f x
 
-  -- some feature that f turns on acts so on the dependency k
-  abbrev pub Acts : Text → Text → Action → Type 0
-  Acts f k a = (g : Text) × IsOn f g × ((table_in m).action g k ≡ Some a)
-
-  -- another feature that f turns on, neither hidden nor private
-  abbrev pub TurnsOnOther : Text → Text → Type 0
-  TurnsOnOther f x =
-      (x ≢ f) × IsOn f x × IsTrue (option_map_or (λ v. not (is_internal v)) (value_at m x) false)
-
   -- what is reached from f: the others, and what all of them do to each dependency, joined
   pub record IsReachedFrom (f : Text) (r : Reached) : Type 0 where
-    pub features : (x : Text) → IsTrue (set_has r.features x) ↔ TurnsOnOther f x
-    pub actions : (k : Text) → IsJoin (Acts f k) (action_at r.actions k)
+    pub features : (x : Text) → IsTrue (set_has r.features x) ↔ (IsOn f x × IsTrue (is_beside m f x))
+    pub actions : (k : Text) → IsJoin (ActsOf m (IsOn f) k) (action_at r.actions k)
 
   -- the row tells of the feature v
   pub record IsRowOf (r : Row) (v : Feature) : Type 0 where

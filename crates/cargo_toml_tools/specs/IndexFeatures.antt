@@ -1,38 +1,54 @@
 -- What the line of an index holds of the features.
-use Rattle.std.specs.Prelude.{◌||◌, Bool, true, false, if◌then◌else◌, not, nat_eq}
-use Rattle.std.specs.Prelude.{List, [], ◌∷◌, codes}
-use Rattle.std.specs.List.{flat_map, list_any, starts_with}
+use Rattle.std.specs.Prelude.{◌||◌, Bool, true, false, if◌then◌else◌, not}
+use Rattle.std.specs.Prelude.{List, [], ◌∷◌, codes, filter, map}
+use Rattle.std.specs.List.{flat_map, list_any}
+use Rattle.std.specs.Option.{option_map_or}
 use Rattle.serde_json.specs.Data.{Data, no_members, number, object, unsigned}
-use Rattle.cargo_toml.specs.Action.{Text}
+use Rattle.cargo_toml.specs.Action.{Item, Text, item_of}
+use Rattle.cargo_toml.specs.Action.Item.{Name, On}
+use Rattle.cargo_toml.specs.InheritedDependencies.{Entries, entry_at}
+use Rattle.cargo_toml_tools.specs.Indexed.{DependencyTable, lacks_version}
 use Rattle.cargo_toml_tools.specs.IndexRows.{text_array, with_rows}
 
--- the bytes stand somewhere in the text
-abbrev pub has_part : Text → Text → Bool
-has_part part [] = starts_with nat_eq [] part
-has_part part (b ∷ bs) = starts_with nat_eq (b ∷ bs) part || has_part part bs
+-- ---- what stays of the lists
 
--- an action of the second version of the index: it has a `dep:` in front, or a `?/`
-abbrev pub is_newer : Text → Bool
-is_newer text = starts_with nat_eq text (codes "dep:") || has_part (codes "?/") text
+-- the table has a dependency of this key that isn't left out
+abbrev pub keeps : Entries → Text → Bool
+keeps es key = option_map_or (λ d. not (lacks_version d)) (entry_at key es) false
+
+abbrev pub stays : List DependencyTable → Text → Bool
+stays ts key = list_any (λ t. keeps t.entries key) ts
+
+-- a text stays, unless it acts on a dependency that the line hasn't
+abbrev pub item_stays : List DependencyTable → Item → Bool
+item_stays ts (Name x) = true
+item_stays ts (On key a) = stays ts key
+
+abbrev pub is_kept : List DependencyTable → Text → Bool
+is_kept ts text = item_stays ts (item_of text)
+
+abbrev pub kept_lists : List DependencyTable → List (Text × List Text) → List (Text × List Text)
+kept_lists ts fs = map (λ f. (f.0, filter (is_kept ts) f.1)) fs
+
+-- ---- how they are written
+
+-- an action of the second version of the index: it has a `dep:` in front, or a `?` before its `/`
+abbrev pub is_newer : Item → Bool
+is_newer (Name x) = false
+is_newer (On key a) = a.is_dep_only || a.is_conditional
 
 -- a list with such an action
 abbrev pub is_extended : List Text → Bool
-is_extended list = list_any is_newer list
+is_extended list = list_any (λ text. is_newer (item_of text)) list
 
--- a list that is extended, or one that isn't
-abbrev pub is_chosen : Bool → List Text → Bool
-is_chosen true list = is_extended list
-is_chosen false list = not (is_extended list)
-
--- the features with such lists, which are as they are written
+-- in `features2` the lists that are extended; in `features` the others, and an empty one for each
+-- of these, so that what names such a feature can be read by who knows the first version alone
 abbrev pub list_rows : Bool → Text × List Text → List (Text × Data)
-list_rows extended f = if is_chosen extended f.1 then (f.0, text_array f.1) ∷ [] else []
-
-abbrev pub lists_rows : Bool → List (Text × List Text) → List (Text × Data)
-lists_rows extended fs = flat_map (list_rows extended) fs
+list_rows true f = if is_extended f.1 then (f.0, text_array f.1) ∷ [] else []
+list_rows false f = (f.0, text_array (if is_extended f.1 then [] else f.1)) ∷ []
 
 abbrev pub lists_object : Bool → List (Text × List Text) → Data
-lists_object extended fs = object (with_rows (lists_rows extended fs) no_members)
+lists_object extended fs = object (with_rows (flat_map (list_rows extended) fs) no_members)
 
 -- what is there where some list is extended: those lists, and the second version
 abbrev pub second_rows : List (Text × List Text) → List (Text × Data)

@@ -1,14 +1,12 @@
 -- What the line of an index holds of a package, and how members are put into an object.
 use Rattle.std.specs.Prelude.{List, [], ◌∷◌, Option, Some, None, false, codes, map}
 use Rattle.std.specs.Prelude.{option_and_then, option_map}
-use Rattle.std.specs.Option.{option_copied}
-use Rattle.semver.specs.Identifiers.{parts_text, version_text}
+use Rattle.semver.specs.Identifiers.{parts_text}
 use Rattle.serde_json.specs.Data.{Data, Members, array, boolean, null, put, string}
 use Rattle.serde_json.specs.View.{items_of}
 use Rattle.cargo_toml.specs.Action.{Text}
 use Rattle.cargo_toml.specs.InheritableValues.{value_of}
 use Rattle.cargo_toml.specs.Packages.{PackageMeaning}
-use Rattle.cargo_toml_tools.specs.declared.index.checks.Stated.{Stated}
 
 -- an object with each of these members put in its place, in byte order of their names
 abbrev pub with_rows : List (Text × Data) → Members → Members
@@ -32,14 +30,7 @@ rows_of_package p =
     ∷ (codes "links", text_or_null p.links)
     ∷ (codes "rust_version", text_or_null (option_and_then value_of p.rust_version)) ∷ []
 
-abbrev pub stated_rows : Stated → List (Text × Data)
-stated_rows s =
-    (codes "name", string s.name.now)
-    ∷ (codes "vers", string (version_text s.version.now))
-    ∷ (codes "yanked", boolean false)
-    ∷ (codes "links", text_or_null (option_copied s.links))
-    ∷ (codes "rust_version", text_or_null (option_copied s.rust_version)) ∷ []
-
-abbrev pub checksum_rows : Option Text → List (Text × Data)
-checksum_rows None = []
-checksum_rows (Some checksum) = (codes "cksum", string checksum) ∷ []
+-- a text under a key, where there is one
+abbrev pub rows_if : Text → Option Text → List (Text × Data)
+rows_if key None = []
+rows_if key (Some text) = (key, string text) ∷ []

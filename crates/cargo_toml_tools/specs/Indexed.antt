@@ -1,63 +1,32 @@
--- Which crates an index takes, and why it refuses others.
-use Rattle.std.specs.Prelude.{◌≡◌, ◌⊎◌, ◌++◌, ◌&&◌, ◌||◌, Bool, true, false, if◌then◌else◌, not}
-use Rattle.std.specs.Prelude.{List, [], ◌∷◌, Option, Some, None, is_none, is_some, IsTrue}
-use Rattle.std.specs.Prelude.{bytes_eq, codes, option_and_then, string_bytes}
-use Rattle.std.specs.List.{flat_map, list_all, list_any}
-use Rattle.std.specs.Option.{option_map_or}
+-- Which crates an index takes, and what it refuses of others.
+use Rattle.std.specs.Prelude.{◌++◌, ◌&&◌, ◌||◌, Bool, true, false, if◌then◌else◌, not}
+use Rattle.std.specs.Prelude.{List, [], ◌∷◌, Option, Some, None, is_none, is_some, map}
+use Rattle.std.specs.Prelude.{bytes_eq, codes, option_and_then, option_map, unwrap_or}
+use Rattle.std.specs.List.{flat_map, list_any}
+use Rattle.std.specs.Option.{option_map_or, option_or}
+use Rattle.toml.specs.Data.{Data, Members, as_bool, as_table, get_member, no_members}
+use Rattle.toml.specs.Parse.{parse_document}
 use Rattle.cargo_toml.specs.Action.{Text}
 use Rattle.cargo_toml.specs.Dependencies.{DependencyMeaning, simple, inherited, detailed}
-use Rattle.cargo_toml.specs.InheritedDependencies.{Entries, is_left}
-use Rattle.toml.specs.Data.{Members, get, get_member}
-use Rattle.toml.specs.Parse.{parse_document}
-use Rattle.cargo_toml.specs.Manifests.{ManifestMeaning, is_zero}
-use Rattle.cargo_toml.specs.Packages.{PackageMeaning}
-use Rattle.cargo_toml.specs.Targets.{TargetMeaning}
-use Rattle.cargo_toml.specs.Versions.{Parts}
-use Rattle.cargo_toml.specs.Kind.{Kind}
-use Rattle.cargo_toml.specs.Kind.TheVariants.{Build, Dev, Normal}
 use Rattle.cargo_toml.specs.Inheritable.{Inheritable}
 use Rattle.cargo_toml.specs.Inheritable.TheVariants.{Inherited, Set}
-use Rattle.cargo_toml_tools.specs.declared.index.IndexError.{IndexError}
-use Rattle.cargo_toml_tools.specs.declared.index.IndexError.TheVariants.{Incomplete, Memory}
-use Rattle.cargo_toml_tools.specs.declared.index.IndexError.TheVariants.{NoAddress, NoPackage}
-use Rattle.cargo_toml_tools.specs.declared.index.IndexError.TheVariants.{NoRequirement, NoVersion}
+use Rattle.cargo_toml.specs.InheritedDependencies.{Entries, is_left}
+use Rattle.cargo_toml.specs.InheritedPackages.{is_left_there}
+use Rattle.cargo_toml.specs.Kind.{Kind}
+use Rattle.cargo_toml.specs.Kind.TheVariants.{Build, Dev, Normal}
+use Rattle.cargo_toml.specs.Manifests.{ManifestMeaning, is_zero}
+use Rattle.cargo_toml.specs.Packages.{PackageMeaning}
+use Rattle.cargo_toml.specs.Settings.{Registries, among, everywhere}
+use Rattle.cargo_toml.specs.Targets.{TargetMeaning}
+use Rattle.cargo_toml.specs.Versions.{Parts}
+use Rattle.cargo_toml_lint.specs.Findings.{code_level}
+use Rattle.cargo_toml_lint.specs.declared.finding.Finding.{Finding}
+use Rattle.cargo_toml_lint.specs.declared.finding.Level.{Level}
+use Rattle.cargo_toml_lint.specs.declared.finding.Level.TheVariants.{Error, Hint, Warning}
+use Rattle.cargo_toml_tools.specs.declared.index.refusals.Fault.{Fault}
+use Rattle.cargo_toml_tools.specs.declared.index.refusals.Fault.TheVariants as fault
 
--- it has a path or a repository, and no version
-abbrev pub lacks_version : DependencyMeaning → Bool
-lacks_version (simple r) = false
-lacks_version (inherited i) = false
-lacks_version (detailed d) = is_none d.version && (is_some d.path || is_some d.git)
-
--- the name of a registry is there, and not that of crates.io
-abbrev pub is_other : Option Text → Bool
-is_other registry = option_map_or (λ r. not (bytes_eq r (codes "crates-io"))) registry false
-
--- it names a registry other than crates.io's, and not the address of that registry's index
-abbrev pub lacks_address : DependencyMeaning → Bool
-lacks_address (simple r) = false
-lacks_address (inherited i) = false
-lacks_address (detailed d) = is_none d.registry_index && is_other d.registry
-
-abbrev pub is_dev : Kind → Bool
-is_dev Normal = false
-is_dev Build = false
-is_dev Dev = true
-
--- an index takes the dependency, or leaves it out
-abbrev pub is_taken : Kind → DependencyMeaning → Bool
-is_taken kind d =
-    not (is_left d) && (if lacks_version d then is_dev kind else not (lacks_address d))
-
--- the refusal tells what is so of a dependency, which stands under its key
-abbrev pub tells : IndexError → Kind → Text × DependencyMeaning → Bool
-tells NoPackage kind e = false
-tells NoVersion kind e = false
-tells Incomplete kind e = is_left e.1
-tells (NoRequirement key) kind e =
-    bytes_eq (string_bytes key) e.0 && (lacks_version e.1 && not (is_dev kind))
-tells (NoAddress key) kind e =
-    bytes_eq (string_bytes key) e.0 && (not (lacks_version e.1) && lacks_address e.1)
-tells Memory kind e = false
+-- ---- tables of dependencies
 
 -- three tables of dependencies with their kinds: those of a package, or of a target
 abbrev pub with_kinds : Entries → Entries → Entries → List (Kind × Entries)
@@ -67,76 +36,233 @@ abbrev pub target_by_kind : TargetMeaning → List (Kind × Entries)
 target_by_kind t = with_kinds t.dependencies t.dev_dependencies t.build_dependencies
 
 -- all tables of a package, and those of targets behind them
-abbrev pub tables_among : Entries → Entries → Entries → List (Text × TargetMeaning)
-    → List (Kind × Entries)
-tables_among normal dev build targets =
-    with_kinds normal dev build ++ flat_map (λ t. target_by_kind t.1) targets
-
 abbrev pub all_by_kind : {M : Type 0} → ManifestMeaning M → List (Kind × Entries)
-all_by_kind m = tables_among m.dependencies m.dev_dependencies m.build_dependencies m.target
+all_by_kind m =
+    with_kinds m.dependencies m.dev_dependencies m.build_dependencies
+    ++ flat_map (λ t. target_by_kind t.1) m.target
 
-abbrev pub are_taken : List (Kind × Entries) → Bool
-are_taken ts = list_all (λ t. list_all (λ e. is_taken t.0 e.1) t.1) ts
+-- the document that a text is
+abbrev pub written : Text → Members
+written text = unwrap_or (parse_document text) no_members
 
-abbrev pub is_told : IndexError → List (Kind × Entries) → Bool
-is_told fault ts = list_any (λ t. list_any (tells fault t.0) t.1) ts
+-- the table of a key in another
+abbrev pub table_in : Text → Members → Option Members
+table_in key ms = option_and_then as_table (get_member key ms)
 
--- a refusal for want of memory, or for what it tells
-abbrev pub IsFor : IndexError → Bool → Type 0
-IsFor fault told = (fault ≡ Memory) ⊎ IsTrue told
+-- the table in which the tables of a target are written
+abbrev pub place_of : Members → Text → Option Members
+place_of document target = option_and_then (table_in target) (table_in (codes "target") document)
 
--- what is stated, and not left to the workspace
-abbrev pub is_stated : {X : Type 0} → Inheritable X → Bool
-is_stated (Set x) = true
-is_stated Inherited = false
+abbrev pub table_name : Kind → Text
+table_name Normal = codes "dependencies"
+table_name Dev = codes "dev-dependencies"
+table_name Build = codes "build-dependencies"
 
-abbrev pub is_stated_if_any : {X : Type 0} → Option (Inheritable X) → Bool
-is_stated_if_any None = true
-is_stated_if_any (Some x) = is_stated x
+abbrev pub section_in : Option Members → Kind → Option Members
+section_in place kind = option_and_then (table_in (table_name kind)) place
 
--- the table `package` has a key `version`
-abbrev pub names_version : Members → Bool
-names_version ms =
-    is_some (option_and_then (get (codes "version")) (get_member (codes "package") ms))
+-- the name of a table with `_` for `-`, under which Cargo reads it, too, and the library doesn't
+abbrev pub other_name : Kind → Text
+other_name Normal = codes "dependencies"
+other_name Dev = codes "dev_dependencies"
+other_name Build = codes "build_dependencies"
 
-abbrev pub states_version : Text → Bool
-states_version text = option_map_or names_version (parse_document text) false
+abbrev pub is_other_there : Kind → Members → Bool
+is_other_there Normal ms = false
+is_other_there Dev ms = is_some (get_member (other_name Dev) ms)
+is_other_there Build ms = is_some (get_member (other_name Build) ms)
 
--- no version is written: it reads as of 0.0.0, and the text has none
-abbrev pub is_unwritten : Text → Inheritable Parts → Bool
-is_unwritten text v = is_zero v && not (states_version text)
+abbrev pub has_other_name : Option Members → Kind → Bool
+has_other_name place kind = option_map_or (is_other_there kind) place false
 
--- a version that an index takes
-abbrev pub is_version : Text → Inheritable Parts → Bool
-is_version text v = is_stated v && not (is_unwritten text v)
+-- a table of dependencies: its kind and target, how it is written, and what it holds
+pub record DependencyTable : Type 0 where
+  pub kind : Kind
+  pub target : Option Text
+  pub written : Option Members
+  pub has_other_name : Bool
+  pub entries : Entries
 
--- a crate that an index takes, whose manifest was read from the text
-pub record IsTaken {M : Type 0} (text : Text) (m : ManifestMeaning M) : Type 0 where
-  pub version : IsTrue (option_map_or (λ p. is_version text p.version) m.«package» false)
-  pub rust_version : IsTrue (option_map_or (λ p. is_stated_if_any p.rust_version) m.«package» false)
-  pub dependencies : IsTrue (are_taken (all_by_kind m))
+abbrev pub table_at : Option Text → Option Members → Kind → Entries → DependencyTable
+table_at target place kind entries = record {
+  kind = kind;
+  target = target;
+  written = section_in place kind;
+  has_other_name = has_other_name place kind;
+  entries = entries;
+}
 
--- the package leaves its version or its oldest compiler to the workspace
-abbrev pub leaves_some : {M : Type 0} → PackageMeaning M → Bool
-leaves_some p = not (is_stated p.version && is_stated_if_any p.rust_version)
+abbrev pub tables_at : Option Text → Option Members → List (Kind × Entries) → List DependencyTable
+tables_at target place ts = map (λ t. table_at target place t.0 t.1) ts
 
--- what a refusal tells of a manifest
-abbrev pub Explains : {M : Type 0} → Text → ManifestMeaning M → IndexError → Type 0
-Explains text m NoPackage = m.«package» ≡ None
-Explains text m NoVersion =
-    IsTrue (option_map_or (λ p. is_unwritten text p.version) m.«package» false)
-Explains text m Incomplete =
-    IsTrue (option_map_or leaves_some m.«package» false)
-    ⊎ IsTrue (is_told Incomplete (all_by_kind m))
-Explains text m (NoRequirement key) = IsTrue (is_told (NoRequirement key) (all_by_kind m))
-Explains text m (NoAddress key) = IsTrue (is_told (NoAddress key) (all_by_kind m))
-Explains text m Memory = Unit {0}
+-- those of a target, in the order in which Cargo writes them
+abbrev pub target_tables : Members → Text × TargetMeaning → List DependencyTable
+target_tables document t =
+    tables_at (Some t.0) (place_of document t.0)
+    ((Normal, t.1.dependencies) ∷ (Build, t.1.build_dependencies)
+    ∷ (Dev, t.1.dev_dependencies) ∷ [])
 
--- why a version isn't taken: it is left to the workspace, or none is written
-abbrev pub RefusesVersion : Text → Inheritable Parts → IndexError → Type 0
-RefusesVersion text v NoPackage = ⊥
-RefusesVersion text v NoVersion = IsTrue (is_unwritten text v)
-RefusesVersion text v Incomplete = is_stated v ≡ false
-RefusesVersion text v (NoRequirement key) = ⊥
-RefusesVersion text v (NoAddress key) = ⊥
-RefusesVersion text v Memory = Unit {0}
+-- those of a manifest that was read from the document
+abbrev pub dependency_tables : {M : Type 0} → Members → ManifestMeaning M → List DependencyTable
+dependency_tables document m =
+    tables_at None (Some document)
+    (with_kinds m.dependencies m.dev_dependencies m.build_dependencies)
+    ++ flat_map (target_tables document) m.target
+
+-- what is written under a key in the entry of a dependency
+abbrev pub written_flag : Option Members → Text → Text → Option Data
+written_flag table dependency key =
+    option_and_then (get_member key) (option_and_then (table_in dependency) table)
+
+-- ---- registries
+
+abbrev pub crates_io : Text
+crates_io = codes "https://github.com/rust-lang/crates.io-index"
+
+-- the address of the index of the registry with a name
+abbrev pub address_named : List (Text × Text) → Text → Option Text
+address_named [] name = if bytes_eq name (codes "crates-io") then Some crates_io else None
+address_named (known ∷ names) name =
+    if bytes_eq known.0 name then Some known.1 else address_named names name
+
+abbrev pub address_of : List (Text × Text) → Option Text → Option Text → Option Text
+address_of names (Some address) name = Some address
+address_of names None (Some name) = address_named names name
+address_of names None None = Some crates_io
+
+-- the address of the index that a dependency is looked for in, where that is known
+abbrev pub source_of : List (Text × Text) → DependencyMeaning → Option Text
+source_of names (simple r) = Some crates_io
+source_of names (inherited i) = Some crates_io
+source_of names (detailed d) = address_of names d.registry_index d.registry
+
+-- an address, unless it is the registry's own
+abbrev pub elsewhere : Text → Option Text → Option Text
+elsewhere own None = None
+elsewhere own (Some address) = if bytes_eq address own then None else Some address
+
+-- what a line is asked for
+pub record Wanted : Type 0 where
+  pub registry : Text
+  pub names : List (Text × Text)
+  pub checksum : Option Text
+  pub force : Bool
+
+-- ---- refusals
+
+-- what an index doesn't take, and the key or the name that is at fault
+abbrev pub Refusal : Type 0
+Refusal = Fault × Text
+
+abbrev pub refuse_if : Bool → Fault → Text → Option Refusal
+refuse_if is_refused fault subject = if is_refused then Some (fault, subject) else None
+
+-- the first refusal of some elements
+abbrev pub first_refusal : {A : Type 0} → (A → Option Refusal) → List A → Option Refusal
+first_refusal refusal [] = None
+first_refusal refusal (x ∷ xs) = option_or (refusal x) (first_refusal refusal xs)
+
+-- it has a path or a repository, and no version
+abbrev pub lacks_version : DependencyMeaning → Bool
+lacks_version (simple r) = false
+lacks_version (inherited i) = false
+lacks_version (detailed d) = is_none d.version && (is_some d.path || is_some d.git)
+
+abbrev pub is_dev : Kind → Bool
+is_dev Normal = false
+is_dev Build = false
+is_dev Dev = true
+
+-- `default_features`, which Cargo reads as `default-features`, and the library doesn't
+abbrev pub other_flag : Text
+other_flag = codes "default_features"
+
+abbrev pub keeps_other_flag : DependencyMeaning → Bool
+keeps_other_flag (simple r) = false
+keeps_other_flag (inherited i) = false
+keeps_other_flag (detailed d) = list_any (λ e. bytes_eq other_flag e.0) d.unstable
+
+abbrev pub has_other_flag : Option Members → Text × DependencyMeaning → Bool
+has_other_flag table e = is_some (written_flag table e.0 other_flag) || keeps_other_flag e.1
+
+-- of a dependency, which stands under its key. Where it lacks its version it is left out, if it is
+-- for tests
+abbrev pub entry_refusal : List (Text × Text) → DependencyTable → Text × DependencyMeaning
+    → Option Refusal
+entry_refusal names t e =
+    if is_left e.1 then Some (fault.Incomplete, e.0)
+    else if has_other_flag t.written e then Some (fault.OtherFlag, e.0)
+    else if lacks_version e.1 then refuse_if (not (is_dev t.kind)) fault.NoRequirement e.0
+    else refuse_if (is_none (source_of names e.1)) fault.NoAddress e.0
+
+abbrev pub table_refusal : List (Text × Text) → DependencyTable → Option Refusal
+table_refusal names t =
+    option_or (refuse_if t.has_other_name fault.OtherTable (other_name t.kind))
+    (first_refusal (entry_refusal names t) t.entries)
+
+-- what the table `package` has under a key
+abbrev pub in_package : Text → Members → Option Data
+in_package key ms = option_and_then (get_member key) (table_in (codes "package") ms)
+
+-- of the version. One that isn't written reads as 0.0.0
+abbrev pub version_refusal : Members → Inheritable Parts → Option Refusal
+version_refusal document Inherited = Some (fault.Incomplete, codes "version")
+version_refusal document (Set v) =
+    refuse_if (is_zero (Set v) && is_none (in_package (codes "version") document)) fault.NoVersion []
+
+-- a name is that of the registry with this address
+abbrev pub is_named : Text → List (Text × Text) → Text → Bool
+is_named own names name =
+    option_map_or (λ address. bytes_eq address own) (address_named names name) false
+
+-- nothing is written of publishing, or that it is wanted. A package of version 0.0.0 reads as not
+-- published all the same
+abbrev pub is_open : Members → Bool
+is_open document =
+    option_map_or (λ d. unwrap_or (as_bool d) false) (in_package (codes "publish") document) true
+
+abbrev pub is_published : Wanted → Members → Registries → Bool
+is_published w document (everywhere b) = b || is_open document
+is_published w document (among ns) = list_any (is_named w.registry w.names) ns
+
+abbrev pub publish_refusal : Wanted → Members → Inheritable Registries → Option Refusal
+publish_refusal w document Inherited = Some (fault.Incomplete, codes "publish")
+publish_refusal w document (Set r) =
+    refuse_if (not (is_published w document r)) fault.NotPublished []
+
+abbrev pub is_error : Level → Bool
+is_error Error = true
+is_error Hint = false
+is_error Warning = false
+
+-- of what lint finds
+abbrev pub finding_refusal : Finding → Option Refusal
+finding_refusal x = refuse_if (is_error (code_level x.code)) fault.Features x.feature.now
+
+-- of what isn't published in the registry, or has features at fault, unless it is wanted so
+abbrev pub choice_refusal : {M : Type 0} → Wanted → List Finding → Members → PackageMeaning M
+    → Option Refusal
+choice_refusal w findings document p =
+    if w.force then None
+    else option_or (publish_refusal w document p.publish) (first_refusal finding_refusal findings)
+
+abbrev pub package_refusal : {M : Type 0} → Wanted → List Finding → Members
+    → List DependencyTable → PackageMeaning M → Option Refusal
+package_refusal w findings document ts p =
+    option_or
+    (option_or
+    (option_or (version_refusal document p.version) (first_refusal (table_refusal w.names) ts))
+    (refuse_if (is_left_there p.rust_version) fault.Incomplete (codes "rust-version")))
+    (choice_refusal w findings document p)
+
+abbrev pub refusal_if_any : {M : Type 0} → Wanted → List Finding → Members
+    → List DependencyTable → Option (PackageMeaning M) → Option Refusal
+refusal_if_any w findings document ts None = Some (fault.NoPackage, [])
+refusal_if_any w findings document ts (Some p) = package_refusal w findings document ts p
+
+-- why an index doesn't take the crate of a manifest, which was read from the text, where lint finds
+-- this of it; `None` where it takes it
+abbrev pub refusal_of : {M : Type 0} → Wanted → List Finding → Text → ManifestMeaning M
+    → Option Refusal
+refusal_of w findings text m =
+    refusal_if_any w findings (written text) (dependency_tables (written text) m) m.«package»

@@ -1,10 +1,9 @@
--- what an index takes, what is amiss or odd, and how names are written: a user has to believe these
+-- what an index takes, and what is amiss, documented or odd: a user has to believe these
 pub mod Indexed
 pub mod IndexRows
 pub mod IndexEntries
 pub mod IndexFeatures
 pub mod IndexLines
-pub mod IndexFaults
 pub mod Linted
 pub mod Audited
 pub mod Oddities
@@ -12,15 +11,17 @@ pub mod LeftKeys
 pub mod Noted
 pub mod Neighbours
 pub mod Overall
-pub mod Escapes
-pub mod Escaped
-pub mod Reported
-pub mod ReportedJson
+pub mod Refusals
 pub mod Patterns
 pub mod Places
 pub mod MemberFolders
 pub mod Documented
+-- what the tools answer of files, and why they refuse
+pub mod FromFiles
+pub mod LintedFiles
+pub mod DocumentedFiles
+pub mod IndexedFiles
 -- the code's own steps, in contracts of inner functions alone: nothing here has to be believed
 pub mod Checked
-pub mod FurtherFolders
+pub mod Sections
 pub mod Rows

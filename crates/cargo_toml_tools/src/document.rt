@@ -6,39 +6,51 @@ mod dot;
 mod listing;
 mod reached;
 
-use crate::escape::{Format, push_code, push_escaped};
-use cargo_toml::Manifest;
-use cargo_toml::features::{DepAction, Features};
+use crate::escape::{Format, comma_before, push_code, push_escaped};
+use cargo_toml::features::DepAction;
 pub use dot::graph;
-pub use listing::{Row, rows};
+pub use listing::{Row, TakesRows, rows};
 pub use reached::Reached;
 use std::alloc::{AllocError, Global};
 use std::collections::{BTreeMap, BTreeSet};
-use std::hash::BuildHasher;
 
 /// A page in Markdown on the features that users may ask for: each with its text, whether it is on
-/// by default, and what it turns on, by any number of names. Optional dependencies that serve as
+/// by default, and what it turns on, by any number of steps. Optional dependencies that serve as
 /// features stand in a table of their own. Hidden and private features are left out.
-///
-/// What is resolved has hidden features, since what these turn on counts for others.
-pub fn page<M, S: BuildHasher>(
+#[derive(Drop)]
+pub struct Page {
+    /// The page.
+    pub text: String,
     alloc: Global,
-    manifest: &Manifest<M>,
-    resolved: &Features<'_, '_, S>,
-) -> Result<String, AllocError> {
-    let rows = rows(alloc, manifest, &resolved.features)?;
-    let mut page = String::new(alloc);
-    push_title(&mut page, manifest)?;
-    push_table(alloc, &mut page, rows.as_slice(), true)?;
-    push_table(alloc, &mut page, rows.as_slice(), false)?;
-    Ok(page)
 }
 
-fn push_title<M>(page: &mut String, manifest: &Manifest<M>) -> Result<(), AllocError> {
+impl Page {
+    /// No page yet.
+    pub fn new(alloc: Global) -> Page {
+        Page {
+            text: String::new(alloc),
+            alloc,
+        }
+    }
+}
+
+impl TakesRows for Page {
+    ghost use Rattle.std.specs.Prelude.{⊤};
+
+    ghost took = { λ _ _ _. ⊤ };
+
+    fn take(&mut self, name: Option<&str>, rows: &[Row<'_>]) -> Result<(), AllocError> {
+        push_title(&mut self.text, name)?;
+        push_table(self.alloc, &mut self.text, rows, true)?;
+        push_table(self.alloc, &mut self.text, rows, false)
+    }
+}
+
+fn push_title(page: &mut String, name: Option<&str>) -> Result<(), AllocError> {
     page.push_str("# Features")?;
-    if let Some(package) = &manifest.package {
+    if let Some(name) = name {
         page.push_str(" of ")?;
-        push_code(page, package.name.as_str())?;
+        push_code(page, name)?;
     }
     page.push_str("\n")
 }
@@ -99,12 +111,8 @@ fn push_row(
 }
 
 fn push_names(page: &mut String, names: &BTreeSet<&str>) -> Result<(), AllocError> {
-    let mut is_first = true;
-    for name in names {
-        if !is_first {
-            page.push_str(", ")?;
-        }
-        is_first = false;
+    for (i, name) in names.iter().enumerate() {
+        page.push_str(comma_before(i))?;
         push_code(page, *name)?;
     }
     Ok(())
@@ -117,12 +125,8 @@ fn push_actions(
     page: &mut String,
     actions: &BTreeMap<&str, DepAction<'_>>,
 ) -> Result<(), AllocError> {
-    let mut is_first = true;
-    for (key, action) in actions {
-        if !is_first {
-            page.push_str(", ")?;
-        }
-        is_first = false;
+    for (i, (key, action)) in actions.iter().enumerate() {
+        page.push_str(comma_before(i))?;
         let mark = if action.is_conditional { "?" } else { "" };
         let front = format!(in alloc; "{key}{mark}")?;
         push_asked(alloc, page, front.as_str(), &action.dep_features)?;
@@ -140,12 +144,8 @@ fn push_asked(
     if asked.is_empty() {
         return push_code(page, front);
     }
-    let mut is_first = true;
-    for feature in asked {
-        if !is_first {
-            page.push_str(", ")?;
-        }
-        is_first = false;
+    for (i, feature) in asked.iter().enumerate() {
+        page.push_str(comma_before(i))?;
         push_code(page, format!(in alloc; "{front}/{feature}")?.as_str())?;
     }
     Ok(())

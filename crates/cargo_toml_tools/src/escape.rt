@@ -1,14 +1,6 @@
 //! How names and texts of strangers are written into lines, Markdown and Graphviz's language.
 //!
 //! No name can end the line that it stands in, or close what stands around it.
-ghost use Rattle.std.specs.Prelude.{◌≡◌, ◌==◌, ◌++◌, ◌||◌, IfOk, OnOk, codes, length, nat_eq};
-ghost use Rattle.std.specs.Prelude.{string_bytes, true};
-ghost use Rattle.std.specs.List.{starts_with};
-ghost use Rattle.cargo_toml_tools.specs.declared.escape.Format.TheVariants.{Dot, Line, Markdown};
-ghost use Rattle.cargo_toml_tools.specs.Escaped.{braced, code, comma, escaped, escaped_text};
-ghost use Rattle.cargo_toml_tools.specs.Escaped.{fault_line, is_code, is_control, is_plain_sign};
-ghost use Rattle.cargo_toml_tools.specs.Escaped.{numbered};
-ghost use Rattle.cargo_toml_tools.specs.Escapes.{Appends, IsOneLine, fits, is_cell};
 
 use std::alloc::{AllocError, Global};
 use std::fmt::Write;
@@ -25,12 +17,7 @@ pub enum Format {
 }
 
 /// Writes a text so that it stands for itself in this format, and on one line.
-pub fn push_escaped(text: &mut String, words: &str, format: Format) -> Result<(), AllocError>
-    ensures exact { OnOk result
-        (string_bytes text.new ≡ string_bytes text.old ++ escaped_text format words.now) }
-    ensures fits { OnOk result
-        (Appends (fits format) (string_bytes text.old) (string_bytes text.new)) }
-{
+pub fn push_escaped(text: &mut String, words: &str, format: Format) -> Result<(), AllocError> {
     for c in words.chars() {
         push_char(text, c, format)?;
     }
@@ -39,10 +26,7 @@ pub fn push_escaped(text: &mut String, words: &str, format: Format) -> Result<()
 
 /// Writes a name into Markdown as code. It is put between backticks where it has nothing else that
 /// could have a meaning there.
-pub fn push_code(text: &mut String, name: &str) -> Result<(), AllocError>
-    ensures exact { OnOk result (string_bytes text.new ≡ string_bytes text.old ++ code name.now) }
-    ensures cell { OnOk result (Appends is_cell (string_bytes text.old) (string_bytes text.new)) }
-{
+pub fn push_code(text: &mut String, name: &str) -> Result<(), AllocError> {
     if is_code(name) {
         text.push_str("`")?;
         text.push_str(name)?;
@@ -55,18 +39,12 @@ pub fn push_code(text: &mut String, name: &str) -> Result<(), AllocError>
 }
 
 /// What stands before the item at this place of a list: a comma, but not before the first.
-pub(crate) fn comma_before(place: usize) -> &'static str
-    ensures exact { result.now ≡ comma place }
-    ensures cell { is_cell result.now ≡ true }
-{
+pub(crate) fn comma_before(place: usize) -> &'static str {
     if place == 0 { "" } else { ", " }
 }
 
 /// The line that tells why a file is refused.
-pub fn fault_line(alloc: Global, file: &str, words: &str) -> Result<String, AllocError>
-    ensures exact { IfOk result (λ line. string_bytes line ≡ fault_line file.now words.now) }
-    ensures one_line { IfOk result (λ line. IsOneLine (string_bytes line)) }
-{
+pub fn fault_line(alloc: Global, file: &str, words: &str) -> Result<String, AllocError> {
     let mut line = String::from_str(alloc, "error: ")?;
     push_escaped(&mut line, file, Format::Line)?;
     line.push_str(": ")?;
@@ -75,9 +53,7 @@ pub fn fault_line(alloc: Global, file: &str, words: &str) -> Result<String, Allo
     Ok(line)
 }
 
-fn push_char(text: &mut String, c: char, format: Format) -> Result<(), AllocError>
-    ensures { OnOk result (string_bytes text.new ≡ string_bytes text.old ++ escaped format c) }
-{
+fn push_char(text: &mut String, c: char, format: Format) -> Result<(), AllocError> {
     match format {
         Format::Line => push_in_line(text, c),
         Format::Markdown => push_in_markdown(text, c),
@@ -85,10 +61,7 @@ fn push_char(text: &mut String, c: char, format: Format) -> Result<(), AllocErro
     }
 }
 
-#[tactic(auto, unfolding(crate::specs::Escaped::escaped))]
-fn push_in_line(text: &mut String, c: char) -> Result<(), AllocError>
-    ensures { OnOk result (string_bytes text.new ≡ string_bytes text.old ++ escaped Line c) }
-{
+fn push_in_line(text: &mut String, c: char) -> Result<(), AllocError> {
     if is_control(c) {
         return push_braced(text, c);
     }
@@ -99,10 +72,7 @@ fn push_in_line(text: &mut String, c: char) -> Result<(), AllocError>
     }
 }
 
-#[tactic(auto, unfolding(crate::specs::Escaped::escaped))]
-fn push_in_markdown(text: &mut String, c: char) -> Result<(), AllocError>
-    ensures { OnOk result (string_bytes text.new ≡ string_bytes text.old ++ escaped Markdown c) }
-{
+fn push_in_markdown(text: &mut String, c: char) -> Result<(), AllocError> {
     if is_plain_in_markdown(c) {
         text.push(c)
     } else {
@@ -110,10 +80,7 @@ fn push_in_markdown(text: &mut String, c: char) -> Result<(), AllocError>
     }
 }
 
-#[tactic(auto, unfolding(crate::specs::Escaped::escaped))]
-fn push_in_dot(text: &mut String, c: char) -> Result<(), AllocError>
-    ensures { OnOk result (string_bytes text.new ≡ string_bytes text.old ++ escaped Dot c) }
-{
+fn push_in_dot(text: &mut String, c: char) -> Result<(), AllocError> {
     if is_control(c) {
         return push_numbered(text, c);
     }
@@ -126,26 +93,20 @@ fn push_in_dot(text: &mut String, c: char) -> Result<(), AllocError>
 }
 
 /// Writes a character by its number into a line, as Rust does.
-fn push_braced(text: &mut String, c: char) -> Result<(), AllocError>
-    ensures { OnOk result (string_bytes text.new ≡ string_bytes text.old ++ braced c) }
-{
+fn push_braced(text: &mut String, c: char) -> Result<(), AllocError> {
     let number = u32::from(c);
     write!(text, "\\u{{{number:x}}}")
 }
 
 /// Writes a character by its number, as HTML does, and with it Markdown and Graphviz.
-fn push_numbered(text: &mut String, c: char) -> Result<(), AllocError>
-    ensures { OnOk result (string_bytes text.new ≡ string_bytes text.old ++ numbered c) }
-{
+fn push_numbered(text: &mut String, c: char) -> Result<(), AllocError> {
     let number = u32::from(c);
     write!(text, "&#{number};")
 }
 
 /// Whether the character is no sign: it ends a line, or is one of those that take no place or turn
 /// the direction of what follows.
-fn is_control(c: char) -> bool
-    ensures { result ≡ is_control c }
-{
+fn is_control(c: char) -> bool {
     matches!(c, '\0'..='\u{1f}' | '\u{7f}'..='\u{9f}' | '\u{ad}' | '\u{61c}' | '\u{180e}')
         || matches!(c, '\u{200b}'..='\u{200f}' | '\u{2028}'..='\u{202e}')
         || matches!(c, '\u{2060}'..='\u{206f}' | '\u{feff}' | '\u{fff9}'..='\u{fffb}')
@@ -153,9 +114,7 @@ fn is_control(c: char) -> bool
 }
 
 /// Whether the character has no meaning in the text of a line of Markdown.
-fn is_plain_in_markdown(c: char) -> bool
-    ensures { result ≡ is_plain_sign c }
-{
+fn is_plain_in_markdown(c: char) -> bool {
     match c {
         ' ' | '-' | '+' | '.' | ',' | ':' | ';' | '/' | '?' | '(' | ')' | '=' | '%' => true,
         '0'..='9' | 'a'..='z' | 'A'..='Z' => true,
@@ -165,9 +124,7 @@ fn is_plain_in_markdown(c: char) -> bool
 
 /// Whether a name has characters, each of which stands for itself between backticks. A space in
 /// front doesn't, where another ends the name.
-fn is_code(name: &str) -> bool
-    ensures { result ≡ is_code name.now }
-{
+fn is_code(name: &str) -> bool {
     for c in name.chars() {
         if !is_plain_in_code(c) {
             return false;
@@ -177,14 +134,10 @@ fn is_code(name: &str) -> bool
 }
 
 /// Whether a name has no character, or begins with a space.
-fn is_none_in_code(name: &str) -> bool
-    ensures { result ≡ ((length name.now == 0) || starts_with nat_eq name.now (codes " ")) }
-{
+fn is_none_in_code(name: &str) -> bool {
     name.is_empty() || name.starts_with(' ')
 }
 
-fn is_plain_in_code(c: char) -> bool
-    ensures { result ≡ (is_plain_sign c || (c == 95)) }
-{
+fn is_plain_in_code(c: char) -> bool {
     is_plain_in_markdown(c) || c == '_'
 }

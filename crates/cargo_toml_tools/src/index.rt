@@ -1,45 +1,60 @@
 //! The line of JSON that a registry's index has of a crate, by the rules of Cargo's.
-ghost use Rattle.std.specs.Prelude.{◌≡◌, ◌↔◌, ◌⊎◌, Err, IfErr, IfOk, None, OnOk, string_bytes};
+ghost use Rattle.std.specs.Prelude.{◌≡◌, ◌⊎◌, IfErr, IfOk, None, OnOk, Some, map};
+ghost use Rattle.std.specs.Prelude.{option_and_then, option_map, string_bytes};
 ghost use Rattle.std.specs.Option.{option_copied};
-ghost use Rattle.serde_json.specs.View.{members_view};
-ghost use Rattle.serde_json.specs.Written.{IsInOrder, compact_text};
+ghost use Rattle.semver.specs.Identifiers.{parts_of, parts_text};
+ghost use Rattle.serde_json.specs.View.{members_view, view};
+ghost use Rattle.toml.specs.View.{table_view};
+ghost use Rattle.cargo_toml.specs.InheritableValues.{value_of};
+ghost use Rattle.cargo_toml.specs.Inherits.{inheritable_map};
 ghost use Rattle.cargo_toml.specs.Manifests.{held};
-ghost use Rattle.cargo_toml_tools.specs.declared.index.IndexError.TheVariants.{Memory, NoPackage};
-ghost use Rattle.cargo_toml_tools.specs.Indexed.{Explains, IsTaken};
-ghost use Rattle.cargo_toml_tools.specs.Checked.{all_entries, lists_meaning};
-ghost use Rattle.cargo_toml_tools.specs.IndexLines.{IsLineOf, line_data};
-ghost use Rattle.cargo_toml_tools.specs.IndexRows.{checksum_rows, stated_rows, with_rows};
+ghost use Rattle.cargo_toml.specs.Packages.{held_package};
+ghost use Rattle.cargo_toml_tools.specs.declared.index.IndexError.TheVariants.{Memory};
+ghost use Rattle.cargo_toml_tools.specs.Indexed.{refusal_of, written};
+ghost use Rattle.cargo_toml_tools.specs.IndexLines.{index_data, line_data};
+ghost use Rattle.cargo_toml_tools.specs.IndexRows.{rows_of_package, with_rows};
+ghost use Rattle.cargo_toml_tools.specs.Checked.{lists_meaning};
+ghost use Rattle.cargo_toml_tools.specs.Sections.{refused, table_of, told, wanted_of};
 
-mod checks;
-mod dependencies;
 mod entry;
 mod features;
 mod refusals;
+mod registries;
+mod sections;
 
-use crate::json::put_text;
-use crate::tables::Tables;
-use cargo_toml::{FeatureSet, Manifest};
-use checks::{Stated, check_crate};
-use dependencies::entries;
-use features::put_features;
-use refusals::AllTables;
+use crate::json::{put_text, put_text_if};
+use cargo_toml::{FeatureSet, Inheritable, Manifest, Package, SemVer};
+use cargo_toml_lint::Finding;
+use entry::entries;
+use features::{kept_lists, put_features};
+pub use refusals::Fault;
+use refusals::{Refusal, package_refusal};
+pub use registries::{CRATES_IO, Named};
+use sections::{Section, sections};
 use serde_json::{Map, Value, put};
-use std::alloc::{AllocError, AllocFailed, Global};
+use std::alloc::{AllocError, Global};
 use std::fmt;
+use toml::Table;
+
+/// Which line is asked for.
+#[derive(Debug, Clone, Copy)]
+pub struct Options<'a> {
+    /// The address of the index of the registry that the line is for.
+    pub registry: &'a str,
+    /// What registries are called, each with the address of its index. `crates-io` is known.
+    pub names: &'a [Named<'a>],
+    /// The SHA-256 of the crate's archive in hex. Without one the line has no `cksum`.
+    pub checksum: Option<&'a str>,
+    /// Whether there is a line, too, of what isn't published there, or whose features have an
+    /// error.
+    pub force: bool,
+}
 
 /// Why a crate has no line.
 #[derive(Debug, Drop)]
 pub enum IndexError {
-    /// The manifest has no package.
-    NoPackage,
-    /// The package states no version.
-    NoVersion,
-    /// Something is left to the workspace: the manifest isn't completed.
-    Incomplete,
-    /// The dependency of this key has a path or a repository, and no version.
-    NoRequirement(String),
-    /// The dependency of this key names its registry, and not the address of that registry's index.
-    NoAddress(String),
+    /// An index doesn't take it, and what has this key or name is at fault.
+    Refused(Fault, String),
     /// There was no memory.
     Memory,
 }
@@ -54,130 +69,141 @@ impl From<AllocError> for IndexError {
     }
 }
 
-impl<T: Drop> From<AllocFailed<T>> for IndexError {
-    ghost use Rattle.cargo_toml_tools.specs.declared.index.IndexError.TheVariants.{Memory};
-
-    ghost from_gives = { λ _ e. e ≡ Memory };
-
-    fn from(_fault: AllocFailed<T>) -> IndexError {
-        IndexError::Memory
-    }
-}
-
-/// What each variant says above, in words.
+/// What each fault says above, in words.
 impl fmt::Display for IndexError {
-    ghost use Rattle.std.specs.Prelude.{Some};
-    ghost use Rattle.cargo_toml_tools.specs.IndexFaults.{index_fault_text};
-
-    ghost output = { λ fault. Some (index_fault_text fault) };
-
     fn fmt<W: fmt::Write>(&self, f: &mut fmt::Formatter<W>) -> fmt::Result {
-        match self {
-            IndexError::NoPackage => f.write_str("there is no package"),
-            IndexError::NoVersion => f.write_str("the package has no version"),
-            IndexError::Incomplete => f.write_str("the manifest isn't completed"),
-            IndexError::NoRequirement(key) => { write!(f, "the dependency {key} has no version") }
-            IndexError::NoAddress(key) => {
-                write!(f, "the registry of the dependency {key} has no address")
+        let (fault, name) = match self {
+            IndexError::Refused(fault, name) => (*fault, name),
+            IndexError::Memory => return f.write_str("out of memory"),
+        };
+        match fault {
+            Fault::NoPackage => f.write_str("there is no package"),
+            Fault::NoVersion => f.write_str("the package has no version"),
+            Fault::Incomplete => write!(f, "{name} is left to the workspace"),
+            Fault::OtherTable => write!(f, "the table {name} has `_` in its name"),
+            Fault::OtherFlag => write!(f, "the dependency {name} has `default_features`"),
+            Fault::NoRequirement => write!(f, "the dependency {name} has no version"),
+            Fault::NoAddress => {
+                write!(f, "the registry of the dependency {name} has no address")
             }
-            IndexError::Memory => f.write_str("out of memory"),
+            Fault::NotPublished => f.write_str("the package isn't published in this registry"),
+            Fault::Features => write!(f, "lint finds an error of the feature {name}"),
         }
     }
 }
 
 impl std::error::Error for IndexError {}
 
-/// The line that a registry's index has of the crate of this manifest, which is completed. `text`
-/// is what the manifest was read from, and `checksum` the SHA-256 of the crate's archive in hex;
-/// without one the line has no `cksum`.
+/// What a registry's index has of the crate of this manifest, which is completed. `text` is what
+/// the manifest was read from, and `findings` what lint finds of its features.
 ///
 /// - Dev-dependencies stay. A dependency with a path or a repository is refused where it has no
-///   version, and a dev-dependency of that kind is left out.
-/// - A feature whose list has a `dep:` or a `?/` stands under `features2`, and then `v` is 2.
-/// - Members stand in byte order of their names.
-pub fn index_line<M>(
+///   version, and a dev-dependency of that kind is left out, with what acts on it in features.
+/// - A feature whose list has a `dep:` or a `?/` has that list under `features2`, and `v` is 2.
+pub fn index_entry<M>(
     alloc: Global,
     manifest: &Manifest<M>,
     text: &str,
-    checksum: Option<&str>,
-) -> Result<String, IndexError>
-    ensures no_package { (result ≡ Err NoPackage) ↔ (manifest.now.«package» ≡ None) }
-    ensures taken { OnOk result (IsTaken text.now (held manifest.now)) }
-    ensures refused { IfErr result (Explains text.now (held manifest.now)) }
-    ensures exact { IfErr result
-        (λ e. (e ≡ Memory) ⊎ ¬ IsTaken text.now (held manifest.now)) }
-    ensures line { IfOk result (λ line. IsLineOf (held manifest.now)
-        (option_copied checksum.entry) (string_bytes line)) }
+    findings: &[Finding<'_>],
+    options: Options<'_>,
+) -> Result<Value, IndexError>
+    ensures taken { OnOk result (refusal_of (wanted_of options.entry) findings.now text.now
+        (held manifest.now) ≡ None) }
+    ensures refused { IfErr result (λ e. (e ≡ Memory) ⊎ (told e ≡ refusal_of
+        (wanted_of options.entry) findings.now text.now (held manifest.now))) }
+    ensures entry { IfOk result (λ value. Some (view value)
+        ≡ index_data (wanted_of options.entry) text.now (held manifest.now)) }
 {
     let Some(package) = &manifest.package else {
-        return Err(IndexError::NoPackage);
+        let fault = Fault::NoPackage;
+        return Err(error_of(alloc, Refusal { fault, subject: "" }));
     };
-    let dependencies = AllTables {
-        own: Tables {
-            normal: &manifest.dependencies,
-            dev: &manifest.dev_dependencies,
-            build: &manifest.build_dependencies,
-        },
-        targets: &manifest.target,
-    };
-    let stated = check_crate(alloc, package, dependencies, text)?;
-    Ok(line_of(alloc, stated, dependencies, &manifest.features, checksum)?)
+    let document = document_of(alloc, text)?;
+    let sections = sections(alloc, manifest, &document)?;
+    let sections = sections.as_slice();
+    if let Some(refusal) = package_refusal(package, &document, sections, findings, options) {
+        return Err(error_of(alloc, refusal));
+    }
+    Ok(line_of(alloc, package, sections, &manifest.features, options)?)
+}
+
+/// The document that the manifest was read from.
+fn document_of(alloc: Global, text: &str) -> Result<Table, AllocError>
+    ensures { IfOk result (λ table. table_view table ≡ written text.now) }
+{
+    match toml::table_from_str(alloc, text) {
+        Ok(table) => Ok(table),
+        Err(fault) if fault.is_memory() => Err(AllocError),
+        Err(_) => Ok(Table::new(alloc)),
+    }
+}
+
+fn error_of(alloc: Global, refusal: Refusal<'_>) -> IndexError
+    ensures { (result ≡ Memory) ⊎ (told result ≡ Some (refused refusal.entry)) }
+{
+    match String::from_str(alloc, refusal.subject) {
+        Ok(name) => IndexError::Refused(refusal.fault, name),
+        Err(_) => IndexError::Memory,
+    }
 }
 
 /// The line of a crate that an index takes.
-fn line_of(
+fn line_of<M>(
     alloc: Global,
-    stated: Stated<'_>,
-    dependencies: AllTables<'_>,
+    package: &Package<M>,
+    sections: &[Section<'_>],
     features: &FeatureSet,
-    checksum: Option<&str>,
-) -> Result<String, AllocError>
-    ensures text { IfOk result (λ line. string_bytes line
-        ≡ compact_text (line_data (stated_rows stated.entry) (all_entries dependencies.entry)
-        (lists_meaning features.now) (option_copied checksum.entry))) }
-    ensures order { IfOk result (λ line. IsInOrder (string_bytes line)
-        (line_data (stated_rows stated.entry) (all_entries dependencies.entry)
-        (lists_meaning features.now) (option_copied checksum.entry))) }
+    options: Options<'_>,
+) -> Result<Value, AllocError>
+    ensures { IfOk result (λ value. view value ≡ line_data (wanted_of options.entry)
+        (map table_of sections.now) (lists_meaning features.now)
+        (held_package «package».now)) }
 {
-    let dependencies = entries(alloc, dependencies)?;
     let mut line = Map::new(alloc);
-    put_stated(alloc, &mut line, stated)?;
-    put(&mut line, alloc, "deps", Value::from(dependencies))?;
-    put_features(alloc, &mut line, features)?;
-    put_checksum(alloc, &mut line, checksum)?;
-    Value::from(line).to_string(alloc)
+    put_package(alloc, &mut line, package)?;
+    let entries = entries(alloc, options, sections)?;
+    put(&mut line, alloc, "deps", Value::from(entries))?;
+    let lists = kept_lists(alloc, sections, features)?;
+    put_features(alloc, &mut line, lists.as_slice())?;
+    put_text_if(alloc, &mut line, "cksum", options.checksum)?;
+    Ok(Value::from(line))
 }
 
 /// The members that are of the package alone.
-fn put_stated(
+fn put_package<M>(
     alloc: Global,
     line: &mut Map<String, Value>,
-    stated: Stated<'_>,
+    package: &Package<M>,
 ) -> Result<(), AllocError>
     ensures { OnOk result (members_view line.new.entries
-        ≡ with_rows (stated_rows stated.entry) (members_view line.old.entries)) }
-{
-    let version = stated.version;
-    let version = format!(in alloc; "{version}")?;
-    put_text(alloc, line, "name", Some(stated.name))?;
-    put_text(alloc, line, "vers", Some(version.as_str()))?;
-    put(line, alloc, "yanked", Value::from(false))?;
-    put_text(alloc, line, "links", stated.links)?;
-    put_text(alloc, line, "rust_version", stated.rust_version)?;
-    Ok(())
-}
-
-fn put_checksum(
-    alloc: Global,
-    line: &mut Map<String, Value>,
-    checksum: Option<&str>,
-) -> Result<(), AllocError>
-    ensures { OnOk result (members_view line.new.entries
-        ≡ with_rows (checksum_rows (option_copied checksum.entry))
+        ≡ with_rows (rows_of_package (held_package «package».now))
         (members_view line.old.entries)) }
 {
-    match checksum {
-        Some(_) => put_text(alloc, line, "cksum", checksum),
-        None => Ok(()),
+    let version = version_text(alloc, &package.version)?;
+    put_text(alloc, line, "name", Some(package.name.as_str()))?;
+    put_text(alloc, line, "vers", version.as_deref())?;
+    put(line, alloc, "yanked", Value::from(false))?;
+    put_text(alloc, line, "links", package.links.as_deref())?;
+    put_text(alloc, line, "rust_version", stated(&package.rust_version))
+}
+
+fn version_text(alloc: Global, version: &Inheritable<SemVer>) -> Result<Option<String>, AllocError>
+    ensures { IfOk result (λ text. option_map string_bytes text
+        ≡ option_map parts_text (value_of (inheritable_map parts_of version.now))) }
+{
+    match version {
+        Inheritable::Set(version) => Ok(Some(format!(in alloc; "{version}")?)),
+        Inheritable::Inherited => Ok(None),
+    }
+}
+
+/// A text that is there, and not left to the workspace.
+fn stated(text: &Option<Inheritable<String>>) -> Option<&str>
+    ensures { option_copied result
+        ≡ option_and_then value_of (option_map (inheritable_map string_bytes) text.now) }
+{
+    match text {
+        Some(Inheritable::Set(text)) => Some(text.as_str()),
+        _ => None,
     }
 }

@@ -3,7 +3,7 @@ ghost use Rattle.std.specs.Prelude.{◌≡◌, OnOk, map, string_bytes};
 ghost use Rattle.std.specs.Option.{option_copied};
 ghost use Rattle.serde_json.specs.Data.{put as with_member};
 ghost use Rattle.serde_json.specs.View.{members_view};
-ghost use Rattle.cargo_toml_tools.specs.IndexRows.{text_array, text_or_null};
+ghost use Rattle.cargo_toml_tools.specs.IndexRows.{rows_if, text_array, text_or_null, with_rows};
 
 use serde_json::{Map, Value, push, put};
 use std::alloc::{AllocError, Global};
@@ -24,6 +24,23 @@ pub fn put_text(
         None => Value::from(()),
     };
     put(object, alloc, key, value)
+}
+
+/// Puts a text under a key, where there is one.
+pub fn put_text_if(
+    alloc: Global,
+    object: &mut Map<String, Value>,
+    key: &str,
+    text: Option<&str>,
+) -> Result<(), AllocError>
+    ensures { OnOk result (members_view object.new.entries
+        ≡ with_rows (rows_if key.now (option_copied text.entry))
+        (members_view object.old.entries)) }
+{
+    match text {
+        Some(_) => put_text(alloc, object, key, text),
+        None => Ok(()),
+    }
 }
 
 /// Puts a list of texts under a key.

@@ -2,14 +2,15 @@
 //! workspace (`audit`), what is documented of features (`document`), and what is amiss with them
 //! (`lint`).
 //!
-//! Each borrows the manifests that it reads, and answers text or values of its own. So the program
-//! above owns them, and alone pays for that when it is proved. `escape` writes names and texts of
-//! strangers.
+//! Each borrows the manifests that it reads, and answers text or values of its own. `files` reads,
+//! completes and owns them, and alone pays for that when it is proved. `escape` writes names and
+//! texts of strangers.
 #![tactic(auto)]
 
 pub mod audit;
 pub mod document;
 pub mod escape;
+pub mod files;
 pub mod index;
 mod json;
 pub mod lint;

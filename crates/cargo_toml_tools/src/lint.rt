@@ -1,40 +1,66 @@
 //! What is amiss with the features of a manifest, as lines.
-ghost use Rattle.std.specs.Prelude.{◌≡◌, ◌↔◌, IfErr, IfOk, IsTrue};
-ghost use Rattle.std.specs.List.{list_any};
-ghost use Rattle.cargo_toml.specs.Error.{Memory};
-ghost use Rattle.cargo_toml.specs.Manifests.{held};
-ghost use Rattle.cargo_toml_lint.specs.Findings.{code_level};
-ghost use Rattle.cargo_toml_tools.specs.Linted.{IsAmiss, weighs};
+ghost use Rattle.std.specs.Prelude.{◌≡◌};
+ghost use Rattle.cargo_toml_tools.specs.Linted.{is_amiss, weighs};
 
 use crate::escape::{Format, push_escaped};
-use cargo_toml::{Error, Manifest};
-use cargo_toml_lint::{Finding, Level, lint};
+use cargo_toml_lint::{Finding, Level};
 use std::alloc::{AllocError, Global};
-use std::hash::BuildHasher;
 
-/// The findings of a manifest as lines, and whether one is an error or a warning.
+/// What is made of the findings of a manifest.
+pub trait TakesFindings {
+    ghost use Rattle.std.specs.Prelude.{List, OnOk};
+    ghost use Rattle.cargo_toml_lint.specs.declared.finding.Finding.{Finding};
+
+    /// Before and after it took these findings.
+    ghost took: { Self → List Finding → Self → Type 0 };
+
+    /// Takes them all, in their order. The one refusal is want of memory.
+    fn take(&mut self, findings: &[Finding<'_>]) -> Result<(), AllocError>
+        ensures { OnOk result (took self.old findings.now self.new) };
+}
+
+/// Findings as lines, and whether one is an error or a warning.
 ///
-/// A line is `LEVEL | CODE | FEATURE | TEXT | words`. They stand in byte order of level, code,
-/// feature and text, and each begins with the name of the file where one is given.
-pub fn lint_lines<M, S: BuildHasher + Clone + Drop>(
-    alloc: Global,
-    state: S,
-    manifest: &Manifest<M>,
-    file: Option<&str>,
-) -> Result<(String, bool), Error>
-    ensures status { IfOk result
-        (λ r. IsTrue r.1 ↔ IsAmiss (held manifest.now)) }
-    ensures refused { IfErr result (λ e. e ≡ Memory) }
-{
-    let findings = lint(alloc, state, manifest)?;
-    let is_amiss = is_amiss(findings.as_slice());
-    let text = lines(alloc, file, findings.as_slice())?;
-    Ok((text, is_amiss))
+/// A line is `LEVEL | CODE | FEATURE | TEXT | words`, and begins with the name of the file where one
+/// is given.
+#[derive(Drop)]
+pub struct Lines<'a> {
+    /// The lines.
+    pub text: String,
+    /// Whether one of the findings that were last taken is an error or a warning.
+    pub is_amiss: bool,
+    file: Option<&'a str>,
+}
+
+impl<'a> Lines<'a> {
+    /// No lines yet. They will begin with this name.
+    pub fn new(alloc: Global, file: Option<&'a str>) -> Lines<'a> {
+        Lines {
+            text: String::new(alloc),
+            is_amiss: false,
+            file,
+        }
+    }
+}
+
+impl TakesFindings for Lines<'_> {
+    ghost use Rattle.std.specs.Prelude.{◌≡◌};
+    ghost use Rattle.cargo_toml_tools.specs.Linted.{is_amiss};
+
+    ghost took = { λ _ findings lines. lines.is_amiss ≡ is_amiss findings };
+
+    fn take(&mut self, findings: &[Finding<'_>]) -> Result<(), AllocError> {
+        for finding in findings {
+            push_finding(&mut self.text, self.file, finding)?;
+        }
+        self.is_amiss = is_amiss(findings);
+        Ok(())
+    }
 }
 
 /// Whether one of the findings is an error or a warning.
 fn is_amiss(findings: &[Finding<'_>]) -> bool
-    ensures { result ≡ list_any (λ x. weighs (code_level x.code)) findings.now }
+    ensures { result ≡ is_amiss findings.now }
 {
     findings.iter().any(|finding| weighs(finding.code.level()))
 }
@@ -46,18 +72,6 @@ fn weighs(level: Level) -> bool
         Level::Error | Level::Warning => true,
         Level::Hint => false,
     }
-}
-
-fn lines(
-    alloc: Global,
-    file: Option<&str>,
-    findings: &[Finding<'_>],
-) -> Result<String, AllocError> {
-    let mut text = String::new(alloc);
-    for finding in findings {
-        push_finding(&mut text, file, finding)?;
-    }
-    Ok(text)
 }
 
 fn push_finding(

@@ -1,10 +1,10 @@
-//! `cargo-toml-tools index [--checksum HEX] FILE..` prints the line that a registry's index has of
+//! `cargo-toml-tools index [OPTION..] FILE..` prints the line that a registry's index has of
 //! each crate, `lint FILE..` what is amiss with features, `audit [--json] FOLDER` reports on a
 //! workspace, and `document [--dot] FILE..` prints what is documented of features.
 #![tactic(auto)]
 
 use cargo_toml_tools::escape::fault_line;
-use cargo_toml_tools_files::{audit, document, index, lint};
+use cargo_toml_tools::files::{audit, document_text, index_line, lint_lines};
 use cargo_toml_tools_words::{Outcome, Request, USAGE, read_request};
 use std::env::FillError;
 use std::fmt::Display;
@@ -52,21 +52,21 @@ fn answer<R: Files + Print + Eprint + RandomSource + AllocGlobal>(
 ) -> io::Result<Outcome> {
     let mut outcome = Outcome::Done;
     match request {
-        Request::Index(files, checksum) => {
+        Request::Index(files, wanted) => {
             for file in files {
-                let made = as_due(index(rt, *file, *checksum));
+                let made = as_due(index_line(rt, *file, wanted.options()));
                 outcome = put(rt, *file, made)?.max(outcome);
             }
         }
         Request::Lint(files) => {
             for file in files {
-                let made = lint(rt, *file, files.len() > 1);
+                let made = lint_lines(rt, *file, files.len() > 1);
                 outcome = put(rt, *file, made)?.max(outcome);
             }
         }
         Request::Document(files, dot) => {
             for file in files {
-                let made = as_due(document(rt, *file, *dot));
+                let made = as_due(document_text(rt, *file, *dot));
                 outcome = put(rt, *file, made)?.max(outcome);
             }
         }

@@ -14,7 +14,8 @@ use cargo_toml::Error;
 use cargo_toml_row_files::templates::text_in;
 use cargo_toml_row_files::tree::{fresh_folder, make_tree, remove_tree};
 use cargo_toml_tools::escape::fault_line;
-use cargo_toml_tools_files::{audit, document, index, lint};
+use cargo_toml_tools::files::{audit, document_text, index_line, lint_lines};
+use cargo_toml_tools::index::{CRATES_IO, Options};
 use cargo_toml_tools_words::Outcome;
 use std::alloc::Global;
 use std::random::RandomSource;
@@ -51,6 +52,34 @@ fn reported(
     }
 }
 
+/// What came of a row of `index`, with the options that stand beside its manifest.
+fn told_of_index<R: Files + RandomSource + AllocGlobal>(
+    rt: &R,
+    row: &str,
+    file: &str,
+) -> Result<String, Error> {
+    let alloc = rt.alloc();
+    let registry = text_in(rt, row, "registry")?;
+    let checksum = text_in(rt, row, "checksum")?;
+    let force = text_in(rt, row, "force")?.is_some();
+    let listed = text_in(rt, row, "names")?.unwrap_or(String::new(alloc));
+    let mut names = Vec::new(alloc);
+    for line in listed.lines() {
+        if let Some(name) = line.split_once('=') {
+            names.push(name)?;
+        }
+    }
+    let options = Options {
+        registry: registry
+            .as_ref()
+            .map_or(CRATES_IO, |text| text.as_str().trim_end()),
+        names: names.as_slice(),
+        checksum: checksum.as_ref().map(|text| text.as_str().trim_end()),
+        force,
+    };
+    told(alloc, "FILE", index_line(rt, file, options))
+}
+
 /// The same of a row whose manifest or workspace lies in `folder`.
 fn answer<R: Files + RandomSource + Eprint + AllocGlobal>(
     rt: &R,
@@ -61,19 +90,15 @@ fn answer<R: Files + RandomSource + Eprint + AllocGlobal>(
     let alloc = rt.alloc();
     let file = format!(in alloc; "{folder}/Cargo.toml")?;
     match kind {
-        "index" => {
-            let checksum = text_in(rt, row, "checksum")?;
-            let checksum = checksum.as_ref().map(|text| text.as_str().trim_end());
-            told(alloc, "FILE", index(rt, file.as_str(), checksum))
-        }
+        "index" => told_of_index(rt, row, file.as_str()),
         "findings" => {
             let limit = text_in(rt, row, "max")?;
             let limit = limit.as_ref().map(|text| text.as_str().trim_end());
             findings::lines(rt, file.as_str(), limit)
         }
-        "lint" => reported(alloc, "FILE", lint(rt, file.as_str(), false)),
-        "document" => told(alloc, "FILE", document(rt, file.as_str(), false)),
-        "graph" => told(alloc, "FILE", document(rt, file.as_str(), true)),
+        "lint" => reported(alloc, "FILE", lint_lines(rt, file.as_str(), false)),
+        "document" => told(alloc, "FILE", document_text(rt, file.as_str(), false)),
+        "graph" => told(alloc, "FILE", document_text(rt, file.as_str(), true)),
         "audit" => reported(alloc, "FOLDER", audit(rt, folder, false, false)),
         "report" => reported(alloc, "FOLDER", audit(rt, folder, true, false)),
         _ => Err(Error::Other("no such kind of row")),

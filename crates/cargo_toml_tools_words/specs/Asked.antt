@@ -16,7 +16,7 @@ exit_status NoCommand = 2
 
 -- a checksum is that of the only file
 abbrev pub IsOfOneFile : Request → Type 0
-IsOfOneFile (Index files checksum) = IfSome checksum (λ _. vec_len files ≡ 1)
+IsOfOneFile (Index files wanted) = IfSome wanted.checksum (λ _. vec_len files ≡ 1)
 IsOfOneFile (Lint files) = ⊤
 IsOfOneFile (Audit folder json) = ⊤
 IsOfOneFile (Document files dot) = ⊤

@@ -1,21 +1,20 @@
 //! What members ask for, and which crates they ask for by several requirements.
-ghost use Rattle.std.specs.Prelude.{◌≡◌, ◌++◌, IfOk, OnOk, map, string_bytes};
+ghost use Rattle.std.specs.Prelude.{◌≡◌, IfOk, OnOk, map};
 ghost use Rattle.std.specs.List.{list_all};
 ghost use Rattle.std.specs.List.Sorted.{IsStrictlySortedBy};
 ghost use Rattle.cargo_toml.specs.Dependencies.{dependency_meaning};
 ghost use Rattle.cargo_toml.specs.Manifests.{held};
-ghost use Rattle.cargo_toml.specs.Reach.{Among};
 ghost use Rattle.cargo_toml_dependencies.specs.Replacing.{entries_meaning};
 ghost use Rattle.cargo_toml_tools.specs.Checked.{own_by_kind};
 ghost use Rattle.cargo_toml_tools.specs.Indexed.{all_by_kind};
 ghost use Rattle.cargo_toml_tools.specs.Noted.{GainsUses, asked_by, asked_in, asked_in_all};
 ghost use Rattle.cargo_toml_tools.specs.Noted.{asking_of, askings_of};
-ghost use Rattle.cargo_toml_tools.specs.Oddities.{AreReported, GainsOnly};
+ghost use Rattle.cargo_toml_tools.specs.Oddities.{Finds};
 ghost use Rattle.cargo_toml_tools.specs.Overall.{asking_cmp, has_same_requirement};
-ghost use Rattle.cargo_toml_tools.specs.Overall.{requirement_words, several_among, several_of};
-ghost use Rattle.cargo_toml_tools.specs.Overall.{several_words};
+ghost use Rattle.cargo_toml_tools.specs.Overall.{several_among, several_of};
 
 use super::{Code, Finding, Use};
+use crate::members::seen_from;
 use crate::requirement::required_version;
 use crate::tables::Tables;
 use cargo_toml::{Dependency, DepsSet, Manifest};
@@ -113,19 +112,17 @@ struct Lent<'a>(&'a Use);
 /// Adds the crates that are asked for by several requirements. What asks for one crate stands
 /// together, and in it what asks by one requirement.
 pub fn add_requirements(
-    alloc: Global,
+    root: &str,
     uses: &BTreeSet<Use>,
-    findings: &mut BTreeSet<Finding>,
+    findings: &mut Vec<Finding>,
 ) -> Result<(), AllocError>
-    ensures findings { GainsOnly (Among (several_among (askings_of uses.now)))
-        findings.old findings.new }
     ensures found { OnOk result
-        (AreReported findings.new (several_among (askings_of uses.now))) }
+        (Finds (several_among (askings_of uses.now)) findings.old findings.new) }
     ensures ordered { OnOk result (IsStrictlySortedBy asking_cmp (askings_of uses.now)) }
 {
-    let uses = in_order(alloc, uses)?;
+    let uses = in_order(*findings.allocator(), uses)?;
     for own in uses.chunk_by(|a, b| a.0.name == b.0.name) {
-        add_crate(alloc, own, findings)?;
+        add_crate(root, own, findings)?;
     }
     Ok(())
 }
@@ -144,15 +141,9 @@ fn in_order(alloc: Global, uses: &BTreeSet<Use>) -> Result<Vec<Lent<'_>>, AllocE
 }
 
 /// Adds a crate where it is asked for by several requirements, by all that asks for it.
-fn add_crate(
-    alloc: Global,
-    uses: &[Lent<'_>],
-    findings: &mut BTreeSet<Finding>,
-) -> Result<(), AllocError>
-    ensures findings { GainsOnly (Among (several_of (map (λ u. asking_of u.0.now) uses.now)))
-        findings.old findings.new }
-    ensures found { OnOk result
-        (AreReported findings.new (several_of (map (λ u. asking_of u.0.now) uses.now))) }
+fn add_crate(root: &str, uses: &[Lent<'_>], findings: &mut Vec<Finding>) -> Result<(), AllocError>
+    ensures { OnOk result (Finds (several_of (map (λ u. asking_of u.0.now) uses.now))
+        findings.old findings.new) }
 {
     let Some((first, others)) = uses.split_first() else {
         return Ok(());
@@ -160,9 +151,10 @@ fn add_crate(
     if is_single(first.0, others) {
         return Ok(());
     }
-    let words = several_words(alloc, uses)?;
+    let alloc = *findings.allocator();
+    let words = several_words(alloc, root, uses)?;
     let subject = String::from_str(alloc, first.0.name.as_str())?;
-    findings.insert(Finding {
+    findings.push(Finding {
         code: Code::SeveralRequirements,
         subject,
         words,
@@ -181,37 +173,32 @@ fn is_single(first: &Use, others: &[Lent<'_>]) -> bool
 }
 
 /// The requirements by which a crate is asked for, each with the folders.
-fn several_words(alloc: Global, uses: &[Lent<'_>]) -> Result<String, AllocError>
-    ensures { IfOk result (λ words. string_bytes words
-        ≡ several_words (map (λ u. asking_of u.0.now) uses.now)) }
-{
+fn several_words(alloc: Global, root: &str, uses: &[Lent<'_>]) -> Result<String, AllocError> {
     let mut words = String::new(alloc);
     let mut all = uses.chunk_by(|a, b| a.0.requirement == b.0.requirement);
     let Some(first) = all.next() else {
         return Ok(words);
     };
-    push_requirement(&mut words, first)?;
+    push_requirement(&mut words, root, first)?;
     for own in all {
         words.push_str("; ")?;
-        push_requirement(&mut words, own)?;
+        push_requirement(&mut words, root, own)?;
     }
     Ok(words)
 }
 
 /// Writes a requirement, and the folders of what asks by it.
-fn push_requirement(words: &mut String, uses: &[Lent<'_>]) -> Result<(), AllocError>
-    ensures { OnOk result (string_bytes words.new ≡ string_bytes words.old
-        ++ requirement_words (map (λ u. asking_of u.0.now) uses.now)) }
-{
+fn push_requirement(words: &mut String, root: &str, uses: &[Lent<'_>]) -> Result<(), AllocError> {
+    let alloc = *words.allocator();
     let Some((first, others)) = uses.split_first() else {
         return Ok(());
     };
     words.push_str(first.0.requirement.as_str())?;
     words.push_str(" in ")?;
-    words.push_str(first.0.folder.as_str())?;
+    words.push_str(seen_from(alloc, root, first.0.folder.as_str())?.as_str())?;
     for other in others {
         words.push_str(", ")?;
-        words.push_str(other.0.folder.as_str())?;
+        words.push_str(seen_from(alloc, root, other.0.folder.as_str())?.as_str())?;
     }
     Ok(())
 }

@@ -1,7 +1,7 @@
 //! The graph of features, in Graphviz's language.
 
 use super::listing::is_private;
-use crate::escape::{Format, push_escaped};
+use crate::escape::{Format, comma_before, push_escaped};
 use cargo_toml::Manifest;
 use cargo_toml::features::{DepAction, Feature, Features};
 use cargo_toml_lint::Links;
@@ -116,12 +116,8 @@ fn push_dependency_edges(graph: &mut String, feature: &Feature<'_>) -> Result<()
 /// What an action asks for, and whether it is conditional.
 fn push_action(graph: &mut String, action: &DepAction<'_>) -> Result<(), AllocError> {
     graph.push_str(" [label=\"")?;
-    let mut is_first = true;
-    for feature in &action.dep_features {
-        if !is_first {
-            graph.push_str(", ")?;
-        }
-        is_first = false;
+    for (i, feature) in action.dep_features.iter().enumerate() {
+        graph.push_str(comma_before(i))?;
         push_escaped(graph, *feature, Format::Dot)?;
     }
     graph.push_str("\"")?;

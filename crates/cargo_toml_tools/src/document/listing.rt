@@ -36,6 +36,20 @@ pub struct Row<'m> {
     pub turns_on: Reached<'m>,
 }
 
+/// What is made of the rows of a manifest.
+pub trait TakesRows {
+    ghost use Rattle.std.specs.Prelude.{List, OnOk};
+    ghost use Rattle.cargo_toml_tools.specs.declared.document.listing.Row.{Row};
+
+    /// Before and after it took these rows.
+    ghost took: { Self → List Row → Self → Type 0 };
+
+    /// Takes them all, in their order, and the name of the package. The one refusal is want of
+    /// memory.
+    fn take(&mut self, name: Option<&str>, rows: &[Row<'_>]) -> Result<(), AllocError>
+        ensures { OnOk result (took self.old rows.now self.new) };
+}
+
 /// The rows of all features that are told of, in byte order of their names.
 pub fn rows<'m, M, S: BuildHasher>(
     alloc: Global,
@@ -68,7 +82,7 @@ fn row_of<'m, S: BuildHasher>(
     defaults: &BTreeSet<&str>,
 ) -> Result<Row<'m>, AllocError>
     requires { AreFound links.now }
-    ensures { IfOk result (λ row. IsKeyed features.now → (t : Table) → AreLinks t links.now
+    ensures { IfOk result (λ row. (t : Table) → AreLinks t links.now
         → ((x : Text) → IsTrue (set_has defaults.now x)
         ↔ IsOn t features.now (codes "default") x)
         → IsRowOf t features.now row feature.now) }

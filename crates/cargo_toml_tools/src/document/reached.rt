@@ -1,19 +1,17 @@
 //! What a feature turns on, by any number of steps.
-ghost use Rattle.std.specs.Prelude.{◌≡◌, ◌&&◌, ◌||◌, IfOk, None, OnOk, Some, bytes_eq};
-ghost use Rattle.std.specs.Prelude.{if◌then◌else◌};
-ghost use Rattle.cargo_toml.specs.Action.{Text, join, join_option};
+ghost use Rattle.std.specs.Prelude.{◌≡◌, ◌&&◌, IfOk, IsTrue};
+ghost use Rattle.cargo_toml.specs.Action.{IsJoin, Text};
 ghost use Rattle.cargo_toml.specs.Graph.{Table};
-ghost use Rattle.cargo_toml.specs.Reached.{IsKeyed};
-ghost use Rattle.cargo_toml.specs.Views.{action_at, action_of, set_has};
+ghost use Rattle.cargo_toml.specs.Views.{action_at, set_has};
 ghost use Rattle.cargo_toml_lint.specs.Linked.{AreFound, AreLinks};
-ghost use Rattle.cargo_toml_tools.specs.Documented.{IsReachedFrom, is_told_beside};
+ghost use Rattle.cargo_toml_tools.specs.Documented.{ActsOf, IsReachedFrom, is_beside};
 
 use super::listing::{FeatureMap, is_private};
 use cargo_toml::features::{DepAction, Feature};
-use cargo_toml_features::action::neutral_action;
 use cargo_toml_lint::Links;
+use cargo_toml_resolve::joining::add_actions;
 use std::alloc::{AllocError, Global};
-use std::collections::{BTreeMap, BTreeSet};
+use std::collections::{BTreeMap, BTreeSet, HashMap};
 use std::hash::BuildHasher;
 
 /// What a feature turns on.
@@ -33,83 +31,59 @@ pub(crate) fn reach<'m, S: BuildHasher>(
     name: &str,
 ) -> Result<Reached<'m>, AllocError>
     requires { AreFound links.now }
-    ensures { IfOk result (λ r. IsKeyed features.now → (t : Table) → AreLinks t links.now
+    ensures { IfOk result (λ r. (t : Table) → AreLinks t links.now
         → IsReachedFrom t features.now name.now r) }
 {
-    let mut others = BTreeSet::new(alloc);
-    let mut actions = BTreeMap::new(alloc);
-    let names = links.turned_on(alloc, name)?;
-    for other in &names {
-        if let Some(feature) = features.get(*other) {
-            add_other(&mut others, feature, name)?;
-            join_actions(alloc, &mut actions, feature)?;
-        }
-    }
+    let mut names = links.turned_on(alloc, name)?;
+    let actions = actions_of(alloc, features, &names)?;
+    keep_told(&mut names, features, name);
     Ok(Reached {
-        features: others,
+        features: names,
         actions,
     })
 }
 
-/// Adds a feature that is another, unless it is private.
-fn add_other<'m>(
-    others: &mut BTreeSet<&'m str>,
-    feature: &Feature<'m>,
+/// What the features of these names do to dependencies, joined.
+fn actions_of<'m, S: BuildHasher>(
+    alloc: Global,
+    features: &FeatureMap<'m, S>,
+    names: &BTreeSet<&'m str>,
+) -> Result<BTreeMap<&'m str, DepAction<'m>>, AllocError>
+    ensures { IfOk result (λ actions. (k : Text)
+        → IsJoin (ActsOf features.now (λ g. IsTrue (set_has names.now g)) k)
+        (action_at actions k)) }
+{
+    let mut actions = BTreeMap::new(alloc);
+    for name in names {
+        if let Some(feature) = features.get(*name) {
+            add_actions(alloc, &mut actions, &feature.enables_deps)?;
+        }
+    }
+    Ok(actions)
+}
+
+/// Leaves those that are told of beside the feature of this name.
+fn keep_told<'a, 'm, S: BuildHasher>(
+    names: &mut BTreeSet<&'m str>,
+    features: &'a FeatureMap<'m, S>,
+    name: &'a str,
+)
+    ensures { (x : Text) → set_has names.new x
+        ≡ (set_has names.old x && is_beside features.now name.now x) }
+{
+    names.retain(|other| is_beside(features, name, *other));
+}
+
+/// Whether the last is another feature, and isn't private.
+fn is_beside<S: BuildHasher>(
+    features: &HashMap<&str, Feature<'_>, S>,
     name: &str,
-) -> Result<(), AllocError>
-    ensures { OnOk result ((x : Text) → set_has others.new x ≡ (set_has others.old x
-        || (bytes_eq x feature.now.key.now && is_told_beside name.now feature.now))) }
+    other: &str,
+) -> bool
+    ensures { result ≡ is_beside features.now name.now other.now }
 {
-    if feature.key != name && !is_private(feature) {
-        others.insert(feature.key)?;
+    match features.get(other) {
+        Some(feature) => feature.key != name && !is_private(feature),
+        None => false,
     }
-    Ok(())
-}
-
-/// Joins the actions of a feature into what is done to dependencies.
-fn join_actions<'m>(
-    alloc: Global,
-    actions: &mut BTreeMap<&'m str, DepAction<'m>>,
-    feature: &Feature<'m>,
-) -> Result<(), AllocError>
-    ensures { OnOk result ((k : Text) → action_at actions.new k
-        ≡ join_option (action_at actions.old k) (action_at feature.now.enables_deps k)) }
-{
-    for (key, action) in &feature.enables_deps {
-        join(alloc, actions, *key, action)?;
-    }
-    Ok(())
-}
-
-/// Joins an action into what is done to its dependency. Two are conditional only where both are.
-fn join<'m>(
-    alloc: Global,
-    actions: &mut BTreeMap<&'m str, DepAction<'m>>,
-    key: &'m str,
-    action: &DepAction<'m>,
-) -> Result<(), AllocError>
-    ensures { OnOk result ((k : Text) → action_at actions.new k
-        ≡ join_option (action_at actions.old k)
-        (if bytes_eq k key.now then Some (action_of action.now) else None)) }
-{
-    let first = neutral_action(alloc);
-    join_into(actions.entry(key)?.or_insert(first), action)?;
-    Ok(())
-}
-
-fn join_into<'m>(joined: &mut DepAction<'m>, action: &DepAction<'m>) -> Result<(), AllocError>
-    ensures { OnOk result
-        (action_of joined.new ≡ join (action_of joined.old) (action_of action.now)) }
-{
-    add_texts(&mut joined.dep_features, &action.dep_features)?;
-    joined.is_conditional &= action.is_conditional;
-    joined.is_dep_only |= action.is_dep_only;
-    Ok(())
-}
-
-fn add_texts<'m>(set: &mut BTreeSet<&'m str>, texts: &BTreeSet<&'m str>) -> Result<(), AllocError>
-    ensures { OnOk result ((x : Text) → set_has set.new x
-        ≡ (set_has set.old x || set_has texts.now x)) }
-{
-    set.extend(texts.iter().copied())
 }

@@ -1,112 +1,234 @@
-//! Which dependencies an index takes.
-ghost use Rattle.std.specs.Prelude.{◌≡◌, IfErr, IsTrue, OnOk, option_map, string_bytes};
-ghost use Rattle.std.specs.List.{list_all, list_any};
+//! What an index refuses.
+ghost use Rattle.std.specs.Prelude.{◌≡◌, bytes_eq, map, option_map, string_bytes};
+ghost use Rattle.std.specs.List.{list_any};
+ghost use Rattle.semver.specs.Identifiers.{parts_of};
+ghost use Rattle.toml.specs.View.{table_view, view};
 ghost use Rattle.cargo_toml.specs.Dependencies.{dependency_meaning};
+ghost use Rattle.cargo_toml.specs.Inheritable.TheVariants.{Set};
 ghost use Rattle.cargo_toml.specs.InheritedDependencies.{is_left};
-ghost use Rattle.cargo_toml.specs.Targets.{target_meaning};
-ghost use Rattle.cargo_toml_dependencies.specs.Replacing.{entries_meaning, targets_meaning};
-ghost use Rattle.cargo_toml_tools.specs.Checked.{all_tables, own_by_kind};
-ghost use Rattle.cargo_toml_tools.specs.Indexed.{IsFor, are_taken, is_dev, is_other};
-ghost use Rattle.cargo_toml_tools.specs.Indexed.{is_taken, is_told, lacks_address, lacks_version};
-ghost use Rattle.cargo_toml_tools.specs.Indexed.{target_by_kind, tells};
+ghost use Rattle.cargo_toml.specs.InheritedPackages.{is_left_there};
+ghost use Rattle.cargo_toml.specs.Inherits.{inheritable_map};
+ghost use Rattle.cargo_toml.specs.Manifests.{is_zero};
+ghost use Rattle.cargo_toml.specs.Packages.{held_package};
+ghost use Rattle.cargo_toml.specs.Reads.{map_meaning};
+ghost use Rattle.cargo_toml.specs.Settings.{publish_meaning};
+ghost use Rattle.cargo_toml_tools.specs.Indexed.{choice_refusal, entry_refusal};
+ghost use Rattle.cargo_toml_tools.specs.Indexed.{finding_refusal, first_refusal};
+ghost use Rattle.cargo_toml_tools.specs.Indexed.{has_other_flag, is_dev, is_error, is_named};
+ghost use Rattle.cargo_toml_tools.specs.Indexed.{in_package, is_open, is_published};
+ghost use Rattle.cargo_toml_tools.specs.Indexed.{keeps_other_flag, lacks_version};
+ghost use Rattle.cargo_toml_tools.specs.Indexed.{other_name, package_refusal, publish_refusal};
+ghost use Rattle.cargo_toml_tools.specs.Indexed.{refuse_if, table_refusal, version_refusal};
+ghost use Rattle.cargo_toml_tools.specs.Sections.{names_of, refused, table_of, wanted_of};
 
-use super::IndexError;
-use crate::tables::Tables;
+use super::Options;
+use super::registries::{Named, address_named, source_of};
+use super::sections::{Section, table_in};
 use cargo_toml::features::Kind;
-use cargo_toml::{Dependency, DepsSet, Target, TargetDepsSet};
-use std::alloc::Global;
+use cargo_toml::{Dependency, Inheritable, Package, Publish, SemVer};
+use cargo_toml_lint::{Finding, Level};
+use cargo_toml_parts::read::member;
+use std::collections::BTreeMap;
+use toml::{Table, Value};
 
-/// All dependencies of a crate: those of its own tables, and those of targets.
+/// What an index doesn't take.
+#[derive(Debug, Clone, Copy, PartialEq, Eq)]
+pub enum Fault {
+    /// The manifest has no package.
+    NoPackage,
+    /// The package states no version.
+    NoVersion,
+    /// What has this key is left to the workspace: the manifest isn't completed.
+    Incomplete,
+    /// The table of this name, which has `_` for `-`, isn't read.
+    OtherTable,
+    /// The dependency of this key has `default_features`, which isn't read.
+    OtherFlag,
+    /// The dependency of this key has a path or a repository, and no version.
+    NoRequirement,
+    /// The dependency of this key names its registry, and the address of that registry's index
+    /// isn't known.
+    NoAddress,
+    /// The package isn't published in the registry.
+    NotPublished,
+    /// Lint finds an error of this feature.
+    Features,
+}
+
+/// A fault, and the key or the name that has it.
 #[derive(Clone, Copy)]
-pub(super) struct AllTables<'a> {
-    pub own: Tables<'a>,
-    pub targets: &'a TargetDepsSet,
+pub(super) struct Refusal<'a> {
+    pub fault: Fault,
+    pub subject: &'a str,
 }
 
-/// Refuses dependencies that no index takes: first those of the package's own tables, then those of
-/// targets.
-pub(super) fn check_dependencies(
-    alloc: Global,
-    dependencies: AllTables<'_>,
-) -> Result<(), IndexError>
-    ensures taken { OnOk result (IsTrue (are_taken (all_tables dependencies.entry))) }
-    ensures refused { IfErr result
-        (λ e. IsFor e (is_told e (all_tables dependencies.entry))) }
+fn refuse_if<'a>(is_refused: bool, fault: Fault, subject: &'a str) -> Option<Refusal<'a>>
+    ensures { option_map refused result ≡ refuse_if is_refused fault subject.now }
 {
-    check_tables(alloc, dependencies.own)?;
-    check_targets(alloc, dependencies.targets)?;
-    Ok(())
-}
-
-fn check_targets(alloc: Global, targets: &TargetDepsSet) -> Result<(), IndexError>
-    ensures taken { OnOk result
-        (IsTrue (list_all (λ t. are_taken (target_by_kind t.1)) (targets_meaning targets.now))) }
-    ensures refused { IfErr result (λ e. IsFor e
-        (list_any (λ t. is_told e (target_by_kind t.1)) (targets_meaning targets.now))) }
-{
-    for (_, target) in targets {
-        check_target(alloc, target)?;
+    if is_refused {
+        Some(Refusal { fault, subject })
+    } else {
+        None
     }
-    Ok(())
 }
 
-fn check_target(alloc: Global, target: &Target) -> Result<(), IndexError>
-    ensures taken { OnOk result (IsTrue (are_taken (target_by_kind (target_meaning target.now)))) }
-    ensures refused { IfErr result
-        (λ e. IsFor e (is_told e (target_by_kind (target_meaning target.now)))) }
+/// The first refusal of a package, which was read from this document, and of its tables of
+/// dependencies. `findings` is what lint finds of its features.
+pub(super) fn package_refusal<'a, M>(
+    package: &'a Package<M>,
+    document: &'a Table,
+    sections: &'a [Section<'a>],
+    findings: &'a [Finding<'a>],
+    options: Options<'a>,
+) -> Option<Refusal<'a>>
+    ensures { option_map refused result ≡ package_refusal (wanted_of options.entry)
+        findings.now (table_view document.now) (map table_of sections.now)
+        (held_package «package».now) }
 {
-    let tables = Tables {
-        normal: &target.dependencies,
-        dev: &target.dev_dependencies,
-        build: &target.build_dependencies,
-    };
-    check_tables(alloc, tables)
+    let rust_version = refuse_if(
+        is_left_there(&package.rust_version),
+        Fault::Incomplete,
+        "rust-version",
+    );
+    version_refusal(&package.version, document)
+        .or(tables_refusal(options.names, sections))
+        .or(rust_version)
+        .or(choice_refusal(package, document, findings, options))
 }
 
-fn check_tables(alloc: Global, tables: Tables<'_>) -> Result<(), IndexError>
-    ensures taken { OnOk result (IsTrue (are_taken (own_by_kind tables.entry))) }
-    ensures refused { IfErr result (λ e. IsFor e (is_told e (own_by_kind tables.entry))) }
+/// The refusal of what a caller may want all the same.
+fn choice_refusal<'a, M>(
+    package: &'a Package<M>,
+    document: &Table,
+    findings: &'a [Finding<'a>],
+    options: Options<'a>,
+) -> Option<Refusal<'a>>
+    ensures { option_map refused result ≡ choice_refusal (wanted_of options.entry)
+        findings.now (table_view document.now) (held_package «package».now) }
 {
-    check_table(alloc, tables.normal, Kind::Normal)?;
-    check_table(alloc, tables.dev, Kind::Dev)?;
-    check_table(alloc, tables.build, Kind::Build)?;
-    Ok(())
-}
-
-fn check_table(alloc: Global, table: &DepsSet, kind: Kind) -> Result<(), IndexError>
-    ensures taken { OnOk result
-        (IsTrue (list_all (λ e. is_taken kind e.1) (entries_meaning table.now))) }
-    ensures refused { IfErr result
-        (λ e. IsFor e (list_any (tells e kind) (entries_meaning table.now))) }
-{
-    for (key, dependency) in table {
-        check(alloc, key.as_str(), dependency, kind)?;
+    if options.force {
+        return None;
     }
-    Ok(())
+    publish_refusal(options, document, &package.publish).or(features_refusal(findings))
 }
 
-/// Refuses a dependency that no index takes. One with a path or a repository and no version is
-/// refused, unless it is a dev-dependency.
-fn check(alloc: Global, key: &str, dependency: &Dependency, kind: Kind) -> Result<(), IndexError>
-    ensures taken { OnOk result (IsTrue (is_taken kind (dependency_meaning dependency.now))) }
-    ensures refused { IfErr result
-        (λ e. IsFor e (tells e kind (key.now, dependency_meaning dependency.now))) }
+/// A manifest without a version reads as of version 0.0.0.
+fn version_refusal(version: &Inheritable<SemVer>, document: &Table) -> Option<Refusal<'static>>
+    ensures { option_map refused result ≡ version_refusal (table_view document.now)
+        (inheritable_map parts_of version.now) }
+{
+    match version {
+        Inheritable::Set(version) => refuse_if(
+            is_zero(version) && in_package(document, "version").is_none(),
+            Fault::NoVersion,
+            "",
+        ),
+        Inheritable::Inherited => refuse_if(true, Fault::Incomplete, "version"),
+    }
+}
+
+/// Whether the version is 0.0.0, with nothing behind it.
+fn is_zero(version: &SemVer) -> bool
+    ensures { result ≡ is_zero (Set (parts_of version.now)) }
+{
+    version.major == 0
+        && version.minor == 0
+        && version.patch == 0
+        && version.pre.is_empty()
+        && version.build.is_empty()
+}
+
+/// What the table `package` has under a key.
+fn in_package<'a>(document: &'a Table, key: &str) -> Option<&'a Value>
+    ensures { option_map (λ v. view v.now) result ≡ in_package key.now (table_view document.now) }
+{
+    match table_in(document, "package") {
+        Some(package) => member(package, key),
+        None => None,
+    }
+}
+
+/// What a package may leave to the workspace.
+fn is_left_there(text: &Option<Inheritable<String>>) -> bool
+    ensures { result ≡ is_left_there (option_map (inheritable_map string_bytes) text.now) }
+{
+    matches!(text, Some(Inheritable::Inherited))
+}
+
+/// The first refusal of these tables.
+fn tables_refusal<'a>(names: &'a [Named<'a>], sections: &'a [Section<'a>]) -> Option<Refusal<'a>>
+    ensures { option_map refused result
+        ≡ first_refusal (table_refusal (names_of names.now)) (map table_of sections.now) }
+{
+    for section in sections {
+        let found = table_refusal(names, section);
+        if found.is_some() {
+            return found;
+        }
+    }
+    None
+}
+
+fn table_refusal<'a>(names: &'a [Named<'a>], section: &'a Section<'a>) -> Option<Refusal<'a>>
+    ensures { option_map refused result
+        ≡ table_refusal (names_of names.now) (table_of section.now) }
+{
+    let name = other_name(section.kind);
+    refuse_if(section.has_other_name, Fault::OtherTable, name).or(entries_refusal(names, section))
+}
+
+/// The name of a table with `_` in it.
+fn other_name(kind: Kind) -> &'static str
+    ensures { result.now ≡ other_name kind }
+{
+    match kind {
+        Kind::Normal => "dependencies",
+        Kind::Dev => "dev_dependencies",
+        Kind::Build => "build_dependencies",
+    }
+}
+
+/// The first refusal of the dependencies of a table.
+fn entries_refusal<'a>(names: &'a [Named<'a>], section: &'a Section<'a>) -> Option<Refusal<'a>>
+    ensures { option_map refused result
+        ≡ first_refusal (entry_refusal (names_of names.now) (table_of section.now))
+        (table_of section.now).entries }
+{
+    for (key, dependency) in section.entries {
+        let found = entry_refusal(names, section, key.as_str(), dependency);
+        if found.is_some() {
+            return found;
+        }
+    }
+    None
+}
+
+/// The refusal of a dependency. One with a path or a repository and no version is refused, unless
+/// it is a dev-dependency.
+fn entry_refusal<'a>(
+    names: &'a [Named<'a>],
+    section: &Section<'a>,
+    key: &'a str,
+    dependency: &'a Dependency,
+) -> Option<Refusal<'a>>
+    ensures { option_map refused result
+        ≡ entry_refusal (names_of names.now) (table_of section.now)
+        (key.now, dependency_meaning dependency.now) }
 {
     if is_left(dependency) {
-        return Err(IndexError::Incomplete);
+        return refuse_if(true, Fault::Incomplete, key);
+    }
+    if has_other_flag(section, key, dependency) {
+        return refuse_if(true, Fault::OtherFlag, key);
     }
     if lacks_version(dependency) {
-        if is_dev(kind) {
-            return Ok(());
-        }
-        let key = String::from_str(alloc, key)?;
-        return Err(IndexError::NoRequirement(key));
+        return refuse_if(!is_dev(section.kind), Fault::NoRequirement, key);
     }
-    if lacks_address(dependency) {
-        let key = String::from_str(alloc, key)?;
-        return Err(IndexError::NoAddress(key));
-    }
-    Ok(())
+    refuse_if(
+        source_of(names, dependency).is_none(),
+        Fault::NoAddress,
+        key,
+    )
 }
 
 /// Whether a dependency is left to the workspace.
@@ -114,6 +236,29 @@ fn is_left(dependency: &Dependency) -> bool
     ensures { result ≡ is_left (dependency_meaning dependency.now) }
 {
     matches!(dependency, Dependency::Inherited(_))
+}
+
+/// Whether the entry of a dependency has `default_features`, or what it inherits has it.
+fn has_other_flag(section: &Section<'_>, key: &str, dependency: &Dependency) -> bool
+    ensures { result ≡ has_other_flag (table_of section.now).written
+        (key.now, dependency_meaning dependency.now) }
+{
+    section.flag(key, "default_features").is_some() || keeps_other_flag(dependency)
+}
+
+fn keeps_other_flag(dependency: &Dependency) -> bool
+    ensures { result ≡ keeps_other_flag (dependency_meaning dependency.now) }
+{
+    match dependency {
+        Dependency::Detailed(detail) => has_key(&detail.unstable, "default_features"),
+        _ => false,
+    }
+}
+
+fn has_key(values: &BTreeMap<String, Value>, key: &str) -> bool
+    ensures { result ≡ list_any (λ e. bytes_eq key.now e.0) (map_meaning view values.now) }
+{
+    values.contains_key(key)
 }
 
 /// Whether a dependency has a path or a repository, and no version.
@@ -128,29 +273,78 @@ pub(super) fn lacks_version(dependency: &Dependency) -> bool
     }
 }
 
-/// Whether a dependency names its registry alone, which isn't that of crates.io.
-fn lacks_address(dependency: &Dependency) -> bool
-    ensures { result ≡ lacks_address (dependency_meaning dependency.now) }
-{
-    match dependency {
-        Dependency::Detailed(detail) => detail.registry_index.is_none()
-            && is_other(&detail.registry),
-        _ => false,
-    }
-}
-
-/// Whether the name of a registry is there, and not that of crates.io.
-fn is_other(registry: &Option<String>) -> bool
-    ensures { result ≡ is_other (option_map string_bytes registry.now) }
-{
-    match registry {
-        Some(name) => name.as_str() != "crates-io",
-        None => false,
-    }
-}
-
 fn is_dev(kind: Kind) -> bool
     ensures { result ≡ is_dev kind }
 {
     matches!(kind, Kind::Dev)
+}
+
+/// The refusal of a package that isn't published in the registry.
+fn publish_refusal(
+    options: Options<'_>,
+    document: &Table,
+    publish: &Inheritable<Publish>,
+) -> Option<Refusal<'static>>
+    ensures { option_map refused result ≡ publish_refusal (wanted_of options.entry)
+        (table_view document.now) (inheritable_map publish_meaning publish.now) }
+{
+    match publish {
+        Inheritable::Set(publish) => {
+            let is_published = is_published(options, document, publish);
+            refuse_if(!is_published, Fault::NotPublished, "")
+        }
+        Inheritable::Inherited => refuse_if(true, Fault::Incomplete, "publish"),
+    }
+}
+
+fn is_published(options: Options<'_>, document: &Table, publish: &Publish) -> bool
+    ensures { result ≡ is_published (wanted_of options.entry) (table_view document.now)
+        (publish_meaning publish.now) }
+{
+    match publish {
+        Publish::Flag(everywhere) => *everywhere || is_open(document),
+        Publish::Registry(names) => names_registry(options, names.as_slice()),
+    }
+}
+
+/// Whether nothing is written of publishing, or that it is wanted. A package of version 0.0.0 reads
+/// as not published all the same.
+fn is_open(document: &Table) -> bool
+    ensures { result ≡ is_open (table_view document.now) }
+{
+    match in_package(document, "publish") {
+        Some(flag) => flag.as_bool().unwrap_or(false),
+        None => true,
+    }
+}
+
+/// Whether one of these names is that of the registry.
+fn names_registry(options: Options<'_>, names: &[String]) -> bool
+    ensures { result ≡ list_any (is_named options.entry.registry.now
+        (names_of options.entry.names.now)) (map string_bytes names.now) }
+{
+    for name in names {
+        if address_named(options.names, name.as_str()) == Some(options.registry) {
+            return true;
+        }
+    }
+    false
+}
+
+/// The first error of features.
+fn features_refusal<'a>(findings: &'a [Finding<'a>]) -> Option<Refusal<'a>>
+    ensures { option_map refused result ≡ first_refusal finding_refusal findings.now }
+{
+    for finding in findings {
+        if is_error(finding.code.level()) {
+            return refuse_if(true, Fault::Features, finding.feature);
+        }
+    }
+    None
+}
+
+fn is_error(level: Level) -> bool
+    ensures { result ≡ is_error level }
+{
+    matches!(level, Level::Error)
 }

@@ -6,7 +6,7 @@ use Rattle.cargo_toml.specs.Action.{Text}
 use Rattle.cargo_toml.specs.Dependencies.{DependencyMeaning, dependency_meaning}
 use Rattle.cargo_toml_tools.proofs.Exactly.{gains_key, gains_these}
 use Rattle.cargo_toml_tools.proofs.Left.{one_inherited}
-use Rattle.cargo_toml_tools.proofs.Listed.{cond_or}
+use Rattle.cargo_toml_tools.proofs.Kept.{cond_or}
 use Rattle.cargo_toml_tools.proofs.audit.inherited.add_dependency.Goals as goal
 
 pub returns-clause-all : goal.returns-clause-all

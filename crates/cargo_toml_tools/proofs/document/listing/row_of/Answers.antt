@@ -2,7 +2,7 @@ use Rattle.std.proofs.Common.{refl, sym, ◌∙◌}
 use Rattle.cargo_toml_tools.proofs.document.listing.row_of.Goals as goal
 
 pub returns : goal.returns
-returns g c = λ keyed t are told. record {
+returns g c = λ t are told. record {
   name = refl;
   is_listed = refl;
   doc = refl;
@@ -10,5 +10,5 @@ returns g c = λ keyed t are told. record {
     λ h. (told c.args.feature.now.key.now).0 (sym c.contains.ensures ∙ h),
     λ on. c.contains.ensures ∙ (told c.args.feature.now.key.now).1 on,
   );
-  reached = c.in_ok-turns_on.ensures keyed t are;
+  reached = c.in_ok-turns_on.ensures t are;
 }

@@ -31,7 +31,7 @@ loop-name-preserved-in_ok-push g c = λ keyed.
     let row = c.in_ok-row_of.field-0 in
     let at = sym c.get.ensures.value ∙ ap option_copied c.in-Some-get.is in
     let key = key_of m keyed _ _ at in
-    let tells = c.in_ok-row_of.ensures keyed t c.in_ok-links.ensures (c.in_ok-defaults.ensures t c.in_ok-links.ensures) in
+    let tells = c.in_ok-row_of.ensures t c.in_ok-links.ensures (c.in_ok-defaults.ensures t c.in_ok-links.ensures) in
     rowed_one t has m _ c.in-Some.name.now _ _
     (rest_more deref _ _ _ c.in-Some.name c.in-Some.is c.next.ensures.steps) row c.loop-name.rows.items c.push.new.self.items
     c.in_ok-push.ensures.items (tells.name ∙ key)

@@ -5,6 +5,7 @@ use Rattle.serde_json.specs.View.{members_view}
 use Rattle.cargo_toml.specs.Dependencies.{dependency_meaning, is_optional}
 use Rattle.cargo_toml_tools.specs.IndexEntries.{asked_features, has_default, req_text, required_version}
 use Rattle.cargo_toml_tools.specs.IndexRows.{text_array}
+use Rattle.cargo_toml_tools.specs.Sections.{table_of}
 use Rattle.cargo_toml_tools.proofs.Asked.{features_asked}
 use Rattle.cargo_toml_tools.proofs.Placed.{in_five, put_same}
 use Rattle.cargo_toml_tools.proofs.index.entry.put_wanted.Goals as goal
@@ -20,7 +21,7 @@ returns c =
     let five = members_view c.put-3.new.map.entries in
     on_ok_weaker c.put-3.result (λ e.
     in_five (codes "name", string key) (codes "req", string (req_text (required_version d))) (codes "features", text_array (asked_features d)) (codes "optional", boolean (is_optional d))
-    (codes "default_features", boolean (has_default d)) (members_view c.args.entry.now.entries) one two three four five
+    (codes "default_features", boolean (has_default (table_of c.args.section.now).written key d)) (members_view c.args.entry.now.entries) one two three four five
     c.in_ok-put_text.ensures
     (put_same (codes "req") _ _ one two c.in_ok-put.ensures.ok (c.from.ensures ∙ ap string c.in_ok-requirement.ensures))
     (put_same (codes "features") _ _ two three c.in_ok-put_texts.ensures (ap text_array (ap (map string_bytes) c.req_features.ensures ∙ features_asked c.args.dependency.now)))

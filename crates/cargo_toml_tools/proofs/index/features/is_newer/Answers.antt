@@ -1,11 +1,14 @@
-use Rattle.std.proofs.Common.{◌||◌, ◌∙◌, ap, codes, false}
-use Rattle.std.proofs.lemmas.Str.Pattern.{contains_text, starts_text}
-use Rattle.cargo_toml_tools.specs.IndexFeatures.{has_part}
-use Rattle.cargo_toml_tools.proofs.Parts.{part_is}
+use Rattle.std.proofs.Common.{sym}
+use Rattle.cargo_toml_lint.proofs.Items.{acting, naming}
+use Rattle.cargo_toml_tools.specs.IndexFeatures.{is_newer}
 use Rattle.cargo_toml_tools.proofs.index.features.is_newer.Goals as goal
 
-pub returns-else-starts_with : goal.returns-else-starts_with
-returns-else-starts_with c =
-    let text = c.args.text.now in
-    part_is c.contains.result (codes "?/") text (contains_text c.contains.result (codes "?/") text c.contains.ensures.cases)
-    ∙ ap (λ b. b || has_part (codes "?/") text) (starts_text false (codes "dep:") text c.if-starts_with.ensures.cases)
+pub returns-then-acts : goal.returns-then-acts
+returns-then-acts c =
+    sym (acting c.args.text.now c.read_action-action.result c.read_action-action.ensures.item is_newer
+    c.acts.result c.acts.ensures c.if-acts.true)
+
+pub returns-else-acts : goal.returns-else-acts
+returns-else-acts c =
+    sym (naming c.args.text.now c.read_action-action.result c.read_action-action.ensures.item is_newer
+    c.acts.result c.acts.ensures c.if-acts.false)

@@ -1,0 +1,125 @@
+#!/usr/bin/env python3
+"""Holds `audit` against Cargo itself, offline, on random workspaces.
+
+    compare/cargo_audit.py [--count N] [--seed N] [--program PROGRAM]
+
+Members and their values have to be those of `cargo metadata --no-deps`, and what Cargo refuses has
+to be a finding, or a refusal. A difference that is meant is of a class that MEANT names; any other
+is a failure, and the status is then 1. The first failures are kept, and printed.
+"""
+
+import argparse
+import collections
+import concurrent.futures
+import json
+import os
+import shutil
+import subprocess
+import sys
+import tempfile
+
+from workspaces import OddWorkspaces
+
+HERE = os.path.dirname(os.path.realpath(__file__))
+KEYS = ["folder", "name", "version", "edition", "license", "rust_version", "publish"]
+# Codes of what Cargo refuses. The others are of what it takes.
+REFUSED = {
+    *("absent", "bad-pattern", "default-member", "features", "incomplete", "no-lints"),
+    *("no-target", "not-inherited", "optional-shared", "other-workspace", "outside", "same-name"),
+    *("two-workspaces", "unlisted", "workspace-within"),
+}
+MEANT = {
+    "manifest": "Cargo refuses of one manifest what `audit` isn't about, as two sources of one key",
+    "no workspace": "Cargo takes a package alone, where `audit` refuses a folder without a workspace",
+}
+# What Cargo says where a refusal is of the class `manifest`.
+OTHERS = ("different source paths", "invalid character", "failed to parse the version")
+
+
+class Judge:
+    """Cargo in a folder of its own, which has no network."""
+
+    def __init__(self, folder):
+        self.env = os.environ | {"CARGO_HOME": f"{folder}/home", "CARGO_NET_OFFLINE": "true"}
+
+    def metadata(self, folder):
+        """What Cargo knows of the package in a folder, or why it refuses that."""
+        words = ["cargo", "metadata", "--no-deps", "--offline", "--format-version", "1"]
+        words += ["--manifest-path", f"{folder}/Cargo.toml"]
+        done = subprocess.run(words, env=self.env, capture_output=True, text=True, check=False)
+        return (json.loads(done.stdout), "") if done.returncode == 0 else (None, done.stderr)
+
+
+def of_package(package, root):
+    publish = package["publish"]
+    if publish is not None:
+        publish = ", ".join(publish) or "no"
+    folder = os.path.relpath(os.path.dirname(package["manifest_path"]), root)
+    values = {key: package[key] for key in KEYS if key not in ("folder", "publish")}
+    return values | {"folder": folder, "publish": publish or "yes"}
+
+
+def by_folder(one):
+    return one["folder"]
+
+
+def difference(judge, program, folder):
+    """What differs of the workspace around a folder: nothing, the name of a class, or words."""
+    known, why = judge.metadata(folder)
+    done = subprocess.run(
+        [*program, "audit", "--json", folder], capture_output=True, text=True, check=False
+    )
+    if done.returncode not in (0, 1, 3) or (done.returncode == 1) == bool(done.stdout):
+        return f"status {done.returncode}: {done.stderr}"
+    report = json.loads(done.stdout) if done.stdout else {"findings": [], "members": []}
+    codes = {one["code"] for one in report["findings"]} & REFUSED
+    if known is None:
+        if codes or done.returncode == 1:
+            return None
+        return "manifest" if any(words in why for words in OTHERS) else f"no finding\n{why}"
+    root = known["workspace_root"]
+    if done.returncode == 1:
+        alone = "there is no workspace" in done.stderr
+        return "no workspace" if alone else done.stderr
+    if codes:
+        told = [one for one in report["findings"] if one["code"] in codes]
+        return f"Cargo takes it\n{json.dumps(told, indent=1)}"
+    found = sorted(({key: one[key] for key in KEYS} for one in report["members"]), key=by_folder)
+    want = sorted((of_package(one, root) for one in known["packages"]), key=by_folder)
+    if found == want:
+        return None
+    return f"found\n{json.dumps(found, indent=1)}\nwanted\n{json.dumps(want, indent=1)}"
+
+
+def main():
+    parser = argparse.ArgumentParser(description=__doc__)
+    parser.add_argument("--count", type=int, default=300, help="how many workspaces; 300")
+    parser.add_argument("--seed", type=int, default=1, help="which ones; 1")
+    program = f"{os.path.dirname(HERE)}/cargo-toml-tools"
+    parser.add_argument("--program", default=program, help="another program of the same words")
+    words = parser.parse_args()
+    top = tempfile.mkdtemp()
+    judge, program = Judge(top), words.program.split()
+
+    def compared(number):
+        asked = OddWorkspaces(f"{words.seed}-{number}").write(f"{top}/{number}")
+        return difference(judge, program, asked)
+
+    kinds = collections.Counter()
+    with concurrent.futures.ThreadPoolExecutor(2) as pool:
+        for number, answer in enumerate(pool.map(compared, range(words.count))):
+            kind = "same" if answer is None else answer if answer in MEANT else "FAILED"
+            kinds[kind] += 1
+            if kind != "FAILED":
+                shutil.rmtree(f"{top}/{number}")
+            elif kinds[kind] <= 5:
+                print(f"{top}/{number}\n{answer}\n")
+    for kind, times in kinds.most_common():
+        print(f"{times:6} {kind}" + (f": {MEANT[kind]}" if kind in MEANT else ""))
+    if not kinds["FAILED"]:
+        shutil.rmtree(top)
+    return min(kinds["FAILED"], 1)
+
+
+if __name__ == "__main__":
+    sys.exit(main())

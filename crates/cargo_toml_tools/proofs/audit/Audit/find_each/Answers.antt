@@ -1,0 +1,15 @@
+use Rattle.std.proofs.Common.{◌≡◌, ◌++◌, ◌∙◌, ap, drop, get_or, map, refl, sym}
+use Rattle.std.proofs.lemmas.List.{drop_all}
+use Rattle.cargo_toml_tools.specs.Oddities.{oddity_with}
+use Rattle.cargo_toml_tools.proofs.Grown.{drop_next}
+use Rattle.cargo_toml_tools.proofs.Kept.{each_end, each_on, next_of}
+use Rattle.cargo_toml_tools.proofs.Using.{still}
+use Rattle.cargo_toml_tools.proofs.audit.Audit.find_each.Goals as goal
+
+pub loop-code-preserved : goal.loop-code-preserved
+loop-code-preserved c = ?
+
+pub returns-clause-found : goal.returns-clause-found
+returns-clause-found c =
+    each_end (λ code. oddity_with code c.args.place.now) _ _ _ (drop_all c.loop-code.code-index c.args.codes.now c.loop-code-test.false)
+    c.loop-code.invariant.found

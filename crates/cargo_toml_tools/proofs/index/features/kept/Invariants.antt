@@ -1,0 +1,9 @@
+use Rattle.std.proofs.Common.{◌≡◌, map, string_bytes, take}
+use Rattle.std.specs.Prelude.{filter}
+use Rattle.cargo_toml_tools.specs.IndexFeatures.{is_kept}
+use Rattle.cargo_toml_tools.specs.Sections.{table_of}
+use Rattle.cargo_toml_tools.proofs.index.features.kept.Given as goal
+
+abbrev pub invariant-loop-text : goal.invariant-loop-text
+invariant-loop-text l =
+    map (λ t. t.now) l.all.items ≡ filter (is_kept (map table_of l.sections)) (map string_bytes (take l.text-index l.texts))

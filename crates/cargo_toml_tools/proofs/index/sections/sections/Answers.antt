@@ -1,0 +1,32 @@
+use Rattle.std.proofs.Common.{◌++◌, ◌∙◌, None, Some, ap, map}
+use Rattle.std.proofs.lemmas.Map.Iter.{rest_all, rest_more}
+use Rattle.std.specs.List.{flat_map}
+use Rattle.std.specs.Map.Iter.{deref_pair}
+use Rattle.toml.specs.View.{table_view}
+use Rattle.cargo_toml.specs.Reads.{map_meaning}
+use Rattle.cargo_toml.specs.Targets.{target_meaning}
+use Rattle.cargo_toml_dependencies.specs.Replacing.{entries_meaning}
+use Rattle.cargo_toml_tools.specs.Indexed.{tables_at, target_tables, with_kinds}
+use Rattle.cargo_toml_tools.specs.Sections.{table_of}
+use Rattle.cargo_toml_tools.proofs.Grown.{flat_end, flat_step, three_more}
+use Rattle.cargo_toml_tools.proofs.Told.{target_of}
+use Rattle.cargo_toml_tools.proofs.index.sections.sections.Goals as goal
+
+pub loop-name-preserved : goal.loop-name-preserved
+loop-name-preserved g c =
+    flat_step (target_tables (table_view c.args.document.now)) _ _ _ _ _ _
+    (ap (map target_of) (rest_more deref_pair _ _ _ (c.in-Some.name, c.in-Some.target) c.in-Some.is c.next.ensures.steps))
+    (c.in_ok-push_target.ensures
+    ∙ ap (λ k. map table_of c.loop-name.all.items ++ target_tables (table_view c.args.document.now) (k, target_meaning c.in-Some.target.now)) c.as_str.ensures.value)
+    c.loop-name.invariant
+
+pub returns : goal.returns
+returns g c =
+    let doc = table_view c.args.document.now in
+    let m = c.args.manifest.now in
+    let own = tables_at None (Some doc) (with_kinds (entries_meaning m.dependencies) (entries_meaning m.dev_dependencies) (entries_meaning m.build_dependencies)) in
+    let targets = flat_map (target_tables doc) (map_meaning target_meaning c.args.manifest.now.target) in
+    flat_end (target_tables doc) _ _ _ (ap (map target_of) (rest_all deref_pair _ _ _ c.in-None.is c.next.ensures.steps)) c.loop-name.invariant
+    ∙ ap (λ t. t ++ targets)
+    (three_more _ _ _ _ _ _ _ c.in_ok-push_section.ensures c.in_ok-push_section-2.ensures c.in_ok-push_section-3.ensures
+    ∙ ap (λ items. map table_of items ++ own) c.new-all.ensures.items)

@@ -1,0 +1,16 @@
+use Rattle.std.proofs.Common.{ap, drop, map, string_bytes}
+use Rattle.std.proofs.lemmas.List.{drop_all}
+use Rattle.cargo_toml_tools.specs.MemberFolders.{places_if_right}
+use Rattle.cargo_toml_tools.proofs.Grown.{left_next}
+use Rattle.cargo_toml_tools.proofs.Walked.{walks_end, walks_on}
+use Rattle.cargo_toml_tools.proofs.members.listed.Goals as goal
+
+pub loop-entry-preserved : goal.loop-entry-preserved
+loop-entry-preserved g c =
+    walks_on (λ d. places_if_right d c.args.root.now) _ _ _ _ (string_bytes c.entry-item.result) _ _ _ _
+    (left_next string_bytes c.args.entries.now c.loop-entry.entry-index c.entry-item.result c.loop-entry-test.true c.entry-item.is)
+    (rw c.as_str.ensures.value at c.in_ok-add_places.ensures) c.loop-entry.invariant
+
+pub returns : goal.returns
+returns g c =
+    walks_end (λ d. places_if_right d c.args.root.now) _ _ _ _ _ (ap (map string_bytes) (drop_all c.loop-entry.entry-index c.args.entries.now c.loop-entry-test.false)) c.loop-entry.invariant

@@ -1,0 +1,45 @@
+-- What the code's own types of `index` stand for.
+use Rattle.std.specs.Prelude.{Option, Some, None, List, map, option_map, string_bytes}
+use Rattle.std.specs.Borrow.{Bor}
+use Rattle.std.specs.Option.{option_copied}
+use Rattle.toml.specs.View.{table_view}
+use Rattle.cargo_toml.specs.Action.{Text}
+use Rattle.cargo_toml_dependencies.specs.Replacing.{entries_meaning}
+use Rattle.cargo_toml_tools.specs.declared.index.IndexError.{IndexError}
+use Rattle.cargo_toml_tools.specs.declared.index.IndexError.TheVariants.{Memory, Refused}
+use Rattle.cargo_toml_tools.specs.declared.index.Options.{Options}
+use Rattle.cargo_toml_tools.specs.declared.index.features.List.{List as Kept}
+use Rattle.cargo_toml_tools.specs.declared.index.refusals.Refusal.{Refusal as Found}
+use Rattle.cargo_toml_tools.specs.declared.index.sections.Section.{Section}
+use Rattle.cargo_toml_tools.specs.Indexed.{DependencyTable, Refusal, Wanted}
+
+abbrev pub table_of : Section → DependencyTable
+table_of s = record {
+  kind = s.kind;
+  target = option_copied s.target;
+  written = option_map (λ t. table_view t.now) s.written;
+  has_other_name = s.has_other_name;
+  entries = entries_meaning s.entries.now;
+}
+
+abbrev pub names_of : List (Bor Text × Bor Text) → List (Text × Text)
+names_of names = map (λ n. (n.0.now, n.1.now)) names
+
+abbrev pub wanted_of : Options → Wanted
+wanted_of o = record {
+  registry = o.registry.now;
+  names = names_of o.names.now;
+  checksum = option_copied o.checksum;
+  force = o.force;
+}
+
+abbrev pub refused : Found → Refusal
+refused r = (r.fault, r.subject.now)
+
+-- what an error tells
+abbrev pub told : IndexError → Option Refusal
+told (Refused fault subject) = Some (fault, string_bytes subject)
+told Memory = None
+
+abbrev pub kept_list : Kept → Text × List Text
+kept_list l = (l.name.now, map (λ t. t.now) l.texts.items)

@@ -1,4 +1,0 @@
-mod Apart
-mod FileFacts
-mod Going
-mod Refusals

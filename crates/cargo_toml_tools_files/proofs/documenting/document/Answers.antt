@@ -1,6 +1,0 @@
-use Rattle.std.proofs.lemmas.Result.{IfErr-weaker}
-use Rattle.cargo_toml_tools_files.proofs.FileFacts.{of_input}
-use Rattle.cargo_toml_tools_files.proofs.documenting.document.Goals as goal
-
-pub returns : goal.returns
-returns g c = IfErr-weaker c.document_of.result _ _ of_input c.document_of.ensures

@@ -11,4 +11,4 @@ pub use auditing::audit;
 pub use documenting::{document, graph_in};
 pub use indexing::{Fault, index};
 pub use linting::lint;
-pub use printing::{document_text, index_line, lint_lines};
+pub use printing::{audit_text, document_text, index_line, lint_lines};

@@ -1,8 +1,10 @@
 //! What the tools find in files, as text. No clause says how it is printed.
 
+use super::auditing::audit;
 use super::documenting::{document, graph_in};
 use super::indexing::{Fault, index};
 use super::linting::lint;
+use crate::audit::{json, lines};
 use crate::document::Page;
 use crate::index::Options;
 use crate::lint::Lines;
@@ -46,4 +48,21 @@ pub fn document_text<R: Files + RandomSource + AllocGlobal>(
     let mut page = Page::new(rt.alloc());
     document(rt, file, &mut page)?;
     Ok(page.text)
+}
+
+/// The report of `audit`, and whether something is odd: JSON where `as_json` is set, and else lines.
+/// Where `shows` is set, a long one tells on standard error how far it is.
+pub fn audit_text<R: Files + Eprint + RandomSource + AllocGlobal>(
+    rt: &R,
+    folder: &str,
+    as_json: bool,
+    shows: bool,
+) -> Result<(String, bool), Error> {
+    let report = audit(rt, folder, shows)?;
+    let text = if as_json {
+        json(rt.alloc(), &report)?
+    } else {
+        lines(rt.alloc(), &report)?
+    };
+    Ok((text, !report.findings.is_empty()))
 }

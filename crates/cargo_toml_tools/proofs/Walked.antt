@@ -1,9 +1,12 @@
 -- What is told of each disk that answered so, passed on from call to call.
-use Rattle.std.proofs.Common.{◌≡◌, ◌+◌, ◌++◌, ◌∙◌, ◌<◌, ◌≤◌, ℕ, Bool, true, false, List, [], ◌∷◌, String, Global, ap, inl, inr, length, map, refl, string_bytes, subst, suc, sym, Some, None, cond, if◌then◌else◌}
-use Rattle.std.proofs.lemmas.List.{append-nil, map-append}
+use Rattle.std.proofs.Common.{◌≡◌, ◌==◌, ◌+◌, ◌++◌, append_assoc, ◌∙◌, ◌<◌, ◌≤◌, ℕ, Bool, true, false, List, [], ◌∷◌, String, Global, ap, inl, inr, length, map, refl, string_bytes, subst, suc, sym, Some, None, cond, if◌then◌else◌}
+use Rattle.std.proofs.lemmas.List.{append-nil, length-map, map-append}
 use Rattle.std.specs.List.{flat_map}
 use Rattle.cargo_toml.specs.Action.{Text}
-use Rattle.cargo_toml_tools.specs.MemberFolders.{Adds, Agrees, Disk, Tells, all_from, disk_of, further, led, levels, skips, subfolders}
+use Rattle.cargo_toml_tools.specs.MemberFolders.{Adds, Agrees, Disk, Tells, all_from, disk_of, further, is_plain, led, led_to, levels, matched, path_if, skips, subfolders}
+use Rattle.std.specs.Str.{chars}
+use Rattle.cargo_toml_tools.specs.Patterns.{Part, parts_of}
+use Rattle.cargo_toml_tools.specs.Places.{path_below}
 use Rattle.cargo_toml_tools.specs.declared.members.walk.Listing.{Listing}
 use Rattle.cargo_toml_tools.specs.declared.members.walk.Looks.{Looks}
 use Rattle.cargo_toml_tools.specs.declared.members.walk.There.{There}
@@ -64,7 +67,7 @@ disk_agrees looks = record {
 -- one call, and another that adds to what it told
 pub told_on : {A B : Type 0} (f : Disk → A) (g : Disk → B) (o m n : Looks) (v : A) (w : B) → Tells f o m v
     → ((d : Disk) → Agrees d n → Agrees d m × (v ≡ f d → w ≡ g d)) → Tells g o n w
-told_on f g o m n v w first then d h = let more = then d h in let before = first d more.0 in (before.0, more.1 before.1)
+told_on f g o m n v w first second d h = let more = second d h in let before = first d more.0 in (before.0, more.1 before.1)
 
 -- ---- a walk through texts: so far these texts were added, and what the others lead to is left
 module _ (f : Disk → Text → List Text) (whole : Disk → List Text) where
@@ -104,9 +107,22 @@ adds_none f o m items none d h = let n = none d h in (n.0, sym (append-nil (map 
 pub adds_same : (f g : Disk → List Text) (o m : Looks) (items more : List (String Global)) → ((d : Disk) → f d ≡ g d) → Adds f o m items more → Adds g o m items more
 adds_same f g o m items more same adds d h = let n = adds d h in (n.0, n.1 ∙ ap (λ ts. map string_bytes items ++ ts) (same d))
 
+-- nothing by a test that fails
+pub adds_not : (f : Disk → List Text) (o m : Looks) (path : Text) (t : There) (test : There → Bool) (items : List (String Global))
+    → Tells (λ d. d.there path) o m t → test t ≡ false → Adds (λ d. if test (d.there path) then f d else []) o m items items
+adds_not f o m path t test items told is =
+    adds_none (λ d. if test (d.there path) then f d else []) o m items
+    (λ d h. let n = told d h in (n.0, ap (λ b. if b then f d else []) (ap test (sym n.1) ∙ is)))
+
 -- one level more
-pub levels_on : (d : Disk) (n : ℕ) (folders : List Text) → levels d (suc n) folders ≡ folders ++ levels d n (flat_map (subfolders d) folders)
-levels_on d n folders = refl
+pub levels_step : (d : Disk) (m n : ℕ) (all more level next whole : List Text) → n ≡ suc m → more ≡ all ++ level → next ≡ flat_map (subfolders d) level
+    → all ++ levels d n level ≡ whole → more ++ levels d m next ≡ whole
+levels_step d m n all more level next whole is added same before =
+    ap (λ t. t ++ levels d m next) added ∙ append_assoc all level (levels d m next)
+    ∙ ap (λ t. all ++ (level ++ levels d m t)) same ∙ ap (λ k. all ++ levels d k level) (sym is) ∙ before
+
+pub levels_end : (d : Disk) (n : ℕ) (all level whole : List Text) → n ≡ 0 → all ++ levels d n level ≡ whole → all ≡ whole
+levels_end d n all level whole none before = sym (append-nil all) ∙ ap (λ k. all ++ levels d k level) (sym none) ∙ before
 
 -- a name that leads no further, and one that does
 pub led_past : (d : Disk) (behind : Bool) (folders : List Text) (name : Text) (names : List Text) → skips name behind ≡ true → led d behind folders (name ∷ names) ≡ led d true folders names
@@ -117,3 +133,29 @@ pub led_on : (d : Disk) (behind : Bool) (folders : List Text) (name : Text) (nam
     → led d behind folders (name ∷ names) ≡ led d false (flat_map (further d behind name) (all_from d behind folders)) names
 led_on d behind folders name names is =
     ap (λ b. if b then led d true folders names else led d false (flat_map (further d behind name) (all_from d behind folders)) names) is
+
+-- what a name leads to: itself, what its pattern matches, or nothing
+module _ (d : Disk) (behind : Bool) (name folder : Text) where
+  rest_of : List Text
+  rest_of = option_map_or (λ pattern. matched d behind pattern folder) (parts_of (chars name)) []
+
+  pub further_plain : is_plain name behind ≡ true → further d behind name folder ≡ path_if d (path_below folder name)
+  unfolding rest_of
+  further_plain is = ap (λ b. if b then path_if d (path_below folder name) else rest_of) is
+
+  pub further_by : (pattern : List Part) → is_plain name behind ≡ false → parts_of (chars name) ≡ Some pattern → further d behind name folder ≡ matched d behind pattern folder
+  unfolding rest_of
+  further_by pattern is has =
+      ap (λ b. if b then path_if d (path_below folder name) else rest_of) is
+      ∙ ap (λ o. option_map_or (λ p. matched d behind p folder) o []) has
+
+  pub further_none : is_plain name behind ≡ false → parts_of (chars name) ≡ None → further d behind name folder ≡ []
+  unfolding rest_of
+  further_none is none =
+      ap (λ b. if b then path_if d (path_below folder name) else rest_of) is
+      ∙ ap (λ o. option_map_or (λ p. matched d behind p folder) o []) none
+
+-- whether an entry leads nowhere
+pub none_led : (d : Disk) (root entry : Text) (found : List (String Global)) → map string_bytes found ≡ led_to d root entry
+    → (length found == 0) ≡ (length (led_to d root entry) == 0)
+none_led d root entry found is = ap (λ n. n == 0) (sym (length-map found string_bytes)) ∙ ap (λ (ts : List Text). length ts == 0) is

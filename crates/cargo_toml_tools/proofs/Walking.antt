@@ -1,7 +1,8 @@
 -- The places that are looked at, while some are waiting.
-use Rattle.std.proofs.Common.{◌≡◌, ◌⊎◌, ◌++◌, ◌||◌, ◌&&◌, ◌+◌, ◌<◌, ◌≤◌, ◌∙◌, ℕ, Bool, true, false, List, [], ◌∷◌, ap, inl, inr, length, map, refl, string_bytes, subst, sym, cond}
+use Rattle.std.proofs.Common.{◌≡◌, ◌⊎◌, ◌++◌, ◌||◌, ◌&&◌, ◌+◌, ◌<◌, ◌≤◌, ◌∙◌, ℕ, Bool, true, false, List, [], ◌∷◌, ap, arith, drop, get_or, inl, inr, length, map, refl, string_bytes, subst, sym, cond}
 use Rattle.std.proofs.lemmas.Bool.{false≢true, or_cases, or_left, or_right}
-use Rattle.std.proofs.lemmas.List.{map-append, take_all}
+use Rattle.std.proofs.lemmas.List.{map-append, take-append-drop, take-append-le, take_more}
+use Rattle.cargo_toml_tools.proofs.Grown.{drop_next}
 use Rattle.std.proofs.lemmas.List.Folds.{list_any-append}
 use Rattle.std.proofs.lemmas.Slice.Eq.{bytes_eq-Decides}
 use Rattle.std.specs.BTreeSet.{contains_text}
@@ -33,6 +34,20 @@ among_map : {A B : Type 0} (f : A → B) (xs : List A) (x : A) → Among xs x �
 among_map f [] x i = absurd i
 among_map f (y ∷ xs) x (inl e) = inl (ap f e)
 among_map f (y ∷ xs) x (inr i) = inr (among_map f xs x i)
+
+among_at : (xs : List Text) (i : ℕ) (x : Text) → i < length xs → get_or xs i x ≡ x → Among xs x
+among_at xs i x within is =
+    subst (λ (ys : List Text). Among ys x) (take-append-drop i xs)
+    (in_second (take i xs) (drop i xs) x (subst (λ (ys : List Text). Among ys x) (sym (drop_next xs i x within)) (inl (sym is))))
+
+take_next : (xs : List Text) (i : ℕ) (x : Text) → i < length xs → get_or xs i x ≡ x → take (i + 1) xs ≡ take i xs ++ x ∷ []
+take_next xs i x within is = take_more xs i x within ∙ ap (λ (y : Text). take i xs ++ y ∷ []) is
+
+take_first : (xs ys : List Text) (i : ℕ) → i < length xs → take (i + 1) (xs ++ ys) ≡ take (i + 1) xs
+take_first xs ys i within = let upto : i + 1 ≤ length xs = omega (arith, within) in take-append-le (i + 1) xs ys upto
+
+abbrev pub queue_of : Walk → List Text
+queue_of walk = map string_bytes walk.waiting.items
 
 once_last : {A : Type 0} (xs : List A) (x : A) → IsOnce xs → (¬ Among xs x) → IsOnce (xs ++ x ∷ [])
 once_last [] x once new = ((λ i. i), once)
@@ -125,7 +140,14 @@ module _ (base : Base) (first : List Text) where
       → (contains_text walk.seen place || is_excluded base place) ≡ true → Walking passed queue walk old now → Walking (passed ++ place ∷ []) queue after old new
   walking_past passed queue place walk after old now new same still why w =
       subst (λ (x : Walk). Walking (passed ++ place ∷ []) queue x old new) (sym same)
-      (subst (λ (x : Audit). Walking (passed ++ place ∷ []) queue walk old x) (sym still) (record w {
+      (subst (λ (x : Audit). Walking (passed ++ place ∷ []) queue walk old x) (sym still) (record {
+        readings = w.readings;
+        each = w.each;
+        once = w.once;
+        takes = w.takes;
+        seen = w.seen;
+        members = w.members;
+        within = w.within;
         done = λ p i. elim (in_either passed (place ∷ []) p i) [
           | inl j ↦ w.done p j
           | inr j ↦ elim j [
@@ -137,6 +159,10 @@ module _ (base : Base) (first : List Text) where
             | inr k ↦ absurd k
           ]
         ];
+        known = w.known;
+        from_first = w.from_first;
+        from_needs = w.from_needs;
+        from_read = w.from_read;
       }))
 
   -- or it is looked at, and leads to others
@@ -206,6 +232,20 @@ module _ (base : Base) (first : List Text) where
         | inr e ↦ subst (Among more) (sym e) (in_more place known_place)
       ];
     }
+
+  -- the next place was visited
+  pub walking_next : (i : ℕ) (place : Text) (walk after : Walk) (old now new : Audit) → i < length (queue_of walk) → get_or (queue_of walk) i place ≡ place
+      → Visits base (is_in first place) place walk after now new → Walking (take i (queue_of walk)) (queue_of walk) walk old now
+      → Walking (take (i + 1) (queue_of after)) (queue_of after) after old new
+  walking_next i place walk after old now new within is (inl past) w =
+      let same : queue_of after ≡ queue_of walk = ap queue_of past.1.0 in
+      subst (λ (q : List Text). Walking (take (i + 1) q) q after old new) (sym same)
+      (subst (λ (ts : List Text). Walking ts (queue_of walk) after old new) (sym (take_next (queue_of walk) i place within is))
+      (walking_past (take i (queue_of walk)) (queue_of walk) place walk after old now new past.1.0 past.1.1 past.0 w))
+  walking_next i place walk after old now new within is (inr at) w =
+      subst (λ (ts : List Text). Walking ts (queue_of after) after old new)
+      (sym (ap (take (i + 1)) at.waiting ∙ take_first (queue_of walk) (needs_of base place at.content) i within ∙ take_next (queue_of walk) i place within is))
+      (walking_on (take i (queue_of walk)) (queue_of walk) (queue_of after) place walk after old now new at (among_at (queue_of walk) i place within is) at.waiting w)
 
   -- nothing is waiting
   pub walking_ends : (passed queue : List Text) (walk : Walk) (old now : Audit) → passed ≡ queue → Walking passed queue walk old now

@@ -100,7 +100,7 @@ module _ (d : Disk) where
   levels zero folders = []
   levels (suc n) folders = folders ++ levels n (flat_map subfolders folders)
 
-  abbrev pub with_below : List Text → List Text
+  unfoldable pub with_below : List Text → List Text
   with_below folders = levels 2048 folders
 
   abbrev pub all_from : Bool → List Text → List Text
@@ -137,12 +137,10 @@ module _ (d : Disk) where
   place_if path = map normalized (folder_if path)
 
   -- the folders among that, or the entry itself where nothing lies there
-  abbrev pub places_if : Text → List Text → List Text
-  places_if itself [] = itself ∷ []
-  places_if itself (path ∷ paths) = flat_map place_if (path ∷ paths)
-
   abbrev pub places_of : Text → Text → List Text
-  places_of root entry = places_if (place_of root entry) (led_to root entry)
+  places_of root entry =
+      if length (led_to root entry) == 0 then place_of root entry ∷ []
+      else flat_map place_if (led_to root entry)
 
 -- ---- what was asked and answered
 
@@ -207,7 +205,11 @@ is_unseen Folder = false
 is_unseen Other = false
 is_unseen Nothing = false
 
+abbrev pub unseen_in : List (String Global × There) → List Text
+unseen_in es = map (λ e. string_bytes e.0) (filter (λ e. is_unseen e.1) es)
+
+abbrev pub unread_in : List (String Global × Listing) → List Text
+unread_in es = map (λ e. string_bytes e.0) (filter (λ e. not e.1.is_whole) es)
+
 abbrev pub unseen : Looks → List Text
-unseen looks =
-    map (λ e. string_bytes e.0) (filter (λ e. is_unseen e.1) looks.there.entries)
-    ++ map (λ e. string_bytes e.0) (filter (λ e. not e.1.is_whole) looks.names.entries)
+unseen looks = unseen_in looks.there.entries ++ unread_in looks.names.entries

@@ -1,9 +1,9 @@
 //! The members of a workspace, as Cargo finds them by its lists and by paths of dependencies.
-ghost use Rattle.std.specs.Prelude.{◌≡◌, IfOk, OnOk, filter, map, not, string_bytes};
+ghost use Rattle.std.specs.Prelude.{◌≡◌, ◌++◌, IfOk, OnOk, filter, map, not, string_bytes};
 ghost use Rattle.std.specs.List.{flat_map};
 ghost use Rattle.cargo_toml_tools.specs.MemberFolders.{Tells, is_unseen, is_wrong};
 ghost use Rattle.cargo_toml_tools.specs.MemberFolders.{is_wrong_name, places_if_right, repeats};
-ghost use Rattle.cargo_toml_tools.specs.MemberFolders.{unseen};
+ghost use Rattle.cargo_toml_tools.specs.MemberFolders.{unread_in, unseen, unseen_in};
 ghost use Rattle.cargo_toml_tools.specs.Places.{excludes};
 
 mod patterns;
@@ -14,7 +14,7 @@ use patterns::{is_deep, tokens_of};
 use places::pieces;
 pub use places::{Limits, excludes, lies_in, manifest_path, place_of, seen_from};
 use std::alloc::{AllocError, Global};
-use std::collections::BTreeSet;
+use std::collections::{BTreeMap, BTreeSet};
 use std::rt::Files;
 use walk::places_of;
 pub use walk::{Listing, Looks, There, look_at};
@@ -136,23 +136,53 @@ pub fn unseen(alloc: Global, looks: &Looks) -> Result<Vec<String>, AllocError>
     ensures { IfOk result (λ all. map string_bytes all.items ≡ unseen looks.now) }
 {
     let mut all = Vec::new(alloc);
-    for (path, there) in &looks.there {
+    add_unseen(alloc, &looks.there, &mut all)?;
+    add_unread(alloc, &looks.names, &mut all)?;
+    Ok(all)
+}
+
+fn add_unseen(
+    alloc: Global,
+    known: &BTreeMap<String, There>,
+    all: &mut Vec<String>,
+) -> Result<(), AllocError>
+    ensures { OnOk result (map string_bytes all.new.items
+        ≡ map string_bytes all.old.items ++ unseen_in known.now.entries) }
+{
+    for (path, there) in known {
         if !is_unseen(*there) {
             continue;
         }
         all.push(String::from_str(alloc, path.as_str())?)?;
     }
-    for (path, listing) in &looks.names {
-        if listing.is_whole {
-            continue;
-        }
-        all.push(String::from_str(alloc, path.as_str())?)?;
-    }
-    Ok(all)
+    Ok(())
 }
 
 fn is_unseen(there: There) -> bool
     ensures { result ≡ is_unseen there }
 {
     matches!(there, There::Unseen)
+}
+
+fn add_unread(
+    alloc: Global,
+    known: &BTreeMap<String, Listing>,
+    all: &mut Vec<String>,
+) -> Result<(), AllocError>
+    ensures { OnOk result (map string_bytes all.new.items
+        ≡ map string_bytes all.old.items ++ unread_in known.now.entries) }
+{
+    for (path, listing) in known {
+        if !is_unread(listing) {
+            continue;
+        }
+        all.push(String::from_str(alloc, path.as_str())?)?;
+    }
+    Ok(())
+}
+
+fn is_unread(listing: &Listing) -> bool
+    ensures { result ≡ not listing.now.is_whole }
+{
+    !listing.is_whole
 }

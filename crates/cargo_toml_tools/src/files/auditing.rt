@@ -116,11 +116,12 @@ fn defaults_astray<R: Files + AllocGlobal>(
         looks.old looks.new (map string_bytes all.items)) }
 {
     let mut all = Vec::new(rt.alloc());
-    for entry in &root.workspace.default_members {
+    for entry in root.workspace.default_members.as_slice() {
         let places = places_of_entry(rt, looks, root.place, entry.as_str())?;
-        if any_astray(rt.alloc(), root, known, places.as_slice())? {
-            all.push(entry.clone()?)?;
+        if !any_astray(rt.alloc(), root, known, places.as_slice())? {
+            continue;
         }
+        all.push(entry.clone()?)?;
     }
     Ok(all)
 }

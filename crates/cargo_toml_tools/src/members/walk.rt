@@ -2,15 +2,15 @@
 //!
 //! What the system answers is kept, and it is asked once of each path. So a clause speaks of any disk
 //! that answers so.
-ghost use Rattle.std.specs.Prelude.{◌≡◌, ◌++◌, ◌∷◌, [], IfOk, OnOk, false, map};
-ghost use Rattle.std.specs.Prelude.{string_bytes};
+ghost use Rattle.std.specs.Prelude.{◌≡◌, ◌++◌, ◌&&◌, ◌∷◌, [], IfOk, OnOk, false, map};
+ghost use Rattle.std.specs.Prelude.{not, string_bytes};
 ghost use Rattle.std.specs.BTreeMap.{IsEmpty};
 ghost use Rattle.std.specs.List.{flat_map};
 ghost use Rattle.cargo_toml.specs.RealFiles.{is_absent};
 ghost use Rattle.cargo_toml_tools.specs.MemberFolders.{Adds, Leads, Tells, all_from, begins_at};
 ghost use Rattle.cargo_toml_tools.specs.MemberFolders.{begins_with_dot, by_found, by_link, dots_if};
 ghost use Rattle.cargo_toml_tools.specs.MemberFolders.{folder_if, further, is_folder, is_plain};
-ghost use Rattle.cargo_toml_tools.specs.MemberFolders.{is_there, led};
+ghost use Rattle.cargo_toml_tools.specs.MemberFolders.{is_there, led, levels};
 ghost use Rattle.cargo_toml_tools.specs.MemberFolders.{led_to, matched, named_so};
 ghost use Rattle.cargo_toml_tools.specs.MemberFolders.{path_if, place_if, places_of, skips, subfolders};
 ghost use Rattle.cargo_toml_tools.specs.MemberFolders.{with_below};
@@ -189,7 +189,7 @@ pub fn places_of<R: Files + AllocGlobal>(
         looks.old looks.new (map string_bytes places.items)) }
 {
     let found = led_to(rt, looks, root, entry)?;
-    if found.is_empty() {
+    if found.as_slice().is_empty() {
         return itself(rt.alloc(), root, entry);
     }
     folders_among(rt, looks, found.as_slice())
@@ -416,7 +416,7 @@ fn add_matched<R: Files + AllocGlobal>(
         return Ok(());
     }
     let names = names_in(rt, looks, from.0)?;
-    let names = with_dots(rt.alloc(), names, !from.1 && begins_with_dot(pattern))?;
+    let names = with_dots(rt.alloc(), names, wants_dots(pattern, from.1))?;
     add_named(rt.alloc(), from.0, pattern, names.as_slice(), all)
 }
 
@@ -434,11 +434,11 @@ fn with_dots(alloc: Global, names: Vec<String>, wants_dots: bool) -> Result<Vec<
     Ok(names)
 }
 
-/// Whether a pattern begins with a dot. Then it stands for `.` and `..` too.
-fn begins_with_dot(pattern: &[Token]) -> bool
-    ensures { result ≡ begins_with_dot (map part_of pattern.now) }
+/// Whether a pattern stands for `.` and `..` too: it begins with a dot, and isn't right behind `**`.
+fn wants_dots(pattern: &[Token], is_behind: bool) -> bool
+    ensures { result ≡ (not is_behind && begins_with_dot (map part_of pattern.now)) }
 {
-    matches!(pattern, [Token::Just('.'), ..])
+    !is_behind && matches!(pattern, [Token::Just('.'), ..])
 }
 
 /// Adds the paths of those names in a folder that the pattern matches.
@@ -474,9 +474,22 @@ fn with_below<R: Files + AllocGlobal>(
     ensures { IfOk result (λ all. Tells (λ d. with_below d (map string_bytes folders.items))
         looks.old looks.new (map string_bytes all.items)) }
 {
+    below(rt, looks, folders, MAX_DEPTH)
+}
+
+/// So many levels of folders, from these on.
+fn below<R: Files + AllocGlobal>(
+    rt: &R,
+    looks: &mut Looks,
+    folders: Vec<String>,
+    depths: usize,
+) -> Result<Vec<String>, AllocError>
+    ensures { IfOk result (λ all. Tells (λ d. levels d depths (map string_bytes folders.items))
+        looks.old looks.new (map string_bytes all.items)) }
+{
     let mut level = folders;
     let mut all = Vec::new(rt.alloc());
-    for depth in 0..MAX_DEPTH {
+    for depth in 0..depths {
         let next = subfolders(rt, looks, level.as_slice())?;
         all.append(&mut level)?;
         level = next;

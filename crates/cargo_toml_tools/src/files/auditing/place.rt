@@ -86,7 +86,7 @@ fn refused(alloc: Global, place: &str, fault: Error, audit: &mut Audit) -> Resul
     ensures rest { audit.new ≡ record audit.old { findings = audit.new.findings } }
     ensures found { OnOk result
         (Finds (refusal place.now fault) audit.old.findings audit.new.findings) }
-    ensures refused { IfErr result (λ e. e ≡ Memory) }
+    ensures refused { IfErr result IsUnreadable }
 {
     refuse(alloc, place, fault, audit)?;
     Ok(Seen {
@@ -103,7 +103,7 @@ fn add_foreign<R: Files + AllocGlobal>(
     audit: &mut Audit,
 ) -> Result<Seen, Error>
     ensures added { IfOk result (λ seen. AddsForeign place.now seen audit.old audit.new) }
-    ensures refused { IfErr result (λ e. e ≡ Memory) }
+    ensures refused { IfErr result IsUnreadable }
 {
     let alloc = rt.alloc();
     let mut held = held;
@@ -127,7 +127,7 @@ fn refuse(alloc: Global, place: &str, fault: Error, audit: &mut Audit) -> Result
     ensures rest { audit.new ≡ record audit.old { findings = audit.new.findings } }
     ensures found { OnOk result
         (Finds (refusal place.now fault) audit.old.findings audit.new.findings) }
-    ensures refused { IfErr result (λ e. e ≡ Memory) }
+    ensures refused { IfErr result IsUnreadable }
 {
     match fault {
         Error::Memory => Err(Error::Memory),
@@ -243,7 +243,7 @@ fn add_made<R: Files + AllocGlobal>(
 ) -> Result<(), Error>
     ensures added { OnOk result (AddsMade (base_of root.entry) place.now
         written.0.manifest.value written.1 audit.old audit.new) }
-    ensures refused { IfErr result (λ e. e ≡ Memory) }
+    ensures refused { IfErr result IsUnreadable }
 {
     let alloc = rt.alloc();
     let (mut held, inherits) = written;

@@ -43,10 +43,12 @@ pub fn add_members<R: Files + Eprint + RandomSource + AllocGlobal>(
 {
     let alloc = rt.alloc();
     let listed = set_of(alloc, first.as_slice())?;
+    let seen = BTreeSet::new(alloc);
+    let members = BTreeSet::new(alloc);
     let mut walk = Walk {
         waiting: first,
-        seen: BTreeSet::new(alloc),
-        members: BTreeSet::new(alloc),
+        seen,
+        members,
     };
     for done in 0..usize::MAX {
         if done >= walk.waiting.len() {

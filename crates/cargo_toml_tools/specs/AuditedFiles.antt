@@ -191,7 +191,7 @@ pub record Takes (g : Gain) (old new : Audit) : Type 0 where
   pub members : new.members.items ≡ old.members.items ++ g.members
   pub found : Finds g.found old.findings new.findings
   pub inherited : GainsKeys g.inherited old.inherited new.inherited
-  pub asked : GainsUses g.asked old.uses new.uses
+  pub uses : GainsUses g.asked old.uses new.uses
 
 -- ---- a workspace: its place, the path of its manifest, that manifest, and its table there
 pub record Base : Type 0 where

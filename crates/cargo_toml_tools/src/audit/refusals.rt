@@ -3,7 +3,7 @@ ghost use Rattle.std.specs.Prelude.{◌≡◌, ◌++◌, IfOk, OnOk, map, option
 ghost use Rattle.cargo_toml.specs.Dependencies.{dependency_meaning};
 ghost use Rattle.cargo_toml.specs.Manifests.{held};
 ghost use Rattle.cargo_toml.specs.Packages.{held_package};
-ghost use Rattle.cargo_toml_tools.specs.Entries.{listed_of};
+ghost use Rattle.cargo_toml_tools.specs.Entries.{entries_of, listed_of};
 ghost use Rattle.cargo_toml_tools.specs.Refusals.{code_if, has_lints_left, has_no_target, is_false};
 ghost use Rattle.cargo_toml_tools.specs.Refusals.{is_not_inherited, leads_elsewhere};
 ghost use Rattle.cargo_toml_tools.specs.Refusals.{names_workspace, refusals, stands_of};
@@ -43,18 +43,14 @@ pub fn refusal_codes<M>(
     let has_own = written.workspace.is_some();
     let named = names_workspace(&written.package);
     let elsewhere = leads_elsewhere(alloc, standing, &written.package)?;
-    let entries = entries(alloc, written)?;
+    let not_inherited = has_no_source(alloc, written)?;
     push_if(&mut codes, standing.has_errors, Code::Features)?;
     push_if(
         &mut codes,
         has_lints_left(written, standing.lacks_lints),
         Code::NoLints,
     )?;
-    push_if(
-        &mut codes,
-        is_not_inherited(entries.as_slice()),
-        Code::NotInherited,
-    )?;
+    push_if(&mut codes, not_inherited, Code::NotInherited)?;
     push_if(&mut codes, elsewhere && !has_own, Code::OtherWorkspace)?;
     push_if(&mut codes, !standing.is_own && !named, Code::Outside)?;
     push_if(&mut codes, named && has_own, Code::TwoWorkspaces)?;
@@ -119,6 +115,13 @@ pub fn has_no_target<M>(manifest: &Manifest<M>) -> bool
 }
 
 /// Whether some dependency has `workspace = false`.
+fn has_no_source<M>(alloc: Global, manifest: &Manifest<M>) -> Result<bool, AllocError>
+    ensures { IfOk result (λ b. b ≡ is_not_inherited (entries_of (held manifest.now))) }
+{
+    let entries = entries(alloc, manifest)?;
+    Ok(is_not_inherited(entries.as_slice()))
+}
+
 fn is_not_inherited(entries: &[Entry<'_>]) -> bool
     ensures { result ≡ is_not_inherited (map listed_of entries.now) }
 {

@@ -1,4 +1,4 @@
-use Rattle.std.proofs.Common.{[], ◌∷◌, ◌∙◌, ap, drop, map, refl}
+use Rattle.std.proofs.Common.{[], ◌∷◌, ◌+◌, ◌∙◌, ap, drop, map, refl}
 use Rattle.std.proofs.lemmas.List.{drop_all}
 use Rattle.cargo_toml_tools.specs.Entries.{Listed, listed_of}
 use Rattle.cargo_toml_tools.specs.LeftKeys.{left_dependencies}
@@ -17,7 +17,7 @@ loop-entry-preserved c =
     let is = left_next listed_of c.args.entries.now c.loop-entry.entry-index c.entry-item.result c.loop-entry-test.true c.entry-item.is in
     record {
       keys = more (λ (e : Listed). left_dependencies (e ∷ [])) left_dependencies first_left _ _ _ _ _ _ is c.in_ok-add_entry.ensures.keys c.loop-entry.invariant.keys;
-      all = gaining_on (inherited_in (e ∷ [])) _ _ _ _ _ _ (ap inherited_in is ∙ first_inherited e _) c.loop-entry.invariant.all c.in_ok-add_entry.ensures.all;
+      all = gaining_on (inherited_in (e ∷ [])) _ _ _ _ _ _ (ap inherited_in is ∙ first_inherited e (map listed_of (drop (c.loop-entry.entry-index + 1) c.args.entries.now))) c.loop-entry.invariant.all c.in_ok-add_entry.ensures.all;
     }
 
 pub returns : goal.returns

@@ -3,10 +3,11 @@ use Rattle.std.proofs.Common.{◌≡◌, ◌∙◌, Bor, List, [], ◌∷◌, Op
 use Rattle.std.specs.Option.{option_map_or}
 use Rattle.semver.specs.Parse.{Held}
 use Rattle.cargo_toml.specs.Action.{Text}
-use Rattle.cargo_toml.specs.Dependencies.{DependencyMeaning, dependency_meaning, package_of}
+use Rattle.cargo_toml.specs.Dependencies.{dependency_meaning, package_of}
 use Rattle.cargo_toml.specs.Dependency.{Dependency}
 use Rattle.cargo_toml.specs.Dependency.TheVariants as kind
 use Rattle.cargo_toml.specs.DependencyAnswers.{features_at}
+use Rattle.cargo_toml_tools.specs.Entries.{Listed}
 use Rattle.cargo_toml_tools.specs.IndexEntries.{asked_features, required_version}
 use Rattle.cargo_toml_tools.specs.Noted.{asked_by, asking_for}
 use Rattle.cargo_toml.specs.Requirements.{requirement_text}
@@ -22,8 +23,8 @@ crate_name None key name is = ap (λ n. unwrap_or n key.now) is
 crate_name (Some t) key name is = ap (λ n. unwrap_or n key.now) is
 
 -- a crate by a requirement, for a folder
-pub asks : (d : DependencyMeaning) (r : List Held) (key folder n q f : Text) → required_version d ≡ Some r → n ≡ unwrap_or (package_of d) key
-    → q ≡ requirement_text r → f ≡ folder → asking_for n q f ∷ [] ≡ asked_by folder (key, d)
-asks d r key folder n q f is name requirement same =
+pub asks : (e : Listed) (r : List Held) (folder n q f : Text) → required_version e.1.1 ≡ Some r → n ≡ unwrap_or (package_of e.1.1) e.1.0
+    → q ≡ requirement_text r → f ≡ folder → asking_for n q f ∷ [] ≡ asked_by folder e
+asks e r folder n q f is name requirement same =
     (λ i. asking_for (name i) (requirement i) (same i) ∷ [])
-    ∙ ap (λ o. option_map_or (λ r. asking_for (unwrap_or (package_of d) key) (requirement_text r) folder ∷ []) o []) (sym is)
+    ∙ ap (λ o. option_map_or (λ r. asking_for (unwrap_or (package_of e.1.1) e.1.0) (requirement_text r) folder ∷ []) o []) (sym is)

@@ -41,6 +41,23 @@ module _ {X Y : Type 0} (p : X → Bool) (f : X → Y) (whole : List Y) where
   pub kept_end : (left : List X) (items : List Y) → left ≡ [] → items ++ map f (filter p left) ≡ whole → items ≡ whole
   kept_end left items none before = sym (append-nil items) ∙ ap (λ t. items ++ map f (filter p t)) (sym none) ∙ before
 
+-- ---- those that pass, as they are
+module _ {X : Type 0} (p : X → Bool) (whole : List X) where
+  passing_first : (x : X) (left rest : List X) → left ≡ x ∷ rest → filter p left ≡ cond (p x) (x ∷ filter p rest) (filter p rest)
+  passing_first x left rest is = ap (filter p) is
+
+  pub picked_on : (x : X) (left rest items more : List X) → left ≡ x ∷ rest → p x ≡ true → more ≡ items ++ x ∷ [] → items ++ filter p left ≡ whole → more ++ filter p rest ≡ whole
+  picked_on x left rest items more is passes adds before =
+      ap (λ t. t ++ filter p rest) adds ∙ append_assoc items (x ∷ []) (filter p rest)
+      ∙ ap (λ t. items ++ t) (sym (passing_first x left rest is ∙ ap (λ b. cond b (x ∷ filter p rest) (filter p rest)) passes)) ∙ before
+
+  pub picked_past : (x : X) (left rest items : List X) → left ≡ x ∷ rest → p x ≡ false → items ++ filter p left ≡ whole → items ++ filter p rest ≡ whole
+  picked_past x left rest items is fails before =
+      ap (λ t. items ++ t) (sym (passing_first x left rest is ∙ ap (λ b. cond b (x ∷ filter p rest) (filter p rest)) fails)) ∙ before
+
+  pub picked_end : (left items : List X) → left ≡ [] → items ++ filter p left ≡ whole → items ≡ whole
+  picked_end left items none before = sym (append-nil items) ∙ ap (λ t. items ++ filter p t) (sym none) ∙ before
+
 -- the next of a list, and its end
 pub next_of : {X : Type 0} (xs : List X) (i : ℕ) (x : X) → i < length xs → x ≡ get_or xs i x → drop i xs ≡ x ∷ drop (i + 1) xs
 next_of xs i x within is = drop_next xs i x within ∙ ap (λ t. t ∷ drop (i + 1) xs) (sym is)

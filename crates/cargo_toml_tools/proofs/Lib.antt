@@ -1,5 +1,6 @@
 pub mod Compared
 pub mod Left
+pub mod Listing
 pub mod Kept
 pub mod Repeated
 pub mod Matched
@@ -19,6 +20,8 @@ pub mod Exactly
 pub mod Grouped
 pub mod Inserted
 pub mod Using
+pub mod Taking
+pub mod Walking
 pub mod Sorting
 mod FileFacts
 pub mod Ordered

@@ -2,7 +2,8 @@
 use Rattle.std.specs.Prelude.{◌≡◌, ◌++◌, ◌&&◌, ◌||◌, ◌==◌, ℕ, suc, zero, Bool, true, false, List, []}
 use Rattle.std.specs.Prelude.{None, Option, Some}
 use Rattle.std.specs.Prelude.{◌∷◌, Err, Ok, Result, String, bytes_eq, codes, filter, if◌then◌else◌}
-use Rattle.std.specs.Prelude.{is_none, length, map, nat_eq, not, string_bytes}
+use Rattle.std.specs.Prelude.{is_none, length, map, nat_eq, not, string_bytes, unwrap_or}
+use Rattle.std.specs.BTreeMap.{get_by_text}
 use Rattle.std.specs.Fs.{file_type}
 use Rattle.std.specs.IoError.{error_kind}
 use Rattle.std.specs.List.{flat_map, list_any}
@@ -12,14 +13,12 @@ use Rattle.std.specs.declared.alloc.Global.{Global}
 use Rattle.std.specs.declared.fs.attrs.Metadata.{Metadata}
 use Rattle.std.specs.declared.io.Error.{Error as IoError}
 use Rattle.cargo_toml.specs.Action.{Text}
-use Rattle.cargo_toml.specs.Reach.{Among}
 use Rattle.cargo_toml.specs.RealFiles.{is_absent}
 use Rattle.cargo_toml_tools.specs.Patterns.{Part, is_deep, is_pattern, just, many, matches}
 use Rattle.cargo_toml_tools.specs.Patterns.{one, parts_of, within, without}
 use Rattle.cargo_toml_tools.specs.Places.{is_rooted, normalized, path_below, pieces, place_of}
-use Rattle.cargo_toml_tools.specs.declared.members.walk.Answer.{Answer}
-use Rattle.cargo_toml_tools.specs.declared.members.walk.Answer.TheVariants as answer
-use Rattle.cargo_toml_tools.specs.declared.members.walk.Look.{Look}
+use Rattle.cargo_toml_tools.specs.declared.members.walk.Listing.{Listing}
+use Rattle.cargo_toml_tools.specs.declared.members.walk.Looks.{Looks}
 use Rattle.cargo_toml_tools.specs.declared.members.walk.Step.{Step}
 use Rattle.cargo_toml_tools.specs.declared.members.walk.There.{There}
 use Rattle.cargo_toml_tools.specs.declared.members.walk.There.TheVariants.{Folder, Nothing, Other}
@@ -101,7 +100,7 @@ module _ (d : Disk) where
   levels zero folders = []
   levels (suc n) folders = folders ++ levels n (flat_map subfolders folders)
 
-  abbrev pub with_below : List Text → List Text
+  unfoldable pub with_below : List Text → List Text
   with_below folders = levels 2048 folders
 
   abbrev pub all_from : Bool → List Text → List Text
@@ -138,43 +137,40 @@ module _ (d : Disk) where
   place_if path = map normalized (folder_if path)
 
   -- the folders among that, or the entry itself where nothing lies there
-  abbrev pub places_if : Text → List Text → List Text
-  places_if itself [] = itself ∷ []
-  places_if itself (path ∷ paths) = flat_map place_if (path ∷ paths)
-
   abbrev pub places_of : Text → Text → List Text
-  places_of root entry = places_if (place_of root entry) (led_to root entry)
+  places_of root entry =
+      if length (led_to root entry) == 0 then place_of root entry ∷ []
+      else flat_map place_if (led_to root entry)
 
 -- ---- what was asked and answered
 
--- the names that an answer has
-abbrev pub names_told : Answer → Option (List Text)
-names_told (answer.There there) = None
-names_told (answer.Names names) = Some (map string_bytes names.items)
-names_told (answer.Denied names) = Some (map string_bytes names.items)
-
-abbrev pub IsAnswer : Disk → Text → Answer → Type 0
-IsAnswer d path (answer.There there) = d.there path ≡ there
-IsAnswer d path (answer.Names names) = d.names path ≡ map string_bytes names.items
-IsAnswer d path (answer.Denied names) = d.names path ≡ map string_bytes names.items
-
 -- a disk answers so
-abbrev pub Agrees : Disk → List Look → Type 0
-Agrees d looks = (l : Look) → Among looks l → IsAnswer d (string_bytes l.path) l.answer
+pub record Agrees (d : Disk) (looks : Looks) : Type 0 where
+  pub there : (path : Text) (t : There) → get_by_text looks.there path ≡ Some t → d.there path ≡ t
+  pub names : (path : Text) (l : Listing) → get_by_text looks.names path ≡ Some l
+      → d.names path ≡ map string_bytes l.names.items
 
--- each disk that agrees with the new notes agrees with the old ones, and gives this value
-abbrev pub Tells : {A : Type 0} → (Disk → A) → List Look → List Look → A → Type 0
+-- the disk that has just what was answered, and nothing else
+abbrev pub disk_of : Looks → Disk
+disk_of looks = record {
+  there = λ path. unwrap_or (get_by_text looks.there path) Nothing;
+  names = λ path.
+      option_map_or (λ l. map string_bytes l.names.items) (get_by_text looks.names path) [];
+}
+
+-- each disk that agrees with the new answers agrees with the old ones, and gives this value
+abbrev pub Tells : {A : Type 0} → (Disk → A) → Looks → Looks → A → Type 0
 Tells of old new value = (d : Disk) → Agrees d new → Agrees d old × (value ≡ of d)
 
 -- or these texts, behind others
-abbrev pub Adds : (Disk → List Text) → List Look → List Look → List (String Global)
+abbrev pub Adds : (Disk → List Text) → Looks → Looks → List (String Global)
     → List (String Global) → Type 0
 Adds found old new before after =
     (d : Disk) → Agrees d new
     → Agrees d old × (map string_bytes after ≡ map string_bytes before ++ found d)
 
 -- or one name less has to be followed
-abbrev pub Leads : Text → List Look → List Look → Step → Step → Type 0
+abbrev pub Leads : Text → Looks → Looks → Step → Step → Type 0
 Leads name old new before after =
     (d : Disk) → Agrees d new
     → Agrees d old × ((names : List Text)
@@ -203,13 +199,17 @@ abbrev pub repeats : List Text → List Text
 repeats ts = repeats_of (λ t. false) ts
 
 -- what couldn't be looked at, or read to its end
-abbrev pub is_unseen : Answer → Bool
-is_unseen (answer.There Unseen) = true
-is_unseen (answer.There Folder) = false
-is_unseen (answer.There Other) = false
-is_unseen (answer.There Nothing) = false
-is_unseen (answer.Names names) = false
-is_unseen (answer.Denied names) = true
+abbrev pub is_unseen : There → Bool
+is_unseen Unseen = true
+is_unseen Folder = false
+is_unseen Other = false
+is_unseen Nothing = false
 
-abbrev pub unseen : List Look → List Text
-unseen looks = map (λ l. string_bytes l.path) (filter (λ l. is_unseen l.answer) looks)
+abbrev pub unseen_in : List (String Global × There) → List Text
+unseen_in es = map (λ e. string_bytes e.0) (filter (λ e. is_unseen e.1) es)
+
+abbrev pub unread_in : List (String Global × Listing) → List Text
+unread_in es = map (λ e. string_bytes e.0) (filter (λ e. not e.1.is_whole) es)
+
+abbrev pub unseen : Looks → List Text
+unseen looks = unseen_in looks.there.entries ++ unread_in looks.names.entries

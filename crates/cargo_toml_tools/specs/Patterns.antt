@@ -149,5 +149,8 @@ abbrev pub is_deep : List ℕ → Bool
 is_deep name = bytes_eq name (codes "**")
 
 -- a name that is a pattern: `*`, `?` or `[` stands in it
+abbrev pub is_sign : ℕ → Bool
+is_sign b = (nat_eq b 42 || nat_eq b 63) || nat_eq b 91
+
 abbrev pub is_pattern : List ℕ → Bool
-is_pattern name = list_any (λ c. nat_eq c 42 || (nat_eq c 63 || nat_eq c 91)) (chars name)
+is_pattern name = list_any is_sign name

@@ -5,12 +5,10 @@ use Rattle.std.specs.List.{list_any}
 use Rattle.std.specs.Option.{option_map_or}
 use Rattle.cargo_toml.specs.Action.{Text}
 use Rattle.cargo_toml.specs.Dependencies.{DependencyMeaning, detailed, inherited, simple}
-use Rattle.cargo_toml.specs.InheritedDependencies.{Entries}
 use Rattle.cargo_toml.specs.InheritedPackages.{field_is_left}
-use Rattle.cargo_toml.specs.Kind.{Kind}
 use Rattle.cargo_toml.specs.Manifests.{ManifestMeaning}
 use Rattle.cargo_toml.specs.Packages.{PackageMeaning}
-use Rattle.cargo_toml_tools.specs.Indexed.{all_by_kind}
+use Rattle.cargo_toml_tools.specs.Entries.{Listed, entries_of}
 use Rattle.cargo_toml_tools.specs.Places.{place_of}
 use Rattle.cargo_toml_tools.specs.declared.audit.Code.{Code}
 use Rattle.cargo_toml_tools.specs.declared.audit.Code.TheVariants.{Features, NoLints}
@@ -68,14 +66,14 @@ is_false (simple r) = false
 is_false (inherited i) = not i.workspace
 is_false (detailed d) = false
 
-abbrev pub is_not_inherited : List (Kind × Entries) → Bool
-is_not_inherited ts = list_any (λ t. list_any (λ e. is_false e.1) t.1) ts
+abbrev pub is_not_inherited : List Listed → Bool
+is_not_inherited es = list_any (λ e. is_false e.1.1) es
 
 abbrev pub refusals : {M : Type 0} → Stands → ManifestMeaning M → List Code
 refusals s m =
     code_if s.has_errors Features
     ++ (code_if (has_lints_left m s.lacks_lints) NoLints
-    ++ (code_if (is_not_inherited (all_by_kind m)) NotInherited
+    ++ (code_if (is_not_inherited (entries_of m)) NotInherited
     ++ (code_if (leads_elsewhere s.place s.root m.«package» && not (is_some m.workspace))
     OtherWorkspace
     ++ (code_if (not s.is_own && not (names_workspace m.«package»)) Outside

@@ -1,26 +1,30 @@
 //! The report on a workspace: what each member is, and what is odd.
 ghost use Rattle.std.specs.Prelude.{◌≡◌, ◌↔◌, [], ◌∷◌, IfErr, IfOk, IsErrAnd, None, OnErr, OnOk};
-ghost use Rattle.std.specs.Prelude.{map, option_map, string_bytes};
+ghost use Rattle.std.specs.Prelude.{if◌then◌else◌, map, option_map, string_bytes};
 ghost use Rattle.std.specs.BTreeSet.{IsEmpty};
 ghost use Rattle.cargo_toml.specs.Manifests.{held};
 ghost use Rattle.cargo_toml.specs.Templates.{template_meaning};
 ghost use Rattle.cargo_toml_tools.specs.Audited.{AddsMember, IsNoPackage, IsUntold};
-ghost use Rattle.cargo_toml_tools.specs.Indexed.{all_by_kind};
+ghost use Rattle.cargo_toml_tools.specs.Entries.{entries_of};
 ghost use Rattle.cargo_toml_tools.specs.LeftKeys.{left_keys};
-ghost use Rattle.cargo_toml_tools.specs.Noted.{GainsKeys, NotesUses, inherited_in_all};
+ghost use Rattle.cargo_toml_tools.specs.Noted.{GainsKeys, NotesUses, inherited_in};
 ghost use Rattle.cargo_toml_tools.specs.Oddities.{Finds, member_differences, oddity_with};
 
 mod differences;
+pub mod entries;
 mod inherited;
 mod refusals;
 mod report;
+mod root;
 mod summary;
 mod uses;
 
 use cargo_toml::{Error, Manifest, Workspace};
-use inherited::{add_inherited_dependencies, inherited_keys};
+use entries::entries;
+use inherited::{add_inherited, inherited_keys};
 pub use refusals::{Standing, has_no_target, refusal_codes};
 pub use report::{json, lines};
+pub use root::{Root, needs};
 use std::alloc::{AllocError, Global};
 use std::collections::BTreeSet;
 use summary::summarize;
@@ -217,7 +221,13 @@ impl Audit {
         }
     }
 
-    fn find(&mut self, code: Code, subject: &str, words: String) -> Result<(), AllocError>
+    /// Finds this of a subject, in these words.
+    pub fn find(
+        &mut self,
+        code: Code,
+        subject: &str,
+        words: String,
+    ) -> Result<(), AllocError>
         ensures rest { self.new ≡ record self.old { findings = self.new.findings } }
         ensures found { OnOk result
             (Finds (oddity_with code subject.now ∷ []) self.old.findings self.new.findings) }
@@ -253,6 +263,18 @@ impl Audit {
         self.find(code, subject, words)
     }
 
+    /// Finds what a code says of a subject, where that holds.
+    pub fn find_if(&mut self, code: Code, holds: bool, subject: &str) -> Result<(), AllocError>
+        ensures rest { self.new ≡ record self.old { findings = self.new.findings } }
+        ensures found { OnOk result (Finds (if holds then oddity_with code subject.now ∷ [] else [])
+            self.old.findings self.new.findings) }
+    {
+        if !holds {
+            return Ok(());
+        }
+        self.find_one(code, subject)
+    }
+
     /// Finds each of these codes of one member.
     pub fn find_each(&mut self, codes: &[Code], place: &str) -> Result<(), AllocError>
         ensures rest { self.new ≡ record self.old { findings = self.new.findings } }
@@ -271,13 +293,13 @@ impl Audit {
         ensures keys { IfOk result
             (λ keys. map string_bytes keys.items ≡ left_keys (held manifest.now)) }
         ensures rest { self.new ≡ record self.old { inherited = self.new.inherited } }
-        ensures inherited { OnOk result
-            (GainsKeys (inherited_in_all (all_by_kind (held manifest.now)))
+        ensures inherited { OnOk result (GainsKeys (inherited_in (entries_of (held manifest.now)))
             self.old.inherited self.new.inherited) }
     {
         let alloc = *self.root.allocator();
+        let entries = entries(alloc, manifest)?;
         let mut keys = inherited_keys(alloc, manifest)?;
-        add_inherited_dependencies(manifest, &mut keys, &mut self.inherited)?;
+        add_inherited(entries.as_slice(), &mut keys, &mut self.inherited)?;
         Ok(keys)
     }
 
@@ -298,22 +320,14 @@ impl Audit {
             (option_map template_meaning workspace.now.«package») (held manifest.now))
             self.old.findings self.new.findings) }
         ensures noted { NotesUses place.now (held manifest.now) result self.old self.new }
+        ensures root { self.new.root ≡ self.old.root }
     {
         let alloc = *self.root.allocator();
         let member = summarize(alloc, place, manifest, inherits)?;
-        add_uses(alloc, place, manifest, &mut self.uses)?;
+        let entries = entries(alloc, manifest)?;
+        add_uses(alloc, place, entries.as_slice(), &mut self.uses)?;
         self.compare(alloc, &member, workspace)?;
         self.members.push(member)?;
         Ok(())
-    }
-
-    /// Adds a member that doesn't complete, by the words of its fault.
-    pub fn add_refused(&mut self, place: &str, words: &str) -> Result<(), AllocError>
-        ensures rest { self.new ≡ record self.old { findings = self.new.findings } }
-        ensures found { OnOk result (Finds (oddity_with Code.Incomplete place.now ∷ [])
-            self.old.findings self.new.findings) }
-    {
-        let words = String::from_str(*self.root.allocator(), words)?;
-        self.find(Code::Incomplete, place, words)
     }
 }

@@ -6,7 +6,7 @@ mod indexing;
 mod linting;
 mod reading;
 
-pub use auditing::audit;
+pub use auditing::{audit, audit_text};
 pub use documenting::{document, document_text};
 pub use indexing::{Fault, index_line};
 pub use linting::{lint, lint_lines};

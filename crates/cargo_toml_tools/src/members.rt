@@ -1,9 +1,9 @@
 //! The members of a workspace, as Cargo finds them by its lists and by paths of dependencies.
-ghost use Rattle.std.specs.Prelude.{◌≡◌, IfOk, OnOk, filter, map, not, string_bytes};
+ghost use Rattle.std.specs.Prelude.{◌≡◌, ◌++◌, IfOk, OnOk, filter, map, not, string_bytes};
 ghost use Rattle.std.specs.List.{flat_map};
-ghost use Rattle.cargo_toml_tools.specs.MemberFolders.{Adds, Tells, is_unseen, is_wrong};
+ghost use Rattle.cargo_toml_tools.specs.MemberFolders.{Tells, is_unseen, is_wrong};
 ghost use Rattle.cargo_toml_tools.specs.MemberFolders.{is_wrong_name, places_if_right, repeats};
-ghost use Rattle.cargo_toml_tools.specs.MemberFolders.{unseen};
+ghost use Rattle.cargo_toml_tools.specs.MemberFolders.{unread_in, unseen, unseen_in};
 ghost use Rattle.cargo_toml_tools.specs.Places.{excludes};
 
 mod patterns;
@@ -14,46 +14,45 @@ use patterns::{is_deep, tokens_of};
 use places::pieces;
 pub use places::{Limits, excludes, lies_in, manifest_path, place_of, seen_from};
 use std::alloc::{AllocError, Global};
-use std::collections::BTreeSet;
+use std::collections::{BTreeMap, BTreeSet};
 use std::rt::Files;
 use walk::places_of;
-pub use walk::{Answer, Look, There, look_at};
+pub use walk::{Listing, Looks, There, look_at};
 
 /// The places that the entries of a list in `root` lead to, one entry after the other. One that
 /// Cargo can't read leads nowhere.
 pub fn listed<R: Files + AllocGlobal>(
     rt: &R,
-    looks: &mut Vec<Look>,
+    looks: &mut Looks,
     root: &str,
     entries: &[String],
 ) -> Result<Vec<String>, AllocError>
     ensures { IfOk result (λ places. Tells
         (λ d. flat_map (places_if_right d root.now) (map string_bytes entries.now))
-        looks.old.items looks.new.items (map string_bytes places.items)) }
+        looks.old looks.new (map string_bytes places.items)) }
 {
     let mut all = Vec::new(rt.alloc());
     for entry in entries {
-        add_places(rt, looks, root, entry.as_str(), &mut all)?;
+        let mut places = places_of_entry(rt, looks, root, entry.as_str())?;
+        all.append(&mut places)?;
     }
     Ok(all)
 }
 
-fn add_places<R: Files + AllocGlobal>(
+/// The places that an entry of a list in `root` leads to, unless Cargo can't read it.
+pub fn places_of_entry<R: Files + AllocGlobal>(
     rt: &R,
-    looks: &mut Vec<Look>,
+    looks: &mut Looks,
     root: &str,
     entry: &str,
-    all: &mut Vec<String>,
-) -> Result<(), AllocError>
-    ensures { OnOk result (Adds (λ d. places_if_right d root.now entry.now)
-        looks.old.items looks.new.items all.old.items all.new.items) }
+) -> Result<Vec<String>, AllocError>
+    ensures { IfOk result (λ places. Tells (λ d. places_if_right d root.now entry.now)
+        looks.old looks.new (map string_bytes places.items)) }
 {
     if is_wrong(rt.alloc(), entry)? {
-        return Ok(());
+        return Ok(Vec::new(rt.alloc()));
     }
-    let mut places = places_of(rt, looks, root, entry)?;
-    all.append(&mut places)?;
-    Ok(())
+    places_of(rt, looks, root, entry)
 }
 
 /// Whether Cargo can't read an entry as a pattern.
@@ -133,21 +132,57 @@ pub fn repeats(alloc: Global, texts: &[String]) -> Result<Vec<String>, AllocErro
 }
 
 /// What couldn't be looked at, or read to its end.
-pub fn unseen(alloc: Global, looks: &[Look]) -> Result<Vec<String>, AllocError>
+pub fn unseen(alloc: Global, looks: &Looks) -> Result<Vec<String>, AllocError>
     ensures { IfOk result (λ all. map string_bytes all.items ≡ unseen looks.now) }
 {
     let mut all = Vec::new(alloc);
-    for look in looks {
-        if !is_unseen(&look.answer) {
-            continue;
-        }
-        all.push(String::from_str(alloc, look.path.as_str())?)?;
-    }
+    add_unseen(alloc, &looks.there, &mut all)?;
+    add_unread(alloc, &looks.names, &mut all)?;
     Ok(all)
 }
 
-fn is_unseen(answer: &Answer) -> bool
-    ensures { result ≡ is_unseen answer.now }
+fn add_unseen(
+    alloc: Global,
+    known: &BTreeMap<String, There>,
+    all: &mut Vec<String>,
+) -> Result<(), AllocError>
+    ensures { OnOk result (map string_bytes all.new.items
+        ≡ map string_bytes all.old.items ++ unseen_in known.now.entries) }
 {
-    matches!(answer, Answer::There(There::Unseen) | Answer::Denied(_))
+    for (path, there) in known {
+        if !is_unseen(*there) {
+            continue;
+        }
+        all.push(String::from_str(alloc, path.as_str())?)?;
+    }
+    Ok(())
+}
+
+fn is_unseen(there: There) -> bool
+    ensures { result ≡ is_unseen there }
+{
+    matches!(there, There::Unseen)
+}
+
+fn add_unread(
+    alloc: Global,
+    known: &BTreeMap<String, Listing>,
+    all: &mut Vec<String>,
+) -> Result<(), AllocError>
+    ensures { OnOk result (map string_bytes all.new.items
+        ≡ map string_bytes all.old.items ++ unread_in known.now.entries) }
+{
+    for (path, listing) in known {
+        if !is_unread(listing) {
+            continue;
+        }
+        all.push(String::from_str(alloc, path.as_str())?)?;
+    }
+    Ok(())
+}
+
+fn is_unread(listing: &Listing) -> bool
+    ensures { result ≡ not listing.now.is_whole }
+{
+    !listing.is_whole
 }

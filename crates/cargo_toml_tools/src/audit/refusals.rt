@@ -1,20 +1,17 @@
 //! What Cargo refuses of a member's manifest where it stands.
-ghost use Rattle.std.specs.Prelude.{◌≡◌, ◌++◌, IfOk, OnOk, option_map};
-ghost use Rattle.std.specs.List.{list_any};
+ghost use Rattle.std.specs.Prelude.{◌≡◌, ◌++◌, IfOk, OnOk, map, option_map};
 ghost use Rattle.cargo_toml.specs.Dependencies.{dependency_meaning};
 ghost use Rattle.cargo_toml.specs.Manifests.{held};
 ghost use Rattle.cargo_toml.specs.Packages.{held_package};
-ghost use Rattle.cargo_toml_dependencies.specs.Replacing.{entries_meaning};
-ghost use Rattle.cargo_toml_tools.specs.Checked.{own_by_kind};
-ghost use Rattle.cargo_toml_tools.specs.Indexed.{all_by_kind};
+ghost use Rattle.cargo_toml_tools.specs.Entries.{entries_of, listed_of};
 ghost use Rattle.cargo_toml_tools.specs.Refusals.{code_if, has_lints_left, has_no_target, is_false};
 ghost use Rattle.cargo_toml_tools.specs.Refusals.{is_not_inherited, leads_elsewhere};
 ghost use Rattle.cargo_toml_tools.specs.Refusals.{names_workspace, refusals, stands_of};
 
 use super::Code;
+use super::entries::{Entry, entries};
 use crate::members::place_of;
-use crate::tables::Tables;
-use cargo_toml::{Dependency, DepsSet, Manifest, Package};
+use cargo_toml::{Dependency, Manifest, Package};
 use std::alloc::{AllocError, Global};
 
 /// Where a member's manifest stands.
@@ -46,13 +43,14 @@ pub fn refusal_codes<M>(
     let has_own = written.workspace.is_some();
     let named = names_workspace(&written.package);
     let elsewhere = leads_elsewhere(alloc, standing, &written.package)?;
+    let not_inherited = has_no_source(alloc, written)?;
     push_if(&mut codes, standing.has_errors, Code::Features)?;
     push_if(
         &mut codes,
         has_lints_left(written, standing.lacks_lints),
         Code::NoLints,
     )?;
-    push_if(&mut codes, is_not_inherited(written), Code::NotInherited)?;
+    push_if(&mut codes, not_inherited, Code::NotInherited)?;
     push_if(&mut codes, elsewhere && !has_own, Code::OtherWorkspace)?;
     push_if(&mut codes, !standing.is_own && !named, Code::Outside)?;
     push_if(&mut codes, named && has_own, Code::TwoWorkspaces)?;
@@ -117,41 +115,18 @@ pub fn has_no_target<M>(manifest: &Manifest<M>) -> bool
 }
 
 /// Whether some dependency has `workspace = false`.
-fn is_not_inherited<M>(manifest: &Manifest<M>) -> bool
-    ensures { result ≡ is_not_inherited (all_by_kind (held manifest.now)) }
+fn has_no_source<M>(alloc: Global, manifest: &Manifest<M>) -> Result<bool, AllocError>
+    ensures { IfOk result (λ b. b ≡ is_not_inherited (entries_of (held manifest.now))) }
 {
-    let own = Tables {
-        normal: &manifest.dependencies,
-        dev: &manifest.dev_dependencies,
-        build: &manifest.build_dependencies,
-    };
-    if any_table(own) {
-        return true;
-    }
-    for (_, target) in &manifest.target {
-        let tables = Tables {
-            normal: &target.dependencies,
-            dev: &target.dev_dependencies,
-            build: &target.build_dependencies,
-        };
-        if any_table(tables) {
-            return true;
-        }
-    }
-    false
+    let entries = entries(alloc, manifest)?;
+    Ok(is_not_inherited(entries.as_slice()))
 }
 
-fn any_table(tables: Tables<'_>) -> bool
-    ensures { result ≡ is_not_inherited (own_by_kind tables.entry) }
+fn is_not_inherited(entries: &[Entry<'_>]) -> bool
+    ensures { result ≡ is_not_inherited (map listed_of entries.now) }
 {
-    any_entry(tables.normal) || any_entry(tables.dev) || any_entry(tables.build)
-}
-
-fn any_entry(table: &DepsSet) -> bool
-    ensures { result ≡ list_any (λ e. is_false e.1) (entries_meaning table.now) }
-{
-    for (_, dependency) in table {
-        if is_false(dependency) {
+    for entry in entries {
+        if is_false(entry.dependency) {
             return true;
         }
     }

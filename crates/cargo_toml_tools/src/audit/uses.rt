@@ -2,78 +2,33 @@
 ghost use Rattle.std.specs.Prelude.{◌≡◌, IfOk, OnOk, map};
 ghost use Rattle.std.specs.List.{list_all};
 ghost use Rattle.std.specs.List.Sorted.{IsStrictlySortedBy};
-ghost use Rattle.cargo_toml.specs.Dependencies.{dependency_meaning};
-ghost use Rattle.cargo_toml.specs.Manifests.{held};
-ghost use Rattle.cargo_toml_dependencies.specs.Replacing.{entries_meaning};
-ghost use Rattle.cargo_toml_tools.specs.Checked.{own_by_kind};
-ghost use Rattle.cargo_toml_tools.specs.Indexed.{all_by_kind};
-ghost use Rattle.cargo_toml_tools.specs.Noted.{GainsUses, asked_by, asked_in, asked_in_all};
+ghost use Rattle.cargo_toml_tools.specs.Entries.{listed_of};
+ghost use Rattle.cargo_toml_tools.specs.Noted.{GainsUses, asked_by, asked_in};
 ghost use Rattle.cargo_toml_tools.specs.Noted.{asking_of, askings_of};
 ghost use Rattle.cargo_toml_tools.specs.Oddities.{Finds};
 ghost use Rattle.cargo_toml_tools.specs.Overall.{asking_cmp, has_same_requirement};
 ghost use Rattle.cargo_toml_tools.specs.Overall.{several_among, several_of};
 
+use super::entries::Entry;
 use super::{Code, Finding, Use};
 use crate::members::seen_from;
 use crate::requirement::required_version;
-use crate::tables::Tables;
-use cargo_toml::{Dependency, DepsSet, Manifest};
 use cargo_toml_write::write::requirement::requirement_text;
 use std::alloc::{AllocError, Global};
 use std::collections::BTreeSet;
 
 /// Adds what a member asks for by a requirement.
-pub fn add_uses<M>(
+pub fn add_uses(
     alloc: Global,
     folder: &str,
-    manifest: &Manifest<M>,
+    entries: &[Entry<'_>],
     uses: &mut BTreeSet<Use>,
 ) -> Result<(), AllocError>
     ensures { OnOk result
-        (GainsUses (asked_in_all folder.now (all_by_kind (held manifest.now))) uses.old uses.new) }
+        (GainsUses (asked_in folder.now (map listed_of entries.now)) uses.old uses.new) }
 {
-    let own = Tables {
-        normal: &manifest.dependencies,
-        dev: &manifest.dev_dependencies,
-        build: &manifest.build_dependencies,
-    };
-    add_tables(alloc, folder, own, uses)?;
-    for (_, target) in &manifest.target {
-        let tables = Tables {
-            normal: &target.dependencies,
-            dev: &target.dev_dependencies,
-            build: &target.build_dependencies,
-        };
-        add_tables(alloc, folder, tables, uses)?;
-    }
-    Ok(())
-}
-
-fn add_tables(
-    alloc: Global,
-    folder: &str,
-    tables: Tables<'_>,
-    uses: &mut BTreeSet<Use>,
-) -> Result<(), AllocError>
-    ensures { OnOk result
-        (GainsUses (asked_in_all folder.now (own_by_kind tables.entry)) uses.old uses.new) }
-{
-    add_table(alloc, folder, tables.normal, uses)?;
-    add_table(alloc, folder, tables.dev, uses)?;
-    add_table(alloc, folder, tables.build, uses)
-}
-
-fn add_table(
-    alloc: Global,
-    folder: &str,
-    table: &DepsSet,
-    uses: &mut BTreeSet<Use>,
-) -> Result<(), AllocError>
-    ensures { OnOk result
-        (GainsUses (asked_in folder.now (entries_meaning table.now)) uses.old uses.new) }
-{
-    for (key, dependency) in table {
-        add_use(alloc, folder, key.as_str(), dependency, uses)?;
+    for entry in entries {
+        add_use(alloc, folder, *entry, uses)?;
     }
     Ok(())
 }
@@ -82,18 +37,16 @@ fn add_table(
 fn add_use(
     alloc: Global,
     folder: &str,
-    key: &str,
-    dependency: &Dependency,
+    entry: Entry<'_>,
     uses: &mut BTreeSet<Use>,
 ) -> Result<(), AllocError>
     ensures { OnOk result
-        (GainsUses (asked_by folder.now (key.now, dependency_meaning dependency.now))
-        uses.old uses.new) }
+        (GainsUses (asked_by folder.now (listed_of entry.entry)) uses.old uses.new) }
 {
-    let Some(requirement) = required_version(dependency) else {
+    let Some(requirement) = required_version(entry.dependency) else {
         return Ok(());
     };
-    let name = dependency.package().unwrap_or(key);
+    let name = entry.dependency.package().unwrap_or(entry.key);
     let name = String::from_str(alloc, name)?;
     let requirement = requirement_text(alloc, requirement)?;
     let folder = String::from_str(alloc, folder)?;

@@ -1,10 +1,10 @@
 //! Patterns of names, as Cargo's globs have them: `*` is any text, `?` any one character, `[ab]`,
 //! `[a-c]` and `[!a]` one of some characters. `**` is none of these: it stands for any folders.
-ghost use Rattle.std.specs.Prelude.{◌≡◌, ◌∷◌, IfOk, OnOk, false, map, option_map};
+ghost use Rattle.std.specs.Prelude.{◌≡◌, ◌∷◌, IfOk, OnOk, false, get_or, map, option_map};
 ghost use Rattle.std.specs.Str.{chars};
 ghost use Rattle.cargo_toml_tools.specs.Patterns.{accepts, bracketed, is_among, is_deep, is_many};
-ghost use Rattle.cargo_toml_tools.specs.Patterns.{is_pattern, matches, part_of, parts_of, read_all};
-ghost use Rattle.cargo_toml_tools.specs.Patterns.{read_in_brackets, read_more, read_of, read_plain};
+ghost use Rattle.cargo_toml_tools.specs.Patterns.{is_pattern, is_sign, matches, part_of, parts_of};
+ghost use Rattle.cargo_toml_tools.specs.Patterns.{read_all, read_in_brackets, read_more, read_of, read_plain};
 ghost use Rattle.cargo_toml_tools.specs.Patterns.{whole_parts};
 ghost use Rattle.cargo_toml_tools.specs.Rows.{next, scan, shift};
 
@@ -60,7 +60,18 @@ pub fn is_deep(name: &str) -> bool
 pub fn is_pattern(name: &str) -> bool
     ensures { result ≡ is_pattern name.now }
 {
-    name.chars().any(|c| c == '*' || c == '?' || c == '[')
+    for byte in name.as_bytes() {
+        if is_sign(*byte) {
+            return true;
+        }
+    }
+    false
+}
+
+fn is_sign(byte: u8) -> bool
+    ensures { result ≡ is_sign byte }
+{
+    byte == b'*' || byte == b'?' || byte == b'['
 }
 
 /// The parts of a pattern; none where Cargo takes it for no pattern.
@@ -68,9 +79,16 @@ pub fn tokens_of(alloc: Global, name: &str) -> Result<Option<Vec<Token>>, AllocE
     ensures { IfOk result (λ tokens. option_map (λ v. map part_of v.items) tokens
         ≡ parts_of (chars name.now)) }
 {
-    let characters: Vec<char> = name.chars().collect(alloc)?;
+    let characters = characters(alloc, name)?;
     let reading = read(alloc, characters.as_slice())?;
     Ok(reading.tokens_if_whole())
+}
+
+fn characters(alloc: Global, text: &str) -> Result<Vec<char>, AllocError>
+    ensures { IfOk result (λ v. v.items ≡ chars text.now) }
+{
+    let characters: Vec<char> = text.chars().collect(alloc)?;
+    Ok(characters)
 }
 
 fn read(alloc: Global, characters: &[char]) -> Result<Reading, AllocError>
@@ -173,7 +191,7 @@ fn bracketed(is_other: bool, content: Vec<char>) -> Token
 pub fn matches(alloc: Global, pattern: &[Token], name: &str) -> Result<bool, AllocError>
     ensures { IfOk result (λ b. b ≡ matches (map part_of pattern.now) (chars name.now)) }
 {
-    let mut name: Vec<char> = name.chars().collect(alloc)?;
+    let mut name = characters(alloc, name)?;
     name.reverse();
     let name = name.as_slice();
     // whether what was taken of the pattern, from its end on, matches so many characters from the
@@ -184,7 +202,16 @@ pub fn matches(alloc: Global, pattern: &[Token], name: &str) -> Result<bool, All
         let k = pattern.len() - 1 - taken;
         reached = one_more(alloc, reached.as_slice(), name, &pattern[k])?;
     }
-    Ok(reached.get(name.len()).copied().unwrap_or(false))
+    Ok(is_set(reached.as_slice(), name.len()))
+}
+
+fn is_set(reached: &[bool], at: usize) -> bool
+    ensures { result ≡ get_or reached.now at false }
+{
+    if at >= reached.len() {
+        return false;
+    }
+    reached[at]
 }
 
 /// What is reached with one more part of the pattern.

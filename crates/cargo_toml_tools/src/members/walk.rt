@@ -1,17 +1,17 @@
 //! The folders that an entry of `members` leads to, as Cargo's globs find them.
 //!
-//! What the system is asked, and what it answers, is noted. So a clause speaks of any disk that
-//! answers so.
-ghost use Rattle.std.specs.Prelude.{◌≡◌, ◌++◌, ◌∷◌, [], IfOk, OnOk, Some, false, map};
-ghost use Rattle.std.specs.Prelude.{string_bytes};
-ghost use Rattle.std.specs.IoError.{error_kind};
+//! What the system answers is kept, and it is asked once of each path. So a clause speaks of any disk
+//! that answers so.
+ghost use Rattle.std.specs.Prelude.{◌≡◌, ◌++◌, ◌&&◌, ◌∷◌, [], IfOk, OnOk, false, map};
+ghost use Rattle.std.specs.Prelude.{not, string_bytes};
+ghost use Rattle.std.specs.BTreeMap.{IsEmpty};
 ghost use Rattle.std.specs.List.{flat_map};
 ghost use Rattle.cargo_toml.specs.RealFiles.{is_absent};
 ghost use Rattle.cargo_toml_tools.specs.MemberFolders.{Adds, Leads, Tells, all_from, begins_at};
 ghost use Rattle.cargo_toml_tools.specs.MemberFolders.{begins_with_dot, by_found, by_link, dots_if};
 ghost use Rattle.cargo_toml_tools.specs.MemberFolders.{folder_if, further, is_folder, is_plain};
-ghost use Rattle.cargo_toml_tools.specs.MemberFolders.{is_there, led};
-ghost use Rattle.cargo_toml_tools.specs.MemberFolders.{led_to, matched, named_so, names_told};
+ghost use Rattle.cargo_toml_tools.specs.MemberFolders.{is_there, led, levels};
+ghost use Rattle.cargo_toml_tools.specs.MemberFolders.{led_to, matched, named_so};
 ghost use Rattle.cargo_toml_tools.specs.MemberFolders.{path_if, place_if, places_of, skips, subfolders};
 ghost use Rattle.cargo_toml_tools.specs.MemberFolders.{with_below};
 ghost use Rattle.cargo_toml_tools.specs.Patterns.{part_of};
@@ -20,6 +20,7 @@ ghost use Rattle.cargo_toml_tools.specs.Places.{place_of};
 use super::patterns::{Token, is_deep, is_pattern, matches, tokens_of};
 use super::places::{normalized, path_below, pieces, place_of};
 use std::alloc::{AllocError, Global};
+use std::collections::BTreeMap;
 use std::rt::Files;
 use std::{fs, io};
 
@@ -36,41 +37,58 @@ pub enum There {
     Unseen,
 }
 
-/// What the system answered.
+/// The names of what lies in a folder, and whether it could be read to its end.
 #[derive(Debug, Drop)]
-pub enum Answer {
-    /// What lies at the path.
-    There(There),
-    /// The names of what lies in the folder.
-    Names(Vec<String>),
-    /// The folder couldn't be read to its end. These names were read.
-    Denied(Vec<String>),
+pub struct Listing {
+    pub names: Vec<String>,
+    pub is_whole: bool,
 }
 
-/// A path that the system was asked about, and its answer.
+/// What the system answered of paths. It is asked once of each.
 #[derive(Debug, Drop)]
-pub struct Look {
-    pub path: String,
-    pub answer: Answer,
+pub struct Looks {
+    /// What lies at a path.
+    pub there: BTreeMap<String, There>,
+    /// What lies in a folder.
+    pub names: BTreeMap<String, Listing>,
+}
+
+impl Looks {
+    /// Nothing was asked yet.
+    pub fn new(alloc: Global) -> Looks
+        ensures there { IsEmpty result.there }
+        ensures names { IsEmpty result.names }
+    {
+        Looks {
+            there: BTreeMap::new(alloc),
+            names: BTreeMap::new(alloc),
+        }
+    }
 }
 
 /// What lies at a path.
 pub fn look_at<R: Files + AllocGlobal>(
     rt: &R,
-    looks: &mut Vec<Look>,
+    looks: &mut Looks,
     path: &str,
 ) -> Result<There, AllocError>
-    ensures { IfOk result
-        (λ t. Tells (λ d. d.there path.now) looks.old.items looks.new.items t) }
+    ensures { IfOk result (λ t. Tells (λ d. d.there path.now) looks.old looks.new t) }
 {
-    let there = match fs::metadata(rt, path) {
+    if let Some(there) = looks.there.get(path) {
+        return Ok(*there);
+    }
+    let there = asked(rt, path);
+    looks
+        .there
+        .insert(String::from_str(rt.alloc(), path)?, there)?;
+    Ok(there)
+}
+
+fn asked<R: Files>(rt: &R, path: &str) -> There {
+    match fs::metadata(rt, path) {
         Ok(found) => of_found(&found),
         Err(fault) => of_link(fault.kind(), fs::symlink_metadata(rt, path)),
-    };
-    let path = String::from_str(rt.alloc(), path)?;
-    let answer = Answer::There(there);
-    looks.push(Look { path, answer })?;
-    Ok(there)
+    }
 }
 
 /// What lies at a path of which the system answers this.
@@ -105,43 +123,33 @@ fn is_absent(kind: io::ErrorKind) -> bool
 /// The names of what lies in a folder, as far as it can be read.
 fn names_in<R: Files + AllocGlobal>(
     rt: &R,
-    looks: &mut Vec<Look>,
+    looks: &mut Looks,
     folder: &str,
 ) -> Result<Vec<String>, AllocError>
     ensures { IfOk result (λ names. Tells (λ d. d.names folder.now)
-        looks.old.items looks.new.items (map string_bytes names.items)) }
+        looks.old looks.new (map string_bytes names.items)) }
 {
-    let mut names = Vec::new(rt.alloc());
-    let is_whole = read_names(rt, folder, &mut names)?;
-    let path = String::from_str(rt.alloc(), folder)?;
-    let answer = answer_of(rt.alloc(), names.as_slice(), is_whole)?;
-    looks.push(Look { path, answer })?;
+    if let Some(listing) = looks.names.get(folder) {
+        return copied(rt.alloc(), listing.names.as_slice());
+    }
+    let listing = listed_in(rt, folder)?;
+    let names = copied(rt.alloc(), listing.names.as_slice())?;
+    looks
+        .names
+        .insert(String::from_str(rt.alloc(), folder)?, listing)?;
     Ok(names)
 }
 
-/// The answer that has these names, which are all or not.
-fn answer_of(alloc: Global, names: &[String], is_whole: bool) -> Result<Answer, AllocError>
-    ensures { IfOk result (λ a. names_told a ≡ Some (map string_bytes names.now)) }
-{
-    let names = copied(alloc, names)?;
-    Ok(if is_whole {
-        Answer::Names(names)
-    } else {
-        Answer::Denied(names)
-    })
-}
-
-/// Reads the names of what lies in a folder, and tells whether that goes to the end. A name that is
-/// no UTF-8 is passed over.
-fn read_names<R: Files + AllocGlobal>(
-    rt: &R,
-    folder: &str,
-    names: &mut Vec<String>,
-) -> Result<bool, AllocError> {
-    let Ok(entries) = fs::read_dir(&rt, folder) else {
-        return Ok(false);
-    };
+/// Reads the names of what lies in a folder. A name that is no UTF-8 is passed over.
+fn listed_in<R: Files + AllocGlobal>(rt: &R, folder: &str) -> Result<Listing, AllocError> {
+    let mut names = Vec::new(rt.alloc());
     let mut is_whole = true;
+    let Ok(entries) = fs::read_dir(&rt, folder) else {
+        return Ok(Listing {
+            names,
+            is_whole: false,
+        });
+    };
     for entry in entries {
         match entry {
             Ok(entry) => names.push(String::from_str(rt.alloc(), entry.file_name())?)?,
@@ -149,7 +157,7 @@ fn read_names<R: Files + AllocGlobal>(
             Err(_) => is_whole = false,
         }
     }
-    Ok(is_whole)
+    Ok(Listing { names, is_whole })
 }
 
 fn copied(alloc: Global, texts: &[String]) -> Result<Vec<String>, AllocError>
@@ -173,15 +181,15 @@ struct Step {
 /// nothing lies there, it stands for itself.
 pub fn places_of<R: Files + AllocGlobal>(
     rt: &R,
-    looks: &mut Vec<Look>,
+    looks: &mut Looks,
     root: &str,
     entry: &str,
 ) -> Result<Vec<String>, AllocError>
     ensures { IfOk result (λ places. Tells (λ d. places_of d root.now entry.now)
-        looks.old.items looks.new.items (map string_bytes places.items)) }
+        looks.old looks.new (map string_bytes places.items)) }
 {
     let found = led_to(rt, looks, root, entry)?;
-    if found.is_empty() {
+    if found.as_slice().is_empty() {
         return itself(rt.alloc(), root, entry);
     }
     folders_among(rt, looks, found.as_slice())
@@ -200,11 +208,11 @@ fn itself(alloc: Global, root: &str, entry: &str) -> Result<Vec<String>, AllocEr
 /// The places of those paths where a folder lies.
 fn folders_among<R: Files + AllocGlobal>(
     rt: &R,
-    looks: &mut Vec<Look>,
+    looks: &mut Looks,
     paths: &[String],
 ) -> Result<Vec<String>, AllocError>
     ensures { IfOk result (λ places. Tells (λ d. flat_map (place_if d) (map string_bytes paths.now))
-        looks.old.items looks.new.items (map string_bytes places.items)) }
+        looks.old looks.new (map string_bytes places.items)) }
 {
     let mut places = Vec::new(rt.alloc());
     for path in paths {
@@ -216,12 +224,12 @@ fn folders_among<R: Files + AllocGlobal>(
 /// Adds the place of a path, where a folder lies there.
 fn add_place<R: Files + AllocGlobal>(
     rt: &R,
-    looks: &mut Vec<Look>,
+    looks: &mut Looks,
     path: &str,
     places: &mut Vec<String>,
 ) -> Result<(), AllocError>
     ensures { OnOk result (Adds (λ d. place_if d path.now)
-        looks.old.items looks.new.items places.old.items places.new.items) }
+        looks.old looks.new places.old.items places.new.items) }
 {
     if !is_folder(look_at(rt, looks, path)?) {
         return Ok(());
@@ -245,12 +253,12 @@ fn is_there(there: There) -> bool
 /// What lies where the names of an entry lead.
 fn led_to<R: Files + AllocGlobal>(
     rt: &R,
-    looks: &mut Vec<Look>,
+    looks: &mut Looks,
     root: &str,
     entry: &str,
 ) -> Result<Vec<String>, AllocError>
     ensures { IfOk result (λ paths. Tells (λ d. led_to d root.now entry.now)
-        looks.old.items looks.new.items (map string_bytes paths.items)) }
+        looks.old looks.new (map string_bytes paths.items)) }
 {
     let names = pieces(rt.alloc(), entry)?;
     let mut step = begun(rt.alloc(), root, entry)?;
@@ -263,12 +271,12 @@ fn led_to<R: Files + AllocGlobal>(
 /// Where the names of an entry led at last.
 fn ended<R: Files + AllocGlobal>(
     rt: &R,
-    looks: &mut Vec<Look>,
+    looks: &mut Looks,
     step: Step,
 ) -> Result<Vec<String>, AllocError>
     ensures { IfOk result
         (λ paths. Tells (λ d. led d step.is_deep (map string_bytes step.paths.items) [])
-        looks.old.items looks.new.items (map string_bytes paths.items)) }
+        looks.old looks.new (map string_bytes paths.items)) }
 {
     let Step {
         paths,
@@ -298,12 +306,12 @@ fn begun(alloc: Global, root: &str, entry: &str) -> Result<Step, AllocError>
 /// Goes one name of an entry further.
 fn one_further<R: Files + AllocGlobal>(
     rt: &R,
-    looks: &mut Vec<Look>,
+    looks: &mut Looks,
     step: Step,
     name: &str,
 ) -> Result<Step, AllocError>
     ensures { IfOk result (λ next. Leads name.now
-        looks.old.items looks.new.items step next) }
+        looks.old looks.new step next) }
 {
     let Step {
         paths,
@@ -336,12 +344,12 @@ fn skips(name: &str, is_behind: bool) -> bool
 /// These folders, and right behind `**` all below them.
 fn all_from<R: Files + AllocGlobal>(
     rt: &R,
-    looks: &mut Vec<Look>,
+    looks: &mut Looks,
     paths: Vec<String>,
     is_behind: bool,
 ) -> Result<Vec<String>, AllocError>
     ensures { IfOk result (λ all. Tells (λ d. all_from d is_behind (map string_bytes paths.items))
-        looks.old.items looks.new.items (map string_bytes all.items)) }
+        looks.old looks.new (map string_bytes all.items)) }
 {
     if !is_behind {
         return Ok(paths);
@@ -352,13 +360,13 @@ fn all_from<R: Files + AllocGlobal>(
 /// Adds what a name leads to from a folder, at times right behind `**`.
 fn add_further<R: Files + AllocGlobal>(
     rt: &R,
-    looks: &mut Vec<Look>,
+    looks: &mut Looks,
     from: (&str, bool),
     name: &str,
     all: &mut Vec<String>,
 ) -> Result<(), AllocError>
     ensures { OnOk result (Adds (λ d. further d from.entry.1 name.now from.entry.0.now)
-        looks.old.items looks.new.items all.old.items all.new.items) }
+        looks.old looks.new all.old.items all.new.items) }
 {
     if is_plain(name, from.1) {
         return add_if_there(rt, looks, path_below(rt.alloc(), from.0, name)?, all);
@@ -379,12 +387,12 @@ fn is_plain(name: &str, is_behind: bool) -> bool
 /// Adds a path where something lies.
 fn add_if_there<R: Files + AllocGlobal>(
     rt: &R,
-    looks: &mut Vec<Look>,
+    looks: &mut Looks,
     path: String,
     all: &mut Vec<String>,
 ) -> Result<(), AllocError>
     ensures { OnOk result (Adds (λ d. path_if d (string_bytes path))
-        looks.old.items looks.new.items all.old.items all.new.items) }
+        looks.old looks.new all.old.items all.new.items) }
 {
     if !is_there(look_at(rt, looks, path.as_str())?) {
         return Ok(());
@@ -396,19 +404,19 @@ fn add_if_there<R: Files + AllocGlobal>(
 /// Adds what lies in a folder and has a name that the pattern matches.
 fn add_matched<R: Files + AllocGlobal>(
     rt: &R,
-    looks: &mut Vec<Look>,
+    looks: &mut Looks,
     from: (&str, bool),
     pattern: &[Token],
     all: &mut Vec<String>,
 ) -> Result<(), AllocError>
     ensures { OnOk result (Adds (λ d. matched d from.entry.1 (map part_of pattern.now) from.entry.0.now)
-        looks.old.items looks.new.items all.old.items all.new.items) }
+        looks.old looks.new all.old.items all.new.items) }
 {
     if !is_folder(look_at(rt, looks, from.0)?) {
         return Ok(());
     }
     let names = names_in(rt, looks, from.0)?;
-    let names = with_dots(rt.alloc(), names, !from.1 && begins_with_dot(pattern))?;
+    let names = with_dots(rt.alloc(), names, wants_dots(pattern, from.1))?;
     add_named(rt.alloc(), from.0, pattern, names.as_slice(), all)
 }
 
@@ -426,11 +434,11 @@ fn with_dots(alloc: Global, names: Vec<String>, wants_dots: bool) -> Result<Vec<
     Ok(names)
 }
 
-/// Whether a pattern begins with a dot. Then it stands for `.` and `..` too.
-fn begins_with_dot(pattern: &[Token]) -> bool
-    ensures { result ≡ begins_with_dot (map part_of pattern.now) }
+/// Whether a pattern stands for `.` and `..` too: it begins with a dot, and isn't right behind `**`.
+fn wants_dots(pattern: &[Token], is_behind: bool) -> bool
+    ensures { result ≡ (not is_behind && begins_with_dot (map part_of pattern.now)) }
 {
-    matches!(pattern, [Token::Just('.'), ..])
+    !is_behind && matches!(pattern, [Token::Just('.'), ..])
 }
 
 /// Adds the paths of those names in a folder that the pattern matches.
@@ -460,15 +468,28 @@ const MAX_DEPTH: usize = 2048;
 /// Folders, and all below them.
 fn with_below<R: Files + AllocGlobal>(
     rt: &R,
-    looks: &mut Vec<Look>,
+    looks: &mut Looks,
     folders: Vec<String>,
 ) -> Result<Vec<String>, AllocError>
     ensures { IfOk result (λ all. Tells (λ d. with_below d (map string_bytes folders.items))
-        looks.old.items looks.new.items (map string_bytes all.items)) }
+        looks.old looks.new (map string_bytes all.items)) }
+{
+    below(rt, looks, folders, MAX_DEPTH)
+}
+
+/// So many levels of folders, from these on.
+fn below<R: Files + AllocGlobal>(
+    rt: &R,
+    looks: &mut Looks,
+    folders: Vec<String>,
+    depths: usize,
+) -> Result<Vec<String>, AllocError>
+    ensures { IfOk result (λ all. Tells (λ d. levels d depths (map string_bytes folders.items))
+        looks.old looks.new (map string_bytes all.items)) }
 {
     let mut level = folders;
     let mut all = Vec::new(rt.alloc());
-    for depth in 0..MAX_DEPTH {
+    for depth in 0..depths {
         let next = subfolders(rt, looks, level.as_slice())?;
         all.append(&mut level)?;
         level = next;
@@ -479,11 +500,11 @@ fn with_below<R: Files + AllocGlobal>(
 /// The folders that lie right in these.
 fn subfolders<R: Files + AllocGlobal>(
     rt: &R,
-    looks: &mut Vec<Look>,
+    looks: &mut Looks,
     folders: &[String],
 ) -> Result<Vec<String>, AllocError>
     ensures { IfOk result (λ all. Tells (λ d. flat_map (subfolders d) (map string_bytes folders.now))
-        looks.old.items looks.new.items (map string_bytes all.items)) }
+        looks.old looks.new (map string_bytes all.items)) }
 {
     let mut all = Vec::new(rt.alloc());
     for folder in folders {
@@ -494,12 +515,12 @@ fn subfolders<R: Files + AllocGlobal>(
 
 fn add_subfolders<R: Files + AllocGlobal>(
     rt: &R,
-    looks: &mut Vec<Look>,
+    looks: &mut Looks,
     folder: &str,
     all: &mut Vec<String>,
 ) -> Result<(), AllocError>
     ensures { OnOk result (Adds (λ d. subfolders d folder.now)
-        looks.old.items looks.new.items all.old.items all.new.items) }
+        looks.old looks.new all.old.items all.new.items) }
 {
     if !is_folder(look_at(rt, looks, folder)?) {
         return Ok(());
@@ -515,12 +536,12 @@ fn add_subfolders<R: Files + AllocGlobal>(
 /// Adds a path where a folder lies.
 fn add_folder<R: Files + AllocGlobal>(
     rt: &R,
-    looks: &mut Vec<Look>,
+    looks: &mut Looks,
     path: String,
     all: &mut Vec<String>,
 ) -> Result<(), AllocError>
     ensures { OnOk result (Adds (λ d. folder_if d (string_bytes path))
-        looks.old.items looks.new.items all.old.items all.new.items) }
+        looks.old looks.new all.old.items all.new.items) }
 {
     if !is_folder(look_at(rt, looks, path.as_str())?) {
         return Ok(());

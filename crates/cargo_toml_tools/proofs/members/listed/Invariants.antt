@@ -7,4 +7,4 @@ use Rattle.cargo_toml_tools.proofs.members.listed.Given as goal
 abbrev pub invariant-loop-entry : goal.invariant-loop-entry
 invariant-loop-entry g l =
     Walks (λ d. places_if_right d l.root) (λ d. flat_map (places_if_right d l.root) (map string_bytes l.entries))
-    l.fn.looks.items l.looks.items (map string_bytes (drop l.entry-index l.entries)) l.all.items
+    l.fn.looks l.looks (map string_bytes (drop l.entry-index l.entries)) l.all.items

@@ -20,14 +20,15 @@ returns-clause-found g c =
     let old = c.args.self.now in
     let es = map_meaning dependency_meaning c.args.workspace.now.dependencies in
     let unused = finds_same UnusedDependency _ _ _ (unused_among (contains_text old.inherited) es)
-    (ap (map string_bytes) c.as_slice-2.ensures.value ∙ c.in_ok-unused.ensures) c.in_ok-find_all.ensures.found in
+    (ap (map string_bytes) c.as_slice-3.ensures.value ∙ c.in_ok-unused.ensures) c.in_ok-find_all.ensures.found in
     let optional = finds_same OptionalShared _ _ _ (optional_among es)
-    (ap (map string_bytes) c.as_slice-3.ensures.value ∙ c.in_ok-optional.ensures) c.in_ok-find_all-2.ensures.found in
+    (ap (map string_bytes) c.as_slice-4.ensures.value ∙ c.in_ok-optional.ensures) c.in_ok-find_all-2.ensures.found in
     let same = finds_same SameName _ _ _ (repeats (member_names old))
-    (ap (map string_bytes) c.as_slice-4.ensures.value ∙ c.in_ok-same.ensures
-    ∙ ap repeats (ap (map string_bytes) c.as_slice-in_ok-names.ensures.value ∙ c.in_ok-names.ensures
+    (ap (map string_bytes) c.as_slice-5.ensures.value ∙ c.in_ok-same.ensures
+    ∙ ap repeats (ap (map string_bytes) c.as_slice-2.ensures.value ∙ c.in_ok-names.ensures
     ∙ ap (map (λ m. string_bytes m.name)) c.as_slice.ensures.value)) c.in_ok-find_all-3.ensures.found in
-    let rest = still _ _ _ (still _ _ _ c.in_ok-find_all.ensures.rest c.in_ok-find_all-2.ensures.rest) c.in_ok-find_all-3.ensures.rest in
+    let rest = still c.args.self.now c.find_all-2.new.self c.find_all-3.new.self
+    (still c.args.self.now c.find_all.new.self c.find_all-2.new.self c.in_ok-find_all.ensures.rest c.in_ok-find_all-2.ensures.rest) c.in_ok-find_all-3.ensures.rest in
     on_ok_weaker c.add_requirements.result
     (λ more. grows_on _ _ _ _ _ unused (grows_on _ _ _ _ _ optional (grows_on _ _ _ _ _ same
     (more ∙ ap (λ (a : Audit). oddities_of c.find_all-3.new.self.findings ++ several_among (askings_of a.uses)) rest))))
@@ -35,7 +36,8 @@ returns-clause-found g c =
 
 pub returns-clause-ordered : goal.returns-clause-ordered
 returns-clause-ordered g c =
-    let rest = still _ _ _ (still _ _ _ c.in_ok-find_all.ensures.rest c.in_ok-find_all-2.ensures.rest) c.in_ok-find_all-3.ensures.rest in
+    let rest = still c.args.self.now c.find_all-2.new.self c.find_all-3.new.self
+    (still c.args.self.now c.find_all.new.self c.find_all-2.new.self c.in_ok-find_all.ensures.rest c.in_ok-find_all-2.ensures.rest) c.in_ok-find_all-3.ensures.rest in
     on_ok_weaker c.add_requirements.result
     (λ up. subst (λ (asked : List Asking). IsStrictlySortedBy asking_cmp asked) (ap (λ (a : Audit). askings_of a.uses) rest) up)
     c.add_requirements.ensures.ordered

@@ -22,9 +22,19 @@ loop-taken-preserved c =
     let i = c.loop-taken.taken in
     let w = part_of c.index-pattern-k.result in
     c.in_ok-reached-2.ensures
-    ∙ ap (λ t. next (is_many w) w t cs) (c.as_slice-reached.ensures.value ∙ c.loop-taken.invariant)
+    ∙ ap (λ t. next (is_many w) w t cs) (c.as_slice.ensures.value ∙ c.loop-taken.invariant)
     ∙ next_row (is_many w) w (matches (map part_of (drop (length ps - i) ps))) cs
     ∙ ap (λ (ws : List Part). row (matches ws) [] cs) (sym (back_next part_of ps i _ c.index-pattern-k.result (omega arith) (omega arith) c.index-pattern-k.is))
 
 pub returns : goal.returns
-returns c = ?
+returns c =
+    let cs = c.as_slice-name.result.now in
+    let ps = c.args.pattern.now in
+    let none : length ps - c.loop-taken.taken ≡ 0 = omega (arith, c.loop-taken-test.false) in
+    let back : reverse cs ≡ chars c.args.name.now =
+    ap reverse (c.as_slice-name.ensures.value ∙ c.reverse.ensures.items ∙ ap reverse c.in_ok-name.ensures) ∙ reverse-reverse (chars c.args.name.now) in
+    c.is_set.ensures
+    ∙ ap (λ xs. get_or xs (length cs) false) (c.as_slice-2.ensures.value ∙ c.loop-taken.invariant
+    ∙ ap (λ n. row (matches (map part_of (drop n ps))) [] cs) none)
+    ∙ last_row (matches (map part_of ps)) cs false
+    ∙ ap (matches (map part_of ps)) back

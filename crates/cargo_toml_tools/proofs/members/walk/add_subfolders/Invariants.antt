@@ -9,4 +9,4 @@ abbrev pub invariant-loop-name : goal.invariant-loop-name
 invariant-loop-name g l =
     Walks (λ d name. folder_if d (path_below l.folder name))
     (λ d. map string_bytes l.fn.all.items ++ flat_map (λ name. folder_if d (path_below l.folder name)) (map string_bytes l.name-items))
-    l.initial.looks.items l.looks.items (map string_bytes (drop l.name-index l.name-items)) l.all.items
+    l.initial.looks l.looks (map string_bytes (drop l.name-index l.name-items)) l.all.items

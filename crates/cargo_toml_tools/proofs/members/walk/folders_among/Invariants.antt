@@ -7,4 +7,4 @@ use Rattle.cargo_toml_tools.proofs.members.walk.folders_among.Given as goal
 abbrev pub invariant-loop-path : goal.invariant-loop-path
 invariant-loop-path g l =
     Walks place_if (λ d. flat_map (place_if d) (map string_bytes l.paths))
-    l.fn.looks.items l.looks.items (map string_bytes (drop l.path-index l.paths)) l.places.items
+    l.fn.looks l.looks (map string_bytes (drop l.path-index l.paths)) l.places.items

@@ -7,4 +7,4 @@ use Rattle.cargo_toml_tools.proofs.members.walk.one_further.Given as goal
 abbrev pub invariant-loop-folder : goal.invariant-loop-folder
 invariant-loop-folder g l =
     Walks (λ d. further d l.is_behind l.name) (λ d. flat_map (further d l.is_behind l.name) (map string_bytes l.folder-items))
-    l.initial.looks.items l.looks.items (map string_bytes (drop l.folder-index l.folder-items)) l.all.items
+    l.initial.looks l.looks (map string_bytes (drop l.folder-index l.folder-items)) l.all.items

@@ -7,4 +7,4 @@ use Rattle.cargo_toml_tools.proofs.members.walk.subfolders.Given as goal
 abbrev pub invariant-loop-folder : goal.invariant-loop-folder
 invariant-loop-folder g l =
     Walks subfolders (λ d. flat_map (subfolders d) (map string_bytes l.folders))
-    l.fn.looks.items l.looks.items (map string_bytes (drop l.folder-index l.folders)) l.all.items
+    l.fn.looks l.looks (map string_bytes (drop l.folder-index l.folders)) l.all.items

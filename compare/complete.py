@@ -61,7 +61,8 @@ class Completions(Workspaces):
     def add_files(self, folder):
         files = [name for name in ALONE if self.happens(0.3)]
         for inner in KINDS.values():
-            for name in self.some(NAMES, 3):
+            # one file for a name: of two, the original takes any
+            for name in {name.removesuffix(".rs"): name for name in self.some(NAMES, 3)}.values():
                 form = self.random.choice(["/{0}.rs", "/{0}/main.rs", "/{0}"])
                 files.append(inner + form.format(name))
         for file in files:

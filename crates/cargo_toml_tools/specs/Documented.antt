@@ -53,7 +53,8 @@ module _ {S : Type 0} (t : Table) (m : HashMap (Bor Text) Feature S) where
 
   -- what is reached from f: the others, and what all of them do to each dependency, joined
   pub record IsReachedFrom (f : Text) (r : Reached) : Type 0 where
-    pub features : (x : Text) → IsTrue (set_has r.features x) ↔ (IsOn f x × IsTrue (is_beside m f x))
+    pub features : (x : Text) → IsTrue (set_has r.features x)
+        ↔ (IsOn f x × IsTrue (is_beside m f x))
     pub actions : (k : Text) → IsJoin (ActsOf m (IsOn f) k) (action_at r.actions k)
 
   -- the row tells of the feature v

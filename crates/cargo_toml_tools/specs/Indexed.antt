@@ -208,7 +208,8 @@ in_package key ms = option_and_then (get_member key) (table_in (codes "package")
 abbrev pub version_refusal : Members → Inheritable Parts → Option Refusal
 version_refusal document Inherited = Some (fault.Incomplete, codes "version")
 version_refusal document (Set v) =
-    refuse_if (is_zero (Set v) && is_none (in_package (codes "version") document)) fault.NoVersion []
+    refuse_if (is_zero (Set v) && is_none (in_package (codes "version") document))
+    fault.NoVersion []
 
 -- a name is that of the registry with this address
 abbrev pub is_named : Text → List (Text × Text) → Text → Bool

@@ -17,8 +17,8 @@ pub record IsLinted {T : Type 0} (took : T → List Finding → T → Type 0) (o
   pub exact : AreFindingsOf (held manifest) findings
   pub taken : took old findings new
 
--- some text reads as a manifest, and one of the findings of that is an error or a warning just where
--- this is set
+-- some text reads as a manifest, and one of the findings of that is an error or a warning just
+-- where this is set
 pub record IsFlagged (flag : Bool) : Type 0 where
   pub text : Text
   pub manifest : Manifest Value

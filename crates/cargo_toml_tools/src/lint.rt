@@ -21,8 +21,8 @@ pub trait TakesFindings {
 
 /// Findings as lines, and whether one is an error or a warning.
 ///
-/// A line is `LEVEL | CODE | FEATURE | TEXT | words`, and begins with the name of the file where one
-/// is given.
+/// A line is `LEVEL | CODE | FEATURE | TEXT | words`, and begins with the name of the file where
+/// one is given.
 #[derive(Drop)]
 pub struct Lines<'a> {
     /// The lines.

@@ -73,7 +73,8 @@ impl fmt::Display for Fault {
 }
 
 /// The line that an index has of the crate of this file, which is completed first: an object of
-/// JSON. Refused where the file can't be read or completed as a manifest, or has what no index takes.
+/// JSON. Refused where the file can't be read or completed as a manifest, or has what no index
+/// takes.
 pub fn index_line<R: Files + RandomSource + AllocGlobal>(
     rt: &R,
     file: &str,

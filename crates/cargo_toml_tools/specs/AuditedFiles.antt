@@ -347,6 +347,8 @@ module _ (base : Base) where
   all_found looks readings asked audit =
       map (oddity_with ListedTwice) (repeats (entered_places (disk_of looks)))
       ++ (map (oddity_with BadPattern) (filter is_wrong member_entries)
+      ++ (map (oddity_with BadPattern)
+      (filter is_wrong (map string_bytes base.workspace.default_members.items))
       ++ (flat_map (λ r. found_of r.place r.content) readings
       ++ (map (oddity_with Unlisted)
       (filter (λ p. not (is_in (member_places readings) p)) (asked ∷ []))
@@ -355,7 +357,7 @@ module _ (base : Base) where
       is_excluded (places_if_right (disk_of looks) base.place))
       (map string_bytes base.workspace.default_members.items))
       ++ (map (oddity_with Unseen) (unseen looks)
-      ++ overall_oddities (map_meaning dependency_meaning base.workspace.dependencies) audit)))))
+      ++ overall_oddities (map_meaning dependency_meaning base.workspace.dependencies) audit))))))
 
   -- by what the system answered, and by what was read of all that is looked at
   pub record IsReport (asked : Text) (audit : Audit) : Type 0 where

@@ -95,6 +95,8 @@ fn report_on<R: Files + Eprint + RandomSource + AllocGlobal>(
     audit.find_all(Code::ListedTwice, twice.as_slice())?;
     let wrong = wrong_entries(alloc, entries)?;
     audit.find_all(Code::BadPattern, wrong.as_slice())?;
+    let wrong = wrong_entries(alloc, root.workspace.default_members.as_slice())?;
+    audit.find_all(Code::BadPattern, wrong.as_slice())?;
     first.push(String::from_str(alloc, root.place)?)?;
     let members = add_members(rt, root, first, &mut audit, shows)?;
     audit.find_if(Code::Unlisted, !members.contains(asked), asked)?;

@@ -1,6 +1,7 @@
 -- What a resolver answers, by its filter and at its limit.
 use Rattle.std.proofs.Common.{◌≡◌, ℕ, Bool, List, Option, Some, None, false, is_some, Bor, refl, sym, ap, subst}
 use Rattle.std.proofs.lemmas.Bool.{false≢true}
+use Rattle.cargo_toml_graph.proofs.Texts.{by_true}
 use Rattle.cargo_toml.specs.Action.{Text}
 use Rattle.cargo_toml.specs.Admitted.{Listed}
 use Rattle.cargo_toml.specs.Filter.{Asked, FilterTells}
@@ -27,7 +28,7 @@ module _ (keep : Text → Bool) (a : Answer) {n k : ℕ} (limit : n ≡ k) where
   pub complete_at : {M : Type 0} (m : ManifestMeaning M) → IsParsed n m keep a → AreBinsComplete n m (λ r. is_some (a.redirects r)) a → AreBinsComplete k m (is_removed (parsed_table k m) keep) a
   complete_at m is are =
       subst (λ n. AreBinsComplete n m (is_removed (parsed_table n m) keep) a) limit
-      (subst (λ removed. AreBinsComplete n m removed a) (λ i r. is.redirected r i) are)
+      (subst (λ removed. AreBinsComplete n m removed a) (λ i r. by_true (is_some (a.redirects r)) (is_removed (parsed_table n m) keep r) (is.redirected r) i) are)
 
   pub answered_at : (listed : Listed) (entries : List Entry) (details : NamedDetails) (own : Text → List Text) → IsAnswerFor n listed entries details own keep a → IsAnswerFor k listed entries details own keep a
   answered_at listed entries details own is = subst (λ n. IsAnswerFor n listed entries details own keep a) limit is

@@ -1,27 +1,9 @@
-pub mod Compared
-pub mod Left
-pub mod Listing
-pub mod Kept
-pub mod Repeated
-pub mod Matched
 pub mod Placed
 pub mod Asked
 pub mod Grown
-pub mod Settled
-pub mod Summed
 pub mod Told
 pub mod Refused
-pub mod Walked
-pub mod Within
-pub mod Yielded
 pub mod Reaching
 pub mod Rowed
-pub mod Exactly
-pub mod Grouped
-pub mod Inserted
-pub mod Using
-pub mod Taking
-pub mod Walking
-pub mod Sorting
 mod FileFacts
 pub mod Ordered

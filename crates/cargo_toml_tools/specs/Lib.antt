@@ -5,26 +5,12 @@ pub mod IndexEntries
 pub mod IndexFeatures
 pub mod IndexLines
 pub mod Linted
-pub mod Audited
-pub mod Entries
-pub mod Oddities
-pub mod LeftKeys
-pub mod Noted
-pub mod Neighbours
-pub mod Overall
-pub mod Refusals
-pub mod Patterns
-pub mod Places
-pub mod MemberFolders
 pub mod Documented
 -- what the tools answer of files, and why they refuse
 pub mod FromFiles
 pub mod LintedFiles
-pub mod AuditedFiles
 pub mod DocumentedFiles
 pub mod IndexedFiles
 -- the code's own steps, in contracts of inner functions alone: nothing here has to be believed
 pub mod Checked
-pub mod AuditSteps
 pub mod Sections
-pub mod Rows

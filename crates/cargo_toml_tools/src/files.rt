@@ -1,12 +1,10 @@
 //! What the tools make of files: each manifest is read, completed and held here, on the heap.
 
-mod auditing;
 mod documenting;
 mod indexing;
 mod linting;
 mod reading;
 
-pub use auditing::{audit, audit_text};
 pub use documenting::{document, document_text};
 pub use indexing::{Fault, index_line};
 pub use linting::{lint, lint_lines};

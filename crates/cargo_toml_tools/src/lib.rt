@@ -1,19 +1,15 @@
-//! Tools over manifests, as a library: the line of a registry's index (`index`), the report on a
-//! workspace (`audit`), what is documented of features (`document`), and what is amiss with them
-//! (`lint`).
+//! Tools over manifests, as a library: the line of a registry's index (`index`), what is documented
+//! of features (`document`), and what is amiss with them (`lint`).
 //!
 //! Each borrows the manifests that it reads, and answers text or values of its own. `files` reads,
 //! completes and owns them, and alone pays for that when it is proved. `escape` writes names and
 //! texts of strangers.
 #![tactic(auto)]
 
-pub mod audit;
 pub mod document;
 pub mod escape;
 pub mod files;
 pub mod index;
 mod json;
 pub mod lint;
-pub mod members;
 mod requirement;
-mod tables;

@@ -11,10 +11,11 @@ mod findings;
 mod words;
 
 use cargo_toml::Error;
+use cargo_toml_audit::auditing::audit;
 use cargo_toml_row_files::templates::text_in;
 use cargo_toml_row_files::tree::{fresh_folder, make_tree, remove_tree};
 use cargo_toml_tools::escape::fault_line;
-use cargo_toml_tools::files::{audit_text, document_text, index_line, lint_lines};
+use cargo_toml_tools::files::{audit, document_text, index_line, lint_lines};
 use cargo_toml_tools::index::{CRATES_IO, Options};
 use cargo_toml_tools_words::Outcome;
 use std::alloc::Global;
@@ -99,8 +100,8 @@ fn answer<R: Files + RandomSource + Eprint + AllocGlobal>(
         "lint" => reported(alloc, "FILE", lint_lines(rt, file.as_str(), false)),
         "document" => told(alloc, "FILE", document_text(rt, file.as_str(), false)),
         "graph" => told(alloc, "FILE", document_text(rt, file.as_str(), true)),
-        "audit" => reported(alloc, "FOLDER", audit_text(rt, folder, false, false)),
-        "report" => reported(alloc, "FOLDER", audit_text(rt, folder, true, false)),
+        "audit" => reported(alloc, "FOLDER", audit(rt, folder, false, false)),
+        "report" => reported(alloc, "FOLDER", audit(rt, folder, true, false)),
         _ => Err(Error::Other("no such kind of row")),
     }
 }

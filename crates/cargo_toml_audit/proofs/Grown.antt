@@ -1,0 +1,59 @@
+-- Lists that grow by a piece for each element.
+use Rattle.std.proofs.Common.{◌≡◌, ◌+◌, ◌++◌, ◌∙◌, ◌<◌, ◌&&◌, ◌||◌, ℕ, Bool, false, true, List, [], ◌∷◌, add-one, drop, drop-cons, get_or, length, map, take, refl, sym, ap, append_assoc}
+use Rattle.std.proofs.lemmas.List.{append-nil, map-append, take_more}
+use Rattle.std.proofs.lemmas.List.Concat.{flat_map-append}
+use Rattle.std.specs.List.{flat_map, list_all, list_any}
+
+-- what is left to be added behind what was
+module _ {A B : Type 0} (f : A → List B) where
+  pub flat_step : (x : A) (left rest : List A) (items more whole : List B) → left ≡ x ∷ rest → more ≡ items ++ f x → items ++ flat_map f left ≡ whole → more ++ flat_map f rest ≡ whole
+  flat_step x left rest items more whole is adds before =
+      ap (λ t. t ++ flat_map f rest) adds ∙ append_assoc items (f x) (flat_map f rest) ∙ ap (λ t. items ++ flat_map f t) (sym is) ∙ before
+
+  pub flat_end : (left : List A) (items whole : List B) → left ≡ [] → items ++ flat_map f left ≡ whole → items ≡ whole
+  flat_end left items whole none before = sym (append-nil items) ∙ ap (λ t. items ++ flat_map f t) (sym none) ∙ before
+
+pub flat_flat : {A B C : Type 0} (f : B → List C) (g : A → List B) (xs : List A) → flat_map f (flat_map g xs) ≡ flat_map (λ x. flat_map f (g x)) xs
+flat_flat f g [] = refl
+flat_flat f g (x ∷ xs) = flat_map-append f (g x) (flat_map g xs) ∙ ap (λ t. flat_map f (g x) ++ t) (flat_flat f g xs)
+
+-- three pieces, one behind the other
+pub three_pieces : {A : Type 0} (a b c d x y z : List A) → b ≡ a ++ x → c ≡ b ++ y → d ≡ c ++ z → d ≡ a ++ (x ++ (y ++ (z ++ [])))
+three_pieces a b c d x y z first second third =
+    third ∙ ap (λ t. t ++ z) (second ∙ ap (λ t. t ++ y) first)
+    ∙ ap (λ t. t ++ z) (append_assoc a x y) ∙ append_assoc a (x ++ y) z
+    ∙ ap (λ t. a ++ t) (append_assoc x y z ∙ ap (λ t. x ++ (y ++ t)) (sym (append-nil z)))
+
+-- one more element of a list was mapped
+pub mapped_more : {A B : Type 0} (f : A → B) (xs : List A) (i : ℕ) (d : A) (ys : List B) (y : B) → i < length xs → ys ≡ map f (take i xs) → y ≡ f (get_or xs i d)
+    → ys ++ y ∷ [] ≡ map f (take (i + 1) xs)
+mapped_more f xs i d ys y h e g =
+    ap (λ t. t ++ y ∷ []) e ∙ ap (λ t. map f (take i xs) ++ t ∷ []) g
+    ∙ sym (ap (map f) (take_more xs i d h) ∙ map-append f (take i xs) (get_or xs i d ∷ []))
+
+pub map_twice : {A B C : Type 0} (g : B → C) (f : A → B) (xs : List A) → map g (map f xs) ≡ map (λ x. g (f x)) xs
+map_twice g f [] = refl
+map_twice g f (x ∷ xs) = ap (λ t. g (f x) ∷ t) (map_twice g f xs)
+
+-- an element that doesn't pass
+pub any_less : {A : Type 0} (test : A → Bool) (x : A) (left rest : List A) (some : Bool) → left ≡ x ∷ rest → test x ≡ false → list_any test left ≡ some → list_any test rest ≡ some
+any_less test x left rest some is miss before = ap (λ t. t || list_any test rest) (sym miss) ∙ ap (list_any test) (sym is) ∙ before
+
+-- one that does, and none that is left
+pub any_found : {A : Type 0} (test : A → Bool) (x : A) (left rest : List A) (some : Bool) → left ≡ x ∷ rest → test x ≡ true → list_any test left ≡ some → true ≡ some
+any_found test x left rest some is hit before = ap (λ t. t || list_any test rest) (sym hit) ∙ ap (list_any test) (sym is) ∙ before
+
+pub any_none : {A : Type 0} (test : A → Bool) (left : List A) (some : Bool) → left ≡ [] → list_any test left ≡ some → false ≡ some
+any_none test left some none before = ap (list_any test) (sym none) ∙ before
+
+pub any_mapped : {A B : Type 0} (test : B → Bool) (f : A → B) (xs : List A) → list_any (λ x. test (f x)) xs ≡ list_any test (map f xs)
+any_mapped test f [] = refl
+any_mapped test f (x ∷ xs) = ap (λ b. test (f x) || b) (any_mapped test f xs)
+
+pub all_mapped : {A B : Type 0} (test : B → Bool) (f : A → B) (xs : List A) → list_all (λ x. test (f x)) xs ≡ list_all test (map f xs)
+all_mapped test f [] = refl
+all_mapped test f (x ∷ xs) = ap (λ b. test (f x) && b) (all_mapped test f xs)
+
+-- what is left begins with the next
+pub drop_next : {A : Type 0} (xs : List A) (i : ℕ) (d : A) → i < length xs → drop i xs ≡ get_or xs i d ∷ drop (i + 1) xs
+drop_next xs i d h = rw (add-one, drop-cons xs i d)

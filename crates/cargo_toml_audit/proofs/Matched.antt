@@ -1,0 +1,70 @@
+-- A row of tests with one more character of the pattern.
+use Rattle.std.proofs.Common.{◌≡◌, ◌+◌, ◌++◌, ◌&&◌, ◌||◌, ◌∙◌, ℕ, Bool, List, [], ◌∷◌, true, false, refl, sym, ap, append_assoc, inl, inr, ◌⊎◌, ◌<◌, add-one, drop, drop-cons, take, length, get_or, replicate, reverse}
+use Rattle.std.proofs.Math.Bool.{and_comm, or_comm}
+use Rattle.std.proofs.lemmas.List.{append-nil, reverse-append, take_more}
+use Rattle.cargo_toml_audit.specs.Patterns.{after_any, after_one, begins, is_empty, matches}
+use Rattle.cargo_toml_audit.specs.Rows.{accepts, next, row, scan, shift}
+use mathlib.Core.List.{reverse_aux}
+
+shifted : (w : ℕ) (test : List ℕ → Bool) (end cs : List ℕ) → after_one w test end ∷ shift w (row test end cs) cs ≡ row (after_one w test) end cs
+shifted w test end [] = refl
+shifted w test end (c ∷ cs) =
+    ap (λ t. after_one w test end ∷ (t ∷ shift w (row test (c ∷ end) cs) cs)) (and_comm (test end) (accepts w c))
+    ∙ ap (λ t. after_one w test end ∷ t) (shifted w test (c ∷ end) cs)
+
+scanned : (test : List ℕ → Bool) (some : Bool) (end cs : List ℕ) → (some || test end) ≡ after_any test end → scan some (row test end cs) ≡ row (after_any test) end cs
+scanned test some end [] e = ap (λ t. t ∷ []) e
+scanned test some end (c ∷ cs) e =
+    ap (λ t. t ∷ scan (some || test end) (row test (c ∷ end) cs)) e
+    ∙ ap (λ t. after_any test end ∷ t) (scanned test (some || test end) (c ∷ end) cs
+    (ap (λ t. t || test (c ∷ end)) e ∙ or_comm (after_any test end) (test (c ∷ end))))
+
+pub next_row : (b : Bool) (w : ℕ) (test : List ℕ → Bool) (cs : List ℕ) → next b w (row test [] cs) cs ≡ row (begins b w test) [] cs
+next_row true w test cs = scanned test false [] cs (or_comm false (test []))
+next_row false w test cs = shifted w test [] cs
+
+none_reached : (c : ℕ) (end cs : List ℕ) → false ∷ replicate (length cs) false ≡ row is_empty (c ∷ end) cs
+none_reached c end [] = refl
+none_reached c end (d ∷ cs) = ap (λ t. false ∷ t) (none_reached d (c ∷ end) cs)
+
+pub first_row : (cs : List ℕ) → true ∷ replicate (length cs) false ≡ row (matches []) [] cs
+first_row [] = refl
+first_row (c ∷ cs) = ap (λ t. true ∷ t) (none_reached c [] cs)
+
+last_of : (test : List ℕ → Bool) (end cs : List ℕ) (d : Bool) → get_or (row test end cs) (length cs) d ≡ test (reverse_aux cs end)
+last_of test end [] d = refl
+last_of test end (c ∷ cs) d = last_of test (c ∷ end) cs d
+
+pub last_row : (test : List ℕ → Bool) (cs : List ℕ) (d : Bool) → get_or (row test [] cs) (length cs) d ≡ test (reverse cs)
+last_row test cs d = last_of test [] cs d
+
+pub drop_here : (xs : List Bool) (i : ℕ) → i < length xs → drop i xs ≡ get_or xs i false ∷ drop (i + 1) xs
+drop_here xs i h = rw (add-one, drop-cons xs i false)
+
+-- what is still to be scanned, or shifted, stands behind what was
+pub scan_step : (items : List Bool) (some here : Bool) (left rest whole : List Bool) → left ≡ here ∷ rest → items ++ scan some left ≡ whole
+    → (items ++ (some || here) ∷ []) ++ scan (some || here) rest ≡ whole
+scan_step items some here left rest whole is before =
+    append_assoc items ((some || here) ∷ []) (scan (some || here) rest) ∙ ap (λ t. items ++ scan some t) (sym is) ∙ before
+
+pub scan_end : (items : List Bool) (some : Bool) (left whole : List Bool) → left ≡ [] → items ++ scan some left ≡ whole → items ≡ whole
+scan_end items some left whole none before = sym (append-nil items) ∙ ap (λ t. items ++ scan some t) (sym none) ∙ before
+
+pub shift_step : (w : ℕ) (items : List Bool) (here : Bool) (c : ℕ) (left rest : List Bool) (cs ds : List ℕ) (whole : List Bool) → left ≡ here ∷ rest → cs ≡ c ∷ ds
+    → items ++ shift w left cs ≡ whole → (items ++ (here && accepts w c) ∷ []) ++ shift w rest ds ≡ whole
+shift_step w items here c left rest cs ds whole is others before =
+    append_assoc items ((here && accepts w c) ∷ []) (shift w rest ds)
+    ∙ ap (λ t. items ++ shift w t (c ∷ ds)) (sym is) ∙ ap (λ t. items ++ shift w left t) (sym others) ∙ before
+
+shift_none : (w : ℕ) (left : List Bool) → shift w left [] ≡ []
+shift_none w [] = refl
+shift_none w (x ∷ xs) = refl
+
+pub shift_end : (w : ℕ) (items left : List Bool) (cs : List ℕ) (whole : List Bool) → (left ≡ []) ⊎ (cs ≡ []) → items ++ shift w left cs ≡ whole → items ≡ whole
+shift_end w items left cs whole (inl none) before = sym (append-nil items) ∙ ap (λ t. items ++ shift w t cs) (sym none) ∙ before
+shift_end w items left cs whole (inr none) before =
+    sym (append-nil items) ∙ ap (λ t. items ++ t) (sym (shift_none w left)) ∙ ap (λ t. items ++ shift w left t) (sym none) ∙ before
+
+-- one more character of the pattern, from its end on
+pub reversed_more : (xs : List ℕ) (i d : ℕ) → i < length xs → reverse (take (i + 1) xs) ≡ get_or xs i d ∷ reverse (take i xs)
+reversed_more xs i d h = ap reverse (take_more xs i d h) ∙ reverse-append (take i xs) (get_or xs i d ∷ [])

@@ -1,0 +1,18 @@
+use Rattle.std.proofs.Common.{[], ◌∷◌, ◌∙◌, ap, string_bytes, sym, true}
+use Rattle.std.specs.Prelude.{bytes_eq}
+use Rattle.std.specs.BTreeSet.{contains_text}
+use Rattle.std.proofs.lemmas.Map.Text.{btree_set_updates_text}
+use Rattle.cargo_toml.specs.Action.{Text}
+use Rattle.cargo_toml.specs.Dependencies.{DependencyMeaning, dependency_meaning}
+use Rattle.cargo_toml_audit.proofs.Exactly.{gains_key, gains_these}
+use Rattle.cargo_toml_audit.proofs.Left.{one_inherited}
+use Rattle.cargo_toml_audit.proofs.Listed.{cond_or}
+use Rattle.cargo_toml_audit.proofs.audit.inherited.add_dependency.Goals as goal
+
+pub returns-clause-all : goal.returns-clause-all
+returns-clause-all c =
+    let e : Text × DependencyMeaning = (string_bytes c.args.key.now, dependency_meaning c.args.dependency.now) in
+    let key = string_bytes c.in_ok-clone.field-0 in
+    gains_these (key ∷ []) _ _ _ (ap (λ t. t ∷ []) c.in_ok-clone.ensures.cases ∙ sym (one_inherited e (sym c.is_left.ensures ∙ c.if-not-is_left.false)))
+    (gains_key key (contains_text c.args.all.now) (contains_text c.insert.new.self)
+    (λ t. btree_set_updates_text key c.args.all.now c.insert.new.self true c.in_ok-insert.ensures.updates t ∙ cond_or (bytes_eq key t) (contains_text c.args.all.now t)))

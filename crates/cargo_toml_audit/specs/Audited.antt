@@ -1,0 +1,92 @@
+-- What a report holds of members, and the words of what is odd.
+use Rattle.std.specs.Prelude.{◌≡◌, ◌⊎◌, ◌++◌, ◌||◌, Bool, true, false, List, [], ◌∷◌, Option}
+use Rattle.std.specs.Prelude.{Some, None, IsTrue, String, Vec, codes, option_map, string_bytes}
+use Rattle.std.specs.List.{join_by}
+use Rattle.std.specs.Option.{option_map_or}
+use Rattle.std.specs.declared.alloc.Global.{Global}
+use Rattle.semver.specs.Identifiers.{parts_text}
+use Rattle.cargo_toml.specs.Action.{Text}
+use Rattle.cargo_toml.specs.Error.{Error, InheritedUnknownValue, Memory}
+use Rattle.cargo_toml.specs.Faults.{IsOther}
+use Rattle.cargo_toml.specs.Inheritable.{Inheritable}
+use Rattle.cargo_toml.specs.Inheritable.TheVariants.{Set}
+use Rattle.cargo_toml.specs.InheritableValues.{value_of}
+use Rattle.cargo_toml.specs.InheritedPackages.{field_is_left, is_left_there}
+use Rattle.cargo_toml.specs.Manifests.{ManifestMeaning}
+use Rattle.cargo_toml.specs.Packages.{PackageMeaning}
+use Rattle.cargo_toml.specs.Settings.{Registries, among, edition_text, everywhere}
+use Rattle.cargo_toml_audit.specs.declared.audit.Code.{Code}
+use Rattle.cargo_toml_audit.specs.declared.audit.Code.TheVariants.{Incomplete, ListedTwice}
+use Rattle.cargo_toml_audit.specs.declared.audit.Code.TheVariants.{OtherEdition, OtherLicense}
+use Rattle.cargo_toml_audit.specs.declared.audit.Code.TheVariants.{Outside, SeveralRequirements}
+use Rattle.cargo_toml_audit.specs.declared.audit.Code.TheVariants.{UnusedDependency}
+use Rattle.cargo_toml_audit.specs.declared.audit.Member.{Member}
+
+abbrev pub word_of : Code → Text
+word_of Incomplete = codes "incomplete"
+word_of ListedTwice = codes "listed-twice"
+word_of OtherEdition = codes "other-edition"
+word_of OtherLicense = codes "other-license"
+word_of Outside = codes "outside"
+word_of SeveralRequirements = codes "several-requirements"
+word_of UnusedDependency = codes "unused-dependency"
+
+-- the names of registries, with a comma between each two; none at all is `no`
+abbrev pub names_text : List Text → Text
+names_text [] = codes "no"
+names_text (name ∷ names) = join_by (λ text. text) (codes ", ") (name ∷ names)
+
+-- where a package may be published
+abbrev pub publish_text : Registries → Text
+publish_text (everywhere true) = codes "yes"
+publish_text (everywhere false) = codes "no"
+publish_text (among names) = names_text names
+
+-- a text that may be missing, and that isn't left to the workspace
+abbrev pub stated : Option (String Global) → Option (Inheritable Text)
+stated text = option_map (λ t. Set (string_bytes t)) text
+
+-- what is told of a member, by its package
+pub record IsToldOf {M : Type 0} (p : PackageMeaning M) (member : Member) : Type 0 where
+  pub name : string_bytes member.name ≡ p.name
+  pub version : option_map parts_text (value_of p.version) ≡ Some (string_bytes member.version)
+  pub edition : option_map edition_text (value_of p.edition) ≡ Some (string_bytes member.edition)
+  pub rust_version : p.rust_version ≡ stated member.rust_version
+  pub license : p.license ≡ stated member.license
+  pub publish : option_map publish_text (value_of p.publish) ≡ Some (string_bytes member.publish)
+
+-- the same, by its manifest
+pub record IsMemberOf {M : Type 0} (m : ManifestMeaning M) (member : Member) : Type 0 where
+  pub of : PackageMeaning M
+  pub is : m.«package» ≡ Some of
+  pub told : IsToldOf of member
+
+-- a report has one more member, which lies in the folder, has this manifest and inherits these keys
+pub record AddsMember {M : Type 0} (folder : Text) (m : ManifestMeaning M)
+    (inherits : Vec (String Global) Global) (old new : List Member) : Type 0 where
+  pub member : Member
+  pub last : new ≡ old ++ (member ∷ [])
+  pub folder_is : string_bytes member.folder ≡ folder
+  pub inherits_is : member.inherits ≡ inherits
+  pub told : IsMemberOf m member
+
+-- the package leaves to its workspace what is told of a member
+abbrev pub leaves_told : {M : Type 0} → PackageMeaning M → Bool
+leaves_told p =
+    field_is_left p.version
+    || (field_is_left p.edition
+    || (field_is_left p.publish || (is_left_there p.rust_version || is_left_there p.license)))
+
+-- the fault where there is no package
+abbrev pub IsNoPackage : Error → Type 0
+IsNoPackage e = IsOther (codes "there is no package") e
+
+-- memory was refused, or something is left to the workspace
+abbrev pub IsUnknown : Bool → Error → Type 0
+IsUnknown left e = (e ≡ Memory) ⊎ ((e ≡ InheritedUnknownValue) × IsTrue left)
+
+-- why nothing is told of a member
+abbrev pub IsUntold : {M : Type 0} → ManifestMeaning M → Error → Type 0
+IsUntold m e =
+    ((m.«package» ≡ None) × IsNoPackage e)
+    ⊎ IsUnknown (option_map_or leaves_told m.«package» false) e

@@ -1,0 +1,46 @@
+-- Manifests in files, and why a file gives none. What a file holds, nothing says.
+use Rattle.std.specs.Prelude.{◌≡◌, ◌⊎◌, None, Err, IsUtf8}
+use Rattle.toml.specs.View.{view}
+use Rattle.toml.specs.declared.value.Value.{Value}
+use Rattle.cargo_toml.specs.Action.{Text}
+use Rattle.cargo_toml.specs.Completed.{IsCompleted}
+use Rattle.cargo_toml.specs.Disk.{IsInput}
+use Rattle.cargo_toml.specs.Error.{Error, Memory}
+use Rattle.cargo_toml.specs.Manifest.{Manifest}
+use Rattle.cargo_toml.specs.Manifests.{ManifestRefuses, manifest_meaning, manifest_reads}
+use Rattle.cargo_toml.specs.RealFiles.{IsPathFault, ReadsAs, any_root}
+use Rattle.cargo_toml.specs.RealFiles.{real_folders, real_roots}
+use Rattle.cargo_toml.specs.Texts.{AnyRefuses, IsFromText, any_tree}
+
+-- the text, which a file may hold, reads as this manifest
+pub record IsManifestIn (text : Text) (m : Manifest Value) : Type 0 where
+  pub utf8 : IsUtf8 text
+  pub reads : ReadsAs text (manifest_meaning view) (manifest_reads any_tree) m
+
+-- the text reads as a manifest that completion among the real files around this path makes into
+-- this one
+pub record IsCompletedIn (path text : Text) (new : Manifest Value) : Type 0 where
+  pub read : Manifest Value
+  pub written : IsManifestIn text read
+  pub completed : IsCompleted read None real_roots any_root real_folders new
+
+-- reading the text may be refused with this fault
+abbrev pub RefusesText : Text → Error → Type 0
+RefusesText text e =
+    IsFromText (manifest_meaning view) (manifest_reads any_tree)
+    (ManifestRefuses any_tree AnyRefuses) text (Err e)
+
+-- there was no memory, or a fault of input
+abbrev pub IsOfInput : Error → Type 0
+IsOfInput e = (e ≡ Memory) ⊎ IsInput e
+
+-- why a file gives no manifest: no memory, a fault of input, or one of some text
+abbrev pub IsUnreadable : Error → Type 0
+IsUnreadable e =
+    (e ≡ Memory) ⊎ (IsInput e ⊎ ((text : Text) × (IsUtf8 text × RefusesText text e)))
+
+-- why the file at this path gives no completed one
+abbrev pub IsUncompleted : Text → Error → Type 0
+IsUncompleted path =
+    IsPathFault path (manifest_meaning view) (manifest_reads any_tree)
+    (ManifestRefuses any_tree AnyRefuses)

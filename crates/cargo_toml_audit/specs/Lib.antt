@@ -1,0 +1,24 @@
+-- what a report on a workspace says, of what was read: a user has to believe these
+pub mod AuditSteps
+pub mod Audited
+pub mod AuditedFolders
+pub mod AuditedMembers
+pub mod Checked
+pub mod Escaped
+pub mod Escapes
+pub mod FromFiles
+pub mod FurtherFolders
+pub mod JsonRows
+pub mod LeftKeys
+pub mod MemberFolders
+pub mod Neighbours
+pub mod Noted
+pub mod Oddities
+pub mod Overall
+pub mod Patterns
+pub mod Places
+pub mod Reported
+pub mod ReportedJson
+pub mod Required
+pub mod Rows
+pub mod TablesByKind

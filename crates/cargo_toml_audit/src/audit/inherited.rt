@@ -1,0 +1,188 @@
+//! What a manifest leaves to its workspace.
+ghost use Rattle.std.specs.Prelude.{◌≡◌, ◌++◌, [], ◌∷◌, IfOk, OnOk};
+ghost use Rattle.std.specs.Prelude.{map, option_map, string_bytes};
+ghost use Rattle.std.specs.Option.{option_map_or};
+ghost use Rattle.cargo_toml.specs.Dependencies.{dependency_meaning};
+ghost use Rattle.cargo_toml.specs.InheritedDependencies.{is_left};
+ghost use Rattle.cargo_toml.specs.InheritedPackages.{is_left_there, leavable_rows};
+ghost use Rattle.cargo_toml.specs.Manifests.{held};
+ghost use Rattle.cargo_toml.specs.Packages.{held_package};
+ghost use Rattle.cargo_toml_dependencies.specs.Replacing.{entries_meaning};
+ghost use Rattle.cargo_toml_audit.specs.Checked.{own_by_kind};
+ghost use Rattle.cargo_toml_audit.specs.TablesByKind.{all_by_kind};
+ghost use Rattle.cargo_toml_audit.specs.LeftKeys.{left_fields, left_in, left_in_tables};
+ghost use Rattle.cargo_toml_audit.specs.LeftKeys.{left_rows};
+ghost use Rattle.cargo_toml_audit.specs.Noted.{GainsKeys, inherited_in, inherited_in_all};
+
+use crate::tables::Tables;
+use cargo_toml::{Dependency, DepsSet, Inheritable, Manifest, Package};
+use std::alloc::{AllocError, Global};
+use std::collections::BTreeSet;
+
+/// A key, and whether its value is left to the workspace.
+type Row = (&'static str, bool);
+
+/// The keys of the package that are left to the workspace, and `lints`, as they are written.
+pub fn inherited_keys<M>(alloc: Global, manifest: &Manifest<M>) -> Result<Vec<String>, AllocError>
+    ensures { IfOk result (λ keys. map string_bytes keys.items ≡ left_fields (held manifest.now)) }
+{
+    let mut keys = package_keys(alloc, &manifest.package)?;
+    let lints = [("lints", !manifest.lints.is_set())];
+    add_left(alloc, &mut keys, &lints)?;
+    Ok(keys)
+}
+
+fn package_keys<M>(alloc: Global, package: &Option<Package<M>>) -> Result<Vec<String>, AllocError>
+    ensures { IfOk result (λ keys. map string_bytes keys.items
+        ≡ left_rows (option_map_or leavable_rows (option_map held_package «package».now) [])) }
+{
+    let mut keys = Vec::new(alloc);
+    let Some(package) = package else {
+        return Ok(keys);
+    };
+    let rows = leavable_rows(package);
+    add_left(alloc, &mut keys, &rows)?;
+    Ok(keys)
+}
+
+/// The keys that a package may leave to the workspace.
+fn leavable_rows<M>(package: &Package<M>) -> [Row; 16]
+    ensures { map (λ r. (r.0.now, r.1)) result ≡ leavable_rows (held_package «package».now) }
+{
+    [
+        ("version", !package.version.is_set()),
+        ("edition", !package.edition.is_set()),
+        ("authors", !package.authors.is_set()),
+        ("categories", !package.categories.is_set()),
+        ("exclude", !package.exclude.is_set()),
+        ("include", !package.include.is_set()),
+        ("keywords", !package.keywords.is_set()),
+        ("publish", !package.publish.is_set()),
+        ("readme", !package.readme.is_set()),
+        ("description", is_inherited(&package.description)),
+        ("documentation", is_inherited(&package.documentation)),
+        ("homepage", is_inherited(&package.homepage)),
+        ("license", is_inherited(&package.license)),
+        ("license-file", is_inherited(&package.license_file)),
+        ("repository", is_inherited(&package.repository)),
+        ("rust-version", is_inherited(&package.rust_version)),
+    ]
+}
+
+fn is_inherited(text: &Option<Inheritable<String>>) -> bool
+    ensures { result ≡ is_left_there text.now }
+{
+    matches!(text, Some(Inheritable::Inherited))
+}
+
+fn add_left(alloc: Global, keys: &mut Vec<String>, rows: &[Row]) -> Result<(), AllocError>
+    ensures { OnOk result (map string_bytes keys.new.items
+        ≡ map string_bytes keys.old.items ++ left_rows (map (λ r. (r.0.now, r.1)) rows.now)) }
+{
+    for row in rows {
+        add_row(alloc, keys, *row)?;
+    }
+    Ok(())
+}
+
+fn add_row(alloc: Global, keys: &mut Vec<String>, row: Row) -> Result<(), AllocError>
+    ensures { OnOk result (map string_bytes keys.new.items
+        ≡ map string_bytes keys.old.items ++ left_rows ((row.entry.0.now, row.entry.1) ∷ [])) }
+{
+    let (key, is_left) = row;
+    if !is_left {
+        return Ok(());
+    }
+    keys.push(String::from_str(alloc, key)?)?;
+    Ok(())
+}
+
+/// Adds the dependencies that are left to the workspace to the keys of this member, with the table
+/// in front, and to those of all members.
+pub fn add_inherited_dependencies<M>(
+    manifest: &Manifest<M>,
+    keys: &mut Vec<String>,
+    all: &mut BTreeSet<String>,
+) -> Result<(), AllocError>
+    ensures keys { OnOk result (map string_bytes keys.new.items
+        ≡ map string_bytes keys.old.items ++ left_in_tables (all_by_kind (held manifest.now))) }
+    ensures all { OnOk result
+        (GainsKeys (inherited_in_all (all_by_kind (held manifest.now))) all.old all.new) }
+{
+    let own = Tables {
+        normal: &manifest.dependencies,
+        dev: &manifest.dev_dependencies,
+        build: &manifest.build_dependencies,
+    };
+    add_tables(own, keys, all)?;
+    for (_, target) in &manifest.target {
+        let tables = Tables {
+            normal: &target.dependencies,
+            dev: &target.dev_dependencies,
+            build: &target.build_dependencies,
+        };
+        add_tables(tables, keys, all)?;
+    }
+    Ok(())
+}
+
+fn add_tables(
+    tables: Tables<'_>,
+    keys: &mut Vec<String>,
+    all: &mut BTreeSet<String>,
+) -> Result<(), AllocError>
+    ensures keys { OnOk result (map string_bytes keys.new.items
+        ≡ map string_bytes keys.old.items ++ left_in_tables (own_by_kind tables.entry)) }
+    ensures all { OnOk result
+        (GainsKeys (inherited_in_all (own_by_kind tables.entry)) all.old all.new) }
+{
+    add_table(tables.normal, "dependencies", keys, all)?;
+    add_table(tables.dev, "dev-dependencies", keys, all)?;
+    add_table(tables.build, "build-dependencies", keys, all)
+}
+
+fn add_table(
+    table: &DepsSet,
+    name: &str,
+    keys: &mut Vec<String>,
+    all: &mut BTreeSet<String>,
+) -> Result<(), AllocError>
+    ensures keys { OnOk result (map string_bytes keys.new.items
+        ≡ map string_bytes keys.old.items ++ left_in name.now (entries_meaning table.now)) }
+    ensures all { OnOk result
+        (GainsKeys (inherited_in (entries_meaning table.now)) all.old all.new) }
+{
+    for (key, dependency) in table {
+        add_dependency(key, dependency, name, keys, all)?;
+    }
+    Ok(())
+}
+
+/// Adds a dependency where it is left to the workspace.
+fn add_dependency(
+    key: &String,
+    dependency: &Dependency,
+    table: &str,
+    keys: &mut Vec<String>,
+    all: &mut BTreeSet<String>,
+) -> Result<(), AllocError>
+    ensures keys { OnOk result (map string_bytes keys.new.items ≡ map string_bytes keys.old.items
+        ++ left_in table.now ((string_bytes key.now, dependency_meaning dependency.now) ∷ [])) }
+    ensures all { OnOk result (GainsKeys
+        (inherited_in ((string_bytes key.now, dependency_meaning dependency.now) ∷ []))
+        all.old all.new) }
+{
+    if !is_left(dependency) {
+        return Ok(());
+    }
+    let alloc = *keys.allocator();
+    keys.push(format!(in alloc; "{table}.{key}")?)?;
+    all.insert(key.clone()?)?;
+    Ok(())
+}
+
+fn is_left(dependency: &Dependency) -> bool
+    ensures { result ≡ is_left (dependency_meaning dependency.now) }
+{
+    matches!(dependency, Dependency::Inherited(_))
+}

@@ -1,0 +1,190 @@
+//! How names and texts of strangers are written into lines, Markdown and Graphviz's language.
+//!
+//! No name can end the line that it stands in, or close what stands around it.
+ghost use Rattle.std.specs.Prelude.{◌≡◌, ◌==◌, ◌++◌, ◌||◌, IfOk, OnOk, codes, length, nat_eq};
+ghost use Rattle.std.specs.Prelude.{string_bytes, true};
+ghost use Rattle.std.specs.List.{starts_with};
+ghost use Rattle.cargo_toml_audit.specs.declared.escape.Format.TheVariants.{Dot, Line, Markdown};
+ghost use Rattle.cargo_toml_audit.specs.Escaped.{braced, code, comma, escaped, escaped_text};
+ghost use Rattle.cargo_toml_audit.specs.Escaped.{fault_line, is_code, is_control, is_plain_sign};
+ghost use Rattle.cargo_toml_audit.specs.Escaped.{numbered};
+ghost use Rattle.cargo_toml_audit.specs.Escapes.{Appends, IsOneLine, fits, is_cell};
+
+use std::alloc::{AllocError, Global};
+use std::fmt::Write;
+
+/// What a text is written into.
+#[derive(Clone, Copy, Debug, PartialEq, Eq)]
+pub enum Format {
+    /// A line with bars between its columns: `\`, `|` and controls are written as in Rust.
+    Line,
+    /// Markdown, at a place within a line: what has a meaning there is written by its number.
+    Markdown,
+    /// A text between quotes in Graphviz's language.
+    Dot,
+}
+
+/// Writes a text so that it stands for itself in this format, and on one line.
+pub fn push_escaped(text: &mut String, words: &str, format: Format) -> Result<(), AllocError>
+    ensures exact { OnOk result
+        (string_bytes text.new ≡ string_bytes text.old ++ escaped_text format words.now) }
+    ensures fits { OnOk result
+        (Appends (fits format) (string_bytes text.old) (string_bytes text.new)) }
+{
+    for c in words.chars() {
+        push_char(text, c, format)?;
+    }
+    Ok(())
+}
+
+/// Writes a name into Markdown as code. It is put between backticks where it has nothing else that
+/// could have a meaning there.
+pub fn push_code(text: &mut String, name: &str) -> Result<(), AllocError>
+    ensures exact { OnOk result (string_bytes text.new ≡ string_bytes text.old ++ code name.now) }
+    ensures cell { OnOk result (Appends is_cell (string_bytes text.old) (string_bytes text.new)) }
+{
+    if is_code(name) {
+        text.push_str("`")?;
+        text.push_str(name)?;
+        text.push_str("`")
+    } else {
+        text.push_str("<code>")?;
+        push_escaped(text, name, Format::Markdown)?;
+        text.push_str("</code>")
+    }
+}
+
+/// What stands before the item at this place of a list: a comma, but not before the first.
+pub(crate) fn comma_before(place: usize) -> &'static str
+    ensures exact { result.now ≡ comma place }
+    ensures cell { is_cell result.now ≡ true }
+{
+    if place == 0 { "" } else { ", " }
+}
+
+/// The line that tells why a file is refused.
+pub fn fault_line(alloc: Global, file: &str, words: &str) -> Result<String, AllocError>
+    ensures exact { IfOk result (λ line. string_bytes line ≡ fault_line file.now words.now) }
+    ensures one_line { IfOk result (λ line. IsOneLine (string_bytes line)) }
+{
+    let mut line = String::from_str(alloc, "error: ")?;
+    push_escaped(&mut line, file, Format::Line)?;
+    line.push_str(": ")?;
+    push_escaped(&mut line, words.trim_end(), Format::Line)?;
+    line.push_str("\n")?;
+    Ok(line)
+}
+
+fn push_char(text: &mut String, c: char, format: Format) -> Result<(), AllocError>
+    ensures { OnOk result (string_bytes text.new ≡ string_bytes text.old ++ escaped format c) }
+{
+    match format {
+        Format::Line => push_in_line(text, c),
+        Format::Markdown => push_in_markdown(text, c),
+        Format::Dot => push_in_dot(text, c),
+    }
+}
+
+#[tactic(auto, unfolding(crate::specs::Escaped::escaped))]
+fn push_in_line(text: &mut String, c: char) -> Result<(), AllocError>
+    ensures { OnOk result (string_bytes text.new ≡ string_bytes text.old ++ escaped Line c) }
+{
+    if is_control(c) {
+        return push_braced(text, c);
+    }
+    match c {
+        '\\' => text.push_str("\\\\"),
+        '|' => text.push_str("\\|"),
+        _ => text.push(c),
+    }
+}
+
+#[tactic(auto, unfolding(crate::specs::Escaped::escaped))]
+fn push_in_markdown(text: &mut String, c: char) -> Result<(), AllocError>
+    ensures { OnOk result (string_bytes text.new ≡ string_bytes text.old ++ escaped Markdown c) }
+{
+    if is_plain_in_markdown(c) {
+        text.push(c)
+    } else {
+        push_numbered(text, c)
+    }
+}
+
+#[tactic(auto, unfolding(crate::specs::Escaped::escaped))]
+fn push_in_dot(text: &mut String, c: char) -> Result<(), AllocError>
+    ensures { OnOk result (string_bytes text.new ≡ string_bytes text.old ++ escaped Dot c) }
+{
+    if is_control(c) {
+        return push_numbered(text, c);
+    }
+    match c {
+        '\\' => text.push_str("\\\\"),
+        '"' => text.push_str("\\\""),
+        '&' => text.push_str("&amp;"),
+        _ => text.push(c),
+    }
+}
+
+/// Writes a character by its number into a line, as Rust does.
+fn push_braced(text: &mut String, c: char) -> Result<(), AllocError>
+    ensures { OnOk result (string_bytes text.new ≡ string_bytes text.old ++ braced c) }
+{
+    let number = u32::from(c);
+    write!(text, "\\u{{{number:x}}}")
+}
+
+/// Writes a character by its number, as HTML does, and with it Markdown and Graphviz.
+fn push_numbered(text: &mut String, c: char) -> Result<(), AllocError>
+    ensures { OnOk result (string_bytes text.new ≡ string_bytes text.old ++ numbered c) }
+{
+    let number = u32::from(c);
+    write!(text, "&#{number};")
+}
+
+/// Whether the character is no sign: it ends a line, or is one of those that take no place or turn
+/// the direction of what follows.
+fn is_control(c: char) -> bool
+    ensures { result ≡ is_control c }
+{
+    matches!(c, '\0'..='\u{1f}' | '\u{7f}'..='\u{9f}' | '\u{ad}' | '\u{61c}' | '\u{180e}')
+        || matches!(c, '\u{200b}'..='\u{200f}' | '\u{2028}'..='\u{202e}')
+        || matches!(c, '\u{2060}'..='\u{206f}' | '\u{feff}' | '\u{fff9}'..='\u{fffb}')
+        || matches!(c, '\u{e0001}' | '\u{e0020}'..='\u{e007f}')
+}
+
+/// Whether the character has no meaning in the text of a line of Markdown.
+fn is_plain_in_markdown(c: char) -> bool
+    ensures { result ≡ is_plain_sign c }
+{
+    match c {
+        ' ' | '-' | '+' | '.' | ',' | ':' | ';' | '/' | '?' | '(' | ')' | '=' | '%' => true,
+        '0'..='9' | 'a'..='z' | 'A'..='Z' => true,
+        _ => !c.is_ascii() && !is_control(c),
+    }
+}
+
+/// Whether a name has characters, each of which stands for itself between backticks. A space in
+/// front doesn't, where another ends the name.
+fn is_code(name: &str) -> bool
+    ensures { result ≡ is_code name.now }
+{
+    for c in name.chars() {
+        if !is_plain_in_code(c) {
+            return false;
+        }
+    }
+    !is_none_in_code(name)
+}
+
+/// Whether a name has no character, or begins with a space.
+fn is_none_in_code(name: &str) -> bool
+    ensures { result ≡ ((length name.now == 0) || starts_with nat_eq name.now (codes " ")) }
+{
+    name.is_empty() || name.starts_with(' ')
+}
+
+fn is_plain_in_code(c: char) -> bool
+    ensures { result ≡ (is_plain_sign c || (c == 95)) }
+{
+    is_plain_in_markdown(c) || c == '_'
+}

@@ -1,0 +1,45 @@
+//! Values of JSON that several tools make.
+ghost use Rattle.std.specs.Prelude.{◌≡◌, OnOk, map, string_bytes};
+ghost use Rattle.std.specs.Option.{option_copied};
+ghost use Rattle.serde_json.specs.Data.{put as with_member};
+ghost use Rattle.serde_json.specs.View.{members_view};
+ghost use Rattle.cargo_toml_audit.specs.JsonRows.{text_array, text_or_null};
+
+use serde_json::{Map, Value, push, put};
+use std::alloc::{AllocError, Global};
+
+/// Puts a text under a key, or `null` where there is none.
+pub fn put_text(
+    alloc: Global,
+    object: &mut Map<String, Value>,
+    key: &str,
+    text: Option<&str>,
+) -> Result<(), AllocError>
+    ensures { OnOk result (members_view object.new.entries
+        ≡ with_member key.now (text_or_null (option_copied text.entry))
+        (members_view object.old.entries)) }
+{
+    let value = match text {
+        Some(text) => Value::try_from_str(alloc, text)?,
+        None => Value::from(()),
+    };
+    put(object, alloc, key, value)
+}
+
+/// Puts a list of texts under a key.
+pub fn put_texts(
+    alloc: Global,
+    object: &mut Map<String, Value>,
+    key: &str,
+    texts: &[String],
+) -> Result<(), AllocError>
+    ensures { OnOk result (members_view object.new.entries
+        ≡ with_member key.now (text_array (map string_bytes texts.now))
+        (members_view object.old.entries)) }
+{
+    let mut items = Vec::new(alloc);
+    for text in texts {
+        push(&mut items, Value::try_from_str(alloc, text.as_str())?)?;
+    }
+    put(object, alloc, key, Value::from(items))
+}

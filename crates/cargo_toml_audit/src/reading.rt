@@ -1,0 +1,47 @@
+//! Manifests that are read from files and held on the heap.
+ghost use Rattle.std.specs.Prelude.{IfErr, IfOk, IsSome, OnOk};
+ghost use Rattle.std.specs.Path.{path_parent};
+ghost use Rattle.toml.specs.View.{view};
+ghost use Rattle.cargo_toml.specs.Action.{Text};
+ghost use Rattle.cargo_toml.specs.Manifests.{ManifestRefuses, manifest_meaning, manifest_reads};
+ghost use Rattle.cargo_toml.specs.RealFiles.{IsTextFault};
+ghost use Rattle.cargo_toml.specs.Texts.{AnyRefuses, any_tree};
+ghost use Rattle.cargo_toml_audit.specs.FromFiles.{IsCompletedIn, IsManifestIn};
+ghost use Rattle.cargo_toml_audit.specs.FromFiles.{IsOfInput, IsUnreadable};
+
+use cargo_toml::Error;
+use cargo_toml_held::HeldManifest;
+use std::fs;
+use std::rt::Files;
+
+/// The text of a file.
+pub(crate) fn text_in<R: Files + AllocGlobal>(rt: &R, file: &str) -> Result<String, Error>
+    ensures { IfErr result IsOfInput }
+{
+    Ok(fs::read_to_string(rt, file)?)
+}
+
+/// The manifest in the text of this file, completed from what is around it.
+pub(crate) fn completed_of<R: Files + AllocGlobal>(
+    rt: &R,
+    file: &str,
+    text: &str,
+) -> Result<HeldManifest, Error>
+    ensures completed { IfOk result (λ h. IsCompletedIn file.now text.now h.manifest.value) }
+    ensures named { OnOk result (IsSome (path_parent file.now)) }
+    ensures refused { IfErr result (IsTextFault file.now text.now (manifest_meaning view)
+        (manifest_reads any_tree) (ManifestRefuses any_tree AnyRefuses)) }
+{
+    let mut held = HeldManifest::from_str(rt.alloc(), text)?;
+    held.manifest.complete_from_path(rt, rt.alloc(), file)?;
+    Ok(held)
+}
+
+/// The manifest in this file.
+pub(crate) fn manifest_in<R: Files + AllocGlobal>(rt: &R, path: &str) -> Result<HeldManifest, Error>
+    ensures read { IfOk result (λ h. (text : Text) × IsManifestIn text h.manifest.value) }
+    ensures refused { IfErr result IsUnreadable }
+{
+    let text = text_in(rt, path)?;
+    HeldManifest::from_str(rt.alloc(), text.as_str())
+}

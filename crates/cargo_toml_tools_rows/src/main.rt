@@ -15,7 +15,7 @@ use cargo_toml_audit::auditing::audit;
 use cargo_toml_row_files::templates::text_in;
 use cargo_toml_row_files::tree::{fresh_folder, make_tree, remove_tree};
 use cargo_toml_tools::escape::fault_line;
-use cargo_toml_tools::files::{audit, document_text, index_line, lint_lines};
+use cargo_toml_tools::files::{document_text, index_line, lint_lines};
 use cargo_toml_tools::index::{CRATES_IO, Options};
 use cargo_toml_tools_words::Outcome;
 use std::alloc::Global;

@@ -61,18 +61,27 @@ told_in d false n c f t = (λ i. absurd i, λ h. absurd (false≢true h.3))
 module _ {S : Type 0} (m : HashMap (Bor Text) Feature S) (l : Links) (place : ℕ) (n : Text) (at : name_at l place ≡ n)
     (implied alone cyclic left : Bool) (h1 : IsTrue implied ↔ CountsAt m l Implied place) (h2 : IsTrue alone ↔ CountsAt m l PrivateDefault place)
     (h3 : IsTrue cyclic ↔ CountsAt m l Cycle place) (h4 : IsTrue left ↔ CountsAt m l Unreachable place) where
+  abbrev Last : List About
+  Last = told n [] (when cyclic Cycle) ++ told n [] (when left Unreachable)
+
+  abbrev Later : List About
+  Later = told n [] (when alone PrivateDefault) ++ Last
+
   abbrev pub All : List About
-  All = told n [] (when implied Implied) ++ (told n [] (when alone PrivateDefault) ++ (told n [] (when cyclic Cycle) ++ told n [] (when left Unreachable)))
+  All = told n [] (when implied Implied) ++ Later
 
   one : (d : Code) (b : Bool) → IsTrue b ↔ CountsAt m l d place → (c : Code) (f t : Text) → Among (told n [] (when b d)) (c, f, t)
       → (t ≡ []) × (name_at l place ≡ f) × CountsAt m l c place
   one d b h c f t i = let r = (told_in d b n c f t).0 i in (r.1, at ∙ r.2, subst (λ e. CountsAt m l e place) (sym r.0) (h.0 r.3))
 
   of_code : (c : Code) → CountsAt m l c place → (f t : Text) → t ≡ [] → n ≡ f → Among All (c, f, t)
-  of_code Implied q f t e s = among_first _ _ _ ((told_in Implied implied n Implied f t).1 (refl, e, s, h1.1 q))
-  of_code PrivateDefault q f t e s = among_last _ _ _ (among_first _ _ _ ((told_in PrivateDefault alone n PrivateDefault f t).1 (refl, e, s, h2.1 q)))
-  of_code Cycle q f t e s = among_last _ _ _ (among_last _ _ _ (among_first _ _ _ ((told_in Cycle cyclic n Cycle f t).1 (refl, e, s, h3.1 q))))
-  of_code Unreachable q f t e s = among_last _ _ _ (among_last _ _ _ (among_last _ _ _ ((told_in Unreachable left n Unreachable f t).1 (refl, e, s, h4.1 q))))
+  of_code Implied q f t e s = among_first (told n [] (when implied Implied)) Later (Implied, f, t) ((told_in Implied implied n Implied f t).1 (refl, e, s, h1.1 q))
+  of_code PrivateDefault q f t e s = among_last (told n [] (when implied Implied)) Later (PrivateDefault, f, t)
+      (among_first (told n [] (when alone PrivateDefault)) Last (PrivateDefault, f, t) ((told_in PrivateDefault alone n PrivateDefault f t).1 (refl, e, s, h2.1 q)))
+  of_code Cycle q f t e s = among_last (told n [] (when implied Implied)) Later (Cycle, f, t) (among_last (told n [] (when alone PrivateDefault)) Last (Cycle, f, t)
+      (among_first (told n [] (when cyclic Cycle)) (told n [] (when left Unreachable)) (Cycle, f, t) ((told_in Cycle cyclic n Cycle f t).1 (refl, e, s, h3.1 q))))
+  of_code Unreachable q f t e s = among_last (told n [] (when implied Implied)) Later (Unreachable, f, t) (among_last (told n [] (when alone PrivateDefault)) Last (Unreachable, f, t)
+      (among_last (told n [] (when cyclic Cycle)) (told n [] (when left Unreachable)) (Unreachable, f, t) ((told_in Unreachable left n Unreachable f t).1 (refl, e, s, h4.1 q))))
   of_code _ q f t e s = absurd q
 
   pub all_found : {a b : List Finding} → Finds All a b → (c : Code) (f t : Text)
@@ -80,11 +89,11 @@ module _ {S : Type 0} (m : HashMap (Bor Text) Feature S) (l : Links) (place : �
   all_found put c f t = let after = found_after put c f t in (
     λ i. elim (after.0 i) [
       | inl j ↦ inl j
-      | inr j ↦ inr (elim (among_either _ _ _ j) [
+      | inr j ↦ inr (elim (among_either (told n [] (when implied Implied)) Later (c, f, t) j) [
         | inl k ↦ one Implied implied h1 c f t k
-        | inr k ↦ elim (among_either _ _ _ k) [
+        | inr k ↦ elim (among_either (told n [] (when alone PrivateDefault)) Last (c, f, t) k) [
           | inl k ↦ one PrivateDefault alone h2 c f t k
-          | inr k ↦ elim (among_either _ _ _ k) [ inl k ↦ one Cycle cyclic h3 c f t k | inr k ↦ one Unreachable left h4 c f t k ]
+          | inr k ↦ elim (among_either (told n [] (when cyclic Cycle)) (told n [] (when left Unreachable)) (c, f, t) k) [ inl k ↦ one Cycle cyclic h3 c f t k | inr k ↦ one Unreachable left h4 c f t k ]
         ]
       ])
     ],

@@ -138,7 +138,7 @@ module _ {M S H : Type 0} (limit : ℕ) (m : ManifestMeaning M) (a : Features S 
     counts_is PrivateDefault f = private_in f
     counts_is Cycle f = cyclic_is whole l are f
     counts_is Unreachable f = unreachable_is whole l are f
-    counts_is _ f = (λ h. h, λ h. h)
+    counts_is _ f = (λ h. absurd h.3, λ h. absurd h)
 
     written_same : written_in a.features known limit m ≡ written_findings limit m
     written_same = λ i. flat_map (λ e. feature_findings (names i) (nat_lt limit (length e.1) || not (explicit_is e.0 i)) e.0 e.1) (listed_as i)

@@ -16,10 +16,8 @@ pub use cargo_toml_manifest::{
 pub use cargo_toml_package::{Package, PackageTemplate};
 pub use cargo_toml_parts::{Error, FromValue, Inheritable, ParseFault, SemVer, Value, VersionReq};
 pub use cargo_toml_tables::{
-    DebugSetting, Edition, LtoSetting, OptionalFile, Publish, Resolver, StripSetting,
-};
-pub use cargo_toml_tables::{
-    Badge, Badges, Lint, LintGroups, LintLevel, LintSet, Maintenance, MaintenanceStatus, Product,
-    Profile, Profiles,
+    Badge, Badges, DebugSetting, Edition, Lint, LintGroups, LintLevel, LintSet, LtoSetting,
+    Maintenance, MaintenanceStatus, OptionalFile, Product, Profile, Profiles, Publish, Resolver,
+    StripSetting,
 };
 pub use cargo_toml_write::ToValue;

@@ -1,7 +1,6 @@
 //! The entries of all dependency tables of a manifest.
-ghost use Rattle.std.specs.Prelude.{◌≡◌, ◌++◌, map, string_bytes, IfOk, OnOk, None, Some};
-ghost use Rattle.std.specs.List.{flat_map};
-ghost use Rattle.std.specs.Option.{option_copied};
+ghost use Rattle.std.specs.Prelude.{◌≡◌, ◌++◌, map, IfOk, OnOk, None, Some};
+ghost use Rattle.std.specs.{List.flat_map, Option.option_copied};
 ghost use Rattle.cargo_toml_parts.specs.Reads.{map_meaning};
 ghost use Rattle.cargo_toml_dependencies.specs.Dependencies.{dependency_meaning};
 ghost use Rattle.cargo_toml_dependencies.specs.Targets.{target_meaning};

@@ -1,32 +1,23 @@
 -- Features implied one after another.
 use Rattle.std.proofs.Common.{◌≡◌, ◌<◌, ◌&&◌, ◌||◌, not, ℕ, zero, suc, Bool, true, false, cond, List, [], ◌∷◌, ◌++◌, length, map, get_or, take, ◌+◌, Vec, Option, Some, None, is_some, option_map, bytes_eq, Bor, refl, sym, ap, subst, ◌∙◌, arith}
-use Rattle.std.proofs.Math.Bool.{and-or_distrib_right, or-false}
+use Rattle.std.proofs.{Math.Bool.and-or_distrib_right, Math.Bool.or-false, Common.rules}
 use Rattle.std.proofs.lemmas.{Bool.false≢true, List.Folds.list_any-append, Slice.Eq.bytes_eq-Decides, Map.Text.btree_map_updates_str, Grind.common_steps}
 use Rattle.std.specs.BTreeMap as tree
 use Rattle.std.specs.{BTreeMap.BTreeMap, BTreeSet.BTreeSet, Cmp.Lexicographic.slice_cmp, List.list_any, Map.lookup, Option.IsSomeAnd, Option.option_or, Ordering.nat_cmp, declared.alloc.Global.Global}
 use Rattle.cargo_toml_features.specs.{declared.features.DepAction.DepAction, declared.features.Feature.Feature, Recorded.Entry, Resolved.plain_action, Views.action_of, Views.action_at}
-use Rattle.cargo_toml_features.specs.InOrder.{feature_at}
-use Rattle.cargo_toml_graph.specs.Action.{Text}
+use Rattle.cargo_toml_features.{specs.InOrder.feature_at, proofs.TextKeys.none_in}
+use Rattle.cargo_toml_graph.{specs.Action.Text, proofs.Texts.bytes_eq_sym}
 use Rattle.cargo_toml_full.specs.Implying.{AreFree, IsImplied, Becomes, ImpliesAll, is_optional_at, is_offered, is_offered_alone, is_one_of}
-use Rattle.cargo_toml_graph.proofs.Texts.{bytes_eq_sym}
-use Rattle.cargo_toml_features.proofs.TextKeys.{none_in}
 use Rattle.cargo_toml_full.proofs.{TakenMore.taken_more, Placed.none_from, ReadOne.has_more}
 
 stays : (t : Bool) (q : Text) (o : Option Feature) → (t ≡ true → is_some o ≡ true) → Becomes t q o o
-stays true q None h = absurd (false≢true (h refl))
-stays false q None h = refl
-stays true q (Some v) h = refl
-stays false q (Some v) h = refl
+stays v0 v1 v2 v3 = search rules
 
 kept : (t : Bool) (q : Text) (o o' : Option Feature) (v : Feature) → o ≡ Some v → Becomes t q o o' → o' ≡ Some v
-kept true q None o' v e b = cc
-kept false q None o' v e b = cc
-kept true q (Some w) o' v e b = b ∙ e
-kept false q (Some w) o' v e b = b ∙ e
+kept v0 v1 v2 v3 v4 v5 v6 = search rules
 
 some-and : (q : Text) (o o' : Option Feature) → IsSomeAnd o (IsImplied q) → ((v : Feature) → o ≡ Some v → o' ≡ Some v) → IsSomeAnd o' (IsImplied q)
-some-and q None o' i same = absurd i
-some-and q (Some v) o' i same = subst (λ o. IsSomeAnd o (IsImplied q)) (sym (same v refl)) i
+some-and v0 v1 v2 v3 v4 = search rules
 
 twice : (t s : Bool) (q : Text) (a b c : Option Feature) → Becomes t q a b → Becomes s q b c → Becomes (t || s) q a c
 twice v0 v1 v2 v3 v4 v5 v6 v7 = grind (arith, common_steps, some-and, kept)
@@ -42,8 +33,7 @@ module _ where
   -- the entries es, and then e
   pub implied_next : (reserved : Text → Bool) (es : List Entry) (e : Entry) (a b c : List Feature)
       → ImpliesAll (is_offered reserved es) a b → ImpliesAll (is_offered reserved (e ∷ [])) b c → ImpliesAll (is_offered reserved (es ++ e ∷ [])) a c
-  implied_next reserved es e a b c = implied_more (is_offered reserved es) (is_offered reserved (e ∷ [])) (is_offered reserved (es ++ e ∷ [])) a b c
-      (offered_more reserved es e)
+  implied_next v0 v1 v2 v3 v4 v5 v6 v7 = search (rules, implied_more, offered_more)
 
   -- the feature of the key is put where none is
   pub implied_put : (key : Text) (m n : List Feature) (w : Feature) → feature_at m key ≡ None → IsImplied key w
@@ -78,9 +68,7 @@ offered_one reserved e q = grind (arith, common_steps, bytes_eq_sym, bytes_eq-De
 -- one more key of a list
 pub implied_one_more : (ks : List (Bor Text)) (i : ℕ) (k d : Bor Text) (started a b : List Feature) → i < length ks → k ≡ get_or ks i d → ImpliesAll (is_one_of (map (λ t. t.now) (take i ks))) started a
     → ImpliesAll (λ q. bytes_eq q k.now) a b → ImpliesAll (is_one_of (map (λ t. t.now) (take (i + 1) ks))) started b
-implied_one_more ks i k d started a b below is h more = implied_more (is_one_of (map (λ t. t.now) (take i ks))) (λ q. bytes_eq q k.now) (is_one_of (map (λ t. t.now) (take (i + 1) ks))) started a b
-    (λ q. ap (λ ts. is_one_of ts q) (taken_more (λ (t : Bor Text). t.now) ks i k d below is)
-    ∙ list_any-append (bytes_eq q) (map (λ t. t.now) (take i ks)) (k.now ∷ []) ∙ ap (λ b. is_one_of (map (λ t. t.now) (take i ks)) q || b) (or-false _)) h more
+implied_one_more v0 v1 v2 v3 v4 v5 v6 v7 v8 v9 v10 = grind (arith, common_steps, implied_more, taken_more, list_any-append, or-false)
 
 -- a feature that was there comes to those that have the implied ones
 pub implied_listed : (p : Text → Bool) (done all new : List Feature) (v : Feature) → p v.key.now ≡ false → ImpliesAll p done all

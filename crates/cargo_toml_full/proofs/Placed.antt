@@ -1,7 +1,7 @@
 -- Features in the order of their names, and one more that is put among them.
 use Rattle.std.proofs.Common.{◌≡◌, ◌⊎◌, ◌+◌, ◌<◌, ◌≤◌, ℕ, zero, suc, Bool, true, false, cond, List, [], ◌∷◌, ◌++◌, length, set, get_or, Option, Some, None, is_some, bytes_eq, refl, sym, ap, ap₂, subst, inl, inr, arith, ◌∙◌}
 use Rattle.std.proofs.lemmas.{Bool.false≢true, Bool.cases_order, Cmp.nat_list_cmp_total, List.get_or-map, List.length-map, List.Edits.insert_end, Map.Lookups.exact_bytes, Slice.Eq.bytes_eq-Decides}
-use Rattle.std.proofs.lemmas.Grind.{common_steps}
+use Rattle.std.proofs.{lemmas.Grind.common_steps, Common.rules}
 use Rattle.std.specs.{List.insert, List.list_any, List.Sorted.IsPartitionPoint, List.Sorted.IsPartitionedBy, Option.option_or}
 use Rattle.cargo_toml_features.specs.{declared.features.Feature.Feature, InOrder.AreInOrder, InOrder.feature_at, InOrder.names_of, Places.nth_text}
 use Rattle.cargo_toml_graph.specs.{Action.Text, Admitted.is_below, Reach.Among}
@@ -68,8 +68,7 @@ put_held (v ∷ vs) (suc i) w within gone f = grind (arith, common_steps, bytes_
 -- one more in its place
 module _ (vs : List Feature) (i : ℕ) (w : Feature) (up : AreInOrder vs) (place : IsPlaceOf vs i w.key.now) (new : List Feature) (put : new ≡ insert vs i w) where
   pub placed_in_order : AreInOrder new
-  placed_in_order = subst AreInOrder (sym put) (put_ascends vs i w up place.bound.within place.bound.below
-      (λ inside. strictly_above (nth_text (names_of vs) i) w.key.now (place.bound.above inside) (place.free inside)))
+  placed_in_order = search (rules, put_ascends, place, strictly_above)
 
   pub placed_held : (f : Text) → feature_at new f ≡ cond (bytes_eq f w.key.now) (Some w) (feature_at vs f)
   placed_held f = ap (λ us. feature_at us f) put ∙ put_held vs i w place.bound.within (place_free vs i w.key.now up place) f
@@ -133,8 +132,7 @@ feature_there (v ∷ vs) zero f below same = ap (λ t. is_some (cond t (Some v) 
 feature_there (v ∷ vs) (suc i) f below same = grind (arith, common_steps, bytes_eq-Decides, feature_there vs i f (omega (arith, below)) same)
 
 pub none_from : (o : Option Feature) → is_some o ≡ false → o ≡ None
-none_from None off = refl
-none_from (Some v) off = absurd (false≢true (sym off))
+none_from v0 v1 = search rules
 
 -- what stands at a name once a feature came to a free place
 pub put_new : (vs : List Feature) (v : Feature) (o : Option Feature) (f : Text) → feature_at vs v.key.now ≡ None → o ≡ cond (bytes_eq f v.key.now) (Some v) (feature_at vs f)
@@ -191,8 +189,7 @@ feature_here (v ∷ vs) (suc i) d up below = go (bytes_eq (nth_text (names_of vs
 
 -- a look at the place where a name would stand tells whether it has a feature
 pub told_there : (vs : List Feature) (i : ℕ) (f : Text) → AreInOrder vs → IsBoundOf vs i f → (b : Bool) → (b ≡ true → (i < length vs) × (nth_text (names_of vs) i ≡ f)) → (b ≡ false → i < length vs → nth_text (names_of vs) i ≡ f → ⊥) → b ≡ is_some (feature_at vs f)
-told_there vs i f up bound true stands free = let here = stands refl in sym (feature_there vs i f here.0 here.1)
-told_there vs i f up bound false stands free = sym (ap is_some (feature_missing vs f (place_free vs i f up (record { bound = bound; free = free refl }))))
+told_there v0 v1 v2 v3 v4 v5 v6 v7 = grind (arith, common_steps, feature_there, feature_missing, place_free)
 
 -- the place of f is behind all others
 pub record IsBehind (vs : List Feature) (i : ℕ) (f : Text) : Type 0 where
@@ -229,8 +226,7 @@ module _ (vs : List Feature) (i : ℕ) (w : Feature) (new : List Feature) (f : T
 -- behind all others one is pushed, which then becomes another
 module _ (vs : List Feature) (i : ℕ) (v : Feature) (pushed : List Feature) (f : Text) (up : AreInOrder vs) (behind : IsBehind vs i f) (put : pushed ≡ vs ++ v ∷ []) where
   last : i ≡ length vs
-  last =
-      omega (arith, behind.past, behind.bound.within)
+  last = search rules
 
   module _ (w : Feature) (key : w.key.now ≡ f) where
     filled : set pushed i w ≡ vs ++ w ∷ []

@@ -1,7 +1,6 @@
 //! What the lists of features say.
-ghost use Rattle.std.specs.Prelude.{◌≡◌, ◌∷◌, ◌++◌, [], List};
+ghost use Rattle.std.specs.Prelude.{◌≡◌, ◌∷◌, ◌++◌, [], List, IfOk, OnOk, None, Some, MatchOption};
 ghost use Rattle.std.specs.Prelude.{bytes_eq, string_bytes, codes, map, false, if◌then◌else◌};
-ghost use Rattle.std.specs.Prelude.{IfOk, OnOk, None, Some, MatchOption};
 ghost use Rattle.std.specs.Option.{IsSomeAnd, option_or};
 ghost use Rattle.cargo_toml_graph.specs.Action.{Text, Item, item_of};
 ghost use Rattle.cargo_toml_graph.specs.Admitted.{action_on};

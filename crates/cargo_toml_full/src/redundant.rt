@@ -1,10 +1,8 @@
 //! Features of dependencies that are on anyway.
 ghost use Rattle.std.specs.Prelude.{◌≡◌, IfOk, List, Option, Some, bytes_eq, map};
-ghost use Rattle.std.specs.Prelude.{option_map, string_bytes};
-ghost use Rattle.std.specs.List.{list_any};
+ghost use Rattle.std.specs.{Prelude.option_map, Prelude.string_bytes, List.list_any};
 ghost use Rattle.std.specs.Option.{ForSome};
-ghost use Rattle.cargo_toml_dependencies.specs.Dependencies.{DependencyMeaning};
-ghost use Rattle.cargo_toml_dependencies.specs.Dependencies.{dependency_meaning};
+ghost use Rattle.cargo_toml_dependencies.specs.Dependencies.{DependencyMeaning, dependency_meaning};
 ghost use Rattle.cargo_toml_graph.specs.Action.{Text};
 ghost use Rattle.cargo_toml_features.specs.Recorded.{Entry, first_target, is_redundant};
 ghost use Rattle.cargo_toml_features.specs.Recorded.{recorded_of, without_redundant};

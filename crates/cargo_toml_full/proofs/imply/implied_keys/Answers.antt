@@ -1,6 +1,5 @@
 use Rattle.std.proofs.Common.{◌∷◌, ◌||◌, [], take, take_all, map, bytes_eq, ap, sym, ◌∙◌}
-use Rattle.std.proofs.lemmas.Bool.{false≢true}
-use Rattle.std.specs.List.{list_any}
+use Rattle.std.{proofs.lemmas.Bool.false≢true, specs.List.list_any}
 use Rattle.cargo_toml_features.specs.Views.{entry_of}
 use Rattle.cargo_toml_full.specs.{Implying.is_offered, Searching.has_key}
 use Rattle.cargo_toml_full.proofs.{Implying.offered_more, TakenMore.taken_more, Searched.same_among}

@@ -1,7 +1,6 @@
 use Rattle.std.proofs.Common.{◌++◌, ◌∷◌, [], None, map, ap, ◌∙◌}
 use Rattle.std.proofs.lemmas.List.{replicate-append-replicate}
-use Rattle.cargo_toml_full.specs.Slots.{held_among}
-use Rattle.cargo_toml_full.proofs.SlotValues.{none_anywhere}
+use Rattle.cargo_toml_full.{specs.Slots.held_among, proofs.SlotValues.none_anywhere}
 use Rattle.cargo_toml_full.proofs.places.empty_slots.Goals as goal
 
 pub loop-preserved : goal.loop-preserved

@@ -1,9 +1,8 @@
 use Rattle.std.proofs.Common.{◌≡◌, take, is_some, sym, subst, ap, ◌∙◌, arith}
 use Rattle.std.proofs.lemmas.List.{take_all}
-use Rattle.cargo_toml_graph.specs.Reach.{IsOnce}
+use Rattle.cargo_toml_graph.{specs.Reach.IsOnce, proofs.SortedTexts.none_ascend}
 use Rattle.cargo_toml_features.specs.{InOrder.AreInOrder, Marks.named_details, Views.listed_of}
 use Rattle.cargo_toml_features.proofs.Listings.{names_listed}
-use Rattle.cargo_toml_graph.proofs.SortedTexts.{none_ascend}
 use Rattle.cargo_toml_full.specs.Searching.{has_key}
 use Rattle.cargo_toml_full.proofs.ReadAll.{HasRead, is_dep_only, none_read, read_more, told_in, told_next, all_fresh, all_read}
 use Rattle.cargo_toml_full.proofs.read.read_features.Goals as goal

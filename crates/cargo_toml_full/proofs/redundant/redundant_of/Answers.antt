@@ -4,8 +4,7 @@ use Rattle.std.specs.List.{list_any}
 use Rattle.cargo_toml_dependencies.specs.{declared.dependency.Dependency.Dependency, declared.dependency.DependencyDetail.DependencyDetail, Dependencies.dependency_meaning}
 use Rattle.cargo_toml_graph.specs.Action.{Text}
 use Rattle.cargo_toml_features.specs.Recorded.{is_redundant}
-use Rattle.cargo_toml_full.specs.Searching.{has_key}
-use Rattle.cargo_toml_full.proofs.Searched.{same_among}
+use Rattle.cargo_toml_full.{specs.Searching.has_key, proofs.Searched.same_among}
 use Rattle.cargo_toml_full.proofs.redundant.redundant_of.Goals as goal
 
 pub returns : goal.returns

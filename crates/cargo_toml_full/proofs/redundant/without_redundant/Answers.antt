@@ -1,5 +1,4 @@
-use Rattle.std.proofs.Common.{sym, subst, ◌∙◌}
-use Rattle.std.proofs.lemmas.List.{with_items_is}
+use Rattle.std.proofs.{Common.sym, Common.subst, Common.◌∙◌, lemmas.List.with_items_is}
 use Rattle.cargo_toml_full.specs.Redundant.{ThinnedAll}
 use Rattle.cargo_toml_full.proofs.redundant.without_redundant.Goals as goal
 

@@ -1,10 +1,8 @@
-use Rattle.std.proofs.Common.{get_or, map, Bor, refl, sym, ap, ◌∙◌, []}
+use Rattle.std.proofs.Common.{get_or, map, Bor, refl, sym, ap, ◌∙◌, [], cond, Some}
 use Rattle.std.proofs.lemmas.List.{get_or-map, map-append}
 use Rattle.cargo_toml_features.specs.{declared.features.Feature.Feature, InOrder.feature_at, InOrder.names_of, Places.nth_text}
 use Rattle.cargo_toml_full.proofs.{Placed.feature_here, Placed.feature_set, PlaceByPlace.names_set, Requiring.required_at}
-use Rattle.cargo_toml_graph.specs.Action.{Text}
-use Rattle.cargo_toml_graph.proofs.Texts.{bytes_eq_sym}
-use Rattle.std.proofs.Common.{cond, Some}
+use Rattle.cargo_toml_graph.{specs.Action.Text, proofs.Texts.bytes_eq_sym}
 use Rattle.cargo_toml_full.proofs.required.require_at.Goals as goal
 
 pub returns-in_err-push-clause-same_names : goal.returns-in_err-push-clause-same_names

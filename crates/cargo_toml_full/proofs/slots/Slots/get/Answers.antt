@@ -1,6 +1,5 @@
 use Rattle.std.proofs.Common.{◌≡◌, ◌<◌, length, map, Bor, refl, sym, ap, subst, ◌∙◌}
-use Rattle.std.proofs.lemmas.List.{length-map}
-use Rattle.std.specs.Option.{option_copied}
+use Rattle.std.{proofs.lemmas.List.length-map, specs.Option.option_copied}
 use Rattle.cargo_toml_graph.specs.{Action.Text, Reach.Among}
 use Rattle.cargo_toml_full.specs.Slots.{held_in, names_in}
 use Rattle.cargo_toml_full.proofs.HeldValues.{held_at, held_missing}

@@ -9,6 +9,7 @@ use Rattle.cargo_toml_features.specs.contracts.features.TargetKeyOrd.TheImpl.Law
 use Rattle.cargo_toml_features.specs.{declared.features.FeatureDependency.FeatureDependency, declared.features.TargetKey.TargetKey, FirstTarget.HasTarget, FirstTarget.IsFirst, Recorded.Entry}
 use Rattle.cargo_toml_features.specs.{Recorded.Target, Recorded.target_cmp, Recorded.recorded_of, Recorded.first_target, Resolved.SameRecorded, Views.recorded_in, Views.target_in}
 use Rattle.cargo_toml_features.proofs.Targets.{at, by_key, cmp_is, key_of, target_of-key_of, target_same}
+use Rattle.std.proofs.lemmas.Option.{same_Some}
 
 -- ---- the least of a list, of equal ones the first
 module _ {K X : Type 0} {R : K → K → Ordering} (o : IsTotalOrder R) (g : X → K) where
@@ -129,9 +130,6 @@ module _ (m : BTreeMap TargetKey (Bor Dependency)) where
           lower_key
 
 -- ---- what is recorded of a key
-some_same : {X : Type 0} {x y : X} → Some x ≡ Some y → x ≡ y
-some_same e = cc
-
 some_none : {X : Type 0} {x : X} → Some x ≡ None → ⊥
 some_none e = cc
 
@@ -139,7 +137,7 @@ some_none e = cc
 pub first_recorded : (d : FeatureDependency) (key : TargetKey) (w : Bor Dependency) → tree.get (key_order.cmp-value).it d.targets key ≡ Some w → tree.IsLowerBound (key_order.cmp-value).it d.targets key
     → (es : List Entry) → Some (recorded_in d) ≡ recorded_of es → Some (dependency_meaning w.now) ≡ first_target es
 first_recorded d key w here bound [] r = absurd (some_none r)
-first_recorded d key w here bound (e ∷ es) r = sym (first_is d.targets key w here bound e es (λ t. ap (λ x. x.targets t) (some_same r)))
+first_recorded d key w here bound (e ∷ es) r = sym (first_is d.targets key w here bound e es (λ t. ap (λ x. x.targets t) (same_Some _ _ r)))
 
 pub first_same : (d : FeatureDependency) (key : TargetKey) (w : Bor Dependency) → tree.get (key_order.cmp-value).it d.targets key ≡ Some w → tree.IsLowerBound (key_order.cmp-value).it d.targets key
     → (es : List Entry) → SameRecorded (Some (recorded_in d)) (recorded_of es) → Some (dependency_meaning w.now) ≡ first_target es
@@ -148,7 +146,7 @@ first_same v0 v1 v2 v3 v4 v5 v6 = grind (arith, first_is)
 -- a key that is recorded has a target
 pub some_recorded : (d : FeatureDependency) → d.targets.entries ≡ [] → (es : List Entry) → Some (recorded_in d) ≡ recorded_of es → None ≡ first_target es
 some_recorded d empty [] r = refl
-some_recorded d empty (e ∷ es) r = absurd (some_none (sym (sym nothing ∙ ap (λ x. x.targets e.target) (some_same r) ∙ ap (λ b. option_map (λ (x : Entry). x.dependency) (cond b (Some e) (find (λ x. is_eq (target_cmp e.target x.target)) es))) (ap is_eq (tied_itself target_total e.target)))))
+some_recorded d empty (e ∷ es) r = absurd (some_none (sym (sym nothing ∙ ap (λ x. x.targets e.target) (same_Some _ _ r) ∙ ap (λ b. option_map (λ (x : Entry). x.dependency) (cond b (Some e) (find (λ x. is_eq (target_cmp e.target x.target)) es))) (ap is_eq (tied_itself target_total e.target)))))
   where
     nothing : at d.targets e.target ≡ None
     nothing = ap (λ l. option_map (λ (x : Bor Dependency). dependency_meaning x.now) (lookup (tree.is_at (λ k. target_cmp e.target (target_in k))) l)) empty

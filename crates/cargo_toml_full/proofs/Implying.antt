@@ -30,19 +30,10 @@ module _ where
   implied_more : (p r s : Text → Bool) (a b c : List Feature) → ((q : Text) → s q ≡ (p q || r q)) → ImpliesAll p a b → ImpliesAll r b c → ImpliesAll s a c
   implied_more p r s a b c same h k = record { at = λ q. subst (λ t. Becomes t q (feature_at a q) (feature_at c q)) (sym (same q)) (twice (p q) (r q) q (feature_at a q) (feature_at b q) (feature_at c q) (h.at q) (k.at q)) }
 
-  -- the entries es, and then e
-  pub implied_next : (reserved : Text → Bool) (es : List Entry) (e : Entry) (a b c : List Feature)
-      → ImpliesAll (is_offered reserved es) a b → ImpliesAll (is_offered reserved (e ∷ [])) b c → ImpliesAll (is_offered reserved (es ++ e ∷ [])) a c
-  implied_next v0 v1 v2 v3 v4 v5 v6 v7 = search (rules, implied_more, offered_more)
-
   -- the feature of the key is put where none is
-  pub implied_put : (key : Text) (m n : List Feature) (w : Feature) → feature_at m key ≡ None → IsImplied key w
-      → ((q : Text) → feature_at n q ≡ cond (bytes_eq q key) (Some w) (feature_at m q)) → ImpliesAll (λ q. bytes_eq q key) m n
-  implied_put key m n w none is put = grind (arith, common_steps, bytes_eq-Decides, stays, false≢true)
-
-  -- where the key has a feature, it stays
-  pub implied_there : (key : Text) (m : List Feature) → is_some (feature_at m key) ≡ true → ImpliesAll (λ q. bytes_eq q key) m m
-  implied_there key m there = record { at = λ q. stays (bytes_eq q key) q (feature_at m q) (λ y. subst (λ v. is_some (feature_at m v) ≡ true) (sym ((bytes_eq-Decides q key).0 y)) there) }
+  pub implied_put : (key : Text) (m n : List Feature) (w : Feature) → IsImplied key w
+      → ((q : Text) → feature_at n q ≡ option_or (feature_at m q) (cond (bytes_eq q w.key.now) (Some w) None)) → ImpliesAll (λ q. bytes_eq q key) m n
+  implied_put key m n w is put = grind (arith, common_steps, bytes_eq-Decides, false≢true)
 
 -- the one plain action
 pub plain_made : (key : Text) (m n : BTreeMap (Bor Text) DepAction) (s : BTreeSet (Bor Text)) → m.entries ≡ [] → s.keys ≡ []
@@ -56,10 +47,6 @@ plain_made key m n s none empty u k =
     go : (t : Bool) → option_map action_of (cond t (Some (record { is_conditional = false; is_dep_only = false; dep_features = s })) None) ≡ cond t (Some plain_action) None
     go true = λ i. Some (record { is_conditional = false; is_dep_only = false; features = λ x. none_in s empty x i })
     go false = refl
-
--- no entries offer anything
-pub offers_nothing : (reserved : Text → Bool) (vs : List Feature) → ImpliesAll (is_offered reserved []) vs vs
-offers_nothing reserved vs = record { at = λ q. stays false q (feature_at vs q) (λ y. absurd (false≢true y)) }
 
 -- one entry offers its key, if any
 pub offered_one : (reserved : Text → Bool) (e : Entry) (q : Text) → is_offered reserved (e ∷ []) q ≡ cond (is_offered_alone reserved e) (bytes_eq q e.key) false

@@ -2,18 +2,13 @@
 use Rattle.std.proofs.Common.{◌≡◌, ◌⊎◌, ◌+◌, ◌<◌, ◌≤◌, ℕ, zero, suc, Bool, true, false, cond, List, [], ◌∷◌, ◌++◌, length, set, get_or, Option, Some, None, is_some, bytes_eq, refl, sym, ap, ap₂, subst, inl, inr, arith, ◌∙◌}
 use Rattle.std.proofs.lemmas.{Bool.false≢true, Bool.cases_order, Cmp.nat_list_cmp_total, List.get_or-map, List.length-map, List.Edits.insert_end, Map.Lookups.exact_bytes, Slice.Eq.bytes_eq-Decides}
 use Rattle.std.proofs.{lemmas.Grind.common_steps, Common.rules}
-use Rattle.std.specs.{List.insert, List.list_any, List.Sorted.IsPartitionPoint, List.Sorted.IsPartitionedBy, Option.option_or}
+use Rattle.std.specs.{List.insert, List.Sorted.IsPartitionPoint, List.Sorted.IsPartitionedBy, Option.option_or}
 use Rattle.cargo_toml_features.specs.{declared.features.Feature.Feature, InOrder.AreInOrder, InOrder.feature_at, InOrder.names_of, Places.nth_text}
 use Rattle.cargo_toml_graph.specs.{Action.Text, Admitted.is_below, Reach.Among}
 use Rattle.cargo_toml_graph.proofs.{RedirectsInOrder.below_one_way, SortedTexts.first_below, SortedTexts.one_ascends, SortedTexts.others_ascend, SortedTexts.put_first}
 use Rattle.cargo_toml_full.specs.Placing.{IsBoundOf, IsPlaceOf}
 use Rattle.cargo_toml_full.proofs.Ascending.{Below, below_then, lower}
 use Rattle.cargo_toml_features.proofs.Places.{among_at, at_among, rises}
-
--- a name is that of one of them, or of none
-pub found_any : (vs : List Feature) (f : Text) → list_any (λ v. bytes_eq f v.key.now) vs ≡ is_some (feature_at vs f)
-found_any [] f = refl
-found_any (v ∷ vs) f = grind (arith, common_steps, found_any vs f)
 
 -- a name that isn't there has no feature
 pub feature_missing : (vs : List Feature) (f : Text) → (¬ Among (names_of vs) f) → feature_at vs f ≡ None
@@ -187,10 +182,6 @@ feature_here (v ∷ vs) (suc i) d up below = go (bytes_eq (nth_text (names_of vs
         itself = subst (Below v.key.now) ((bytes_eq-Decides (nth_text (names_of vs) i) v.key.now).0 on) (first_below v.key.now (names_of vs) up (nth_text (names_of vs) i) (among_at (names_of vs) i [] inside))
     go false off later = later
 
--- a look at the place where a name would stand tells whether it has a feature
-pub told_there : (vs : List Feature) (i : ℕ) (f : Text) → AreInOrder vs → IsBoundOf vs i f → (b : Bool) → (b ≡ true → (i < length vs) × (nth_text (names_of vs) i ≡ f)) → (b ≡ false → i < length vs → nth_text (names_of vs) i ≡ f → ⊥) → b ≡ is_some (feature_at vs f)
-told_there v0 v1 v2 v3 v4 v5 v6 v7 = grind (arith, common_steps, feature_there, feature_missing, place_free)
-
 -- the place of f is behind all others
 pub record IsBehind (vs : List Feature) (i : ℕ) (f : Text) : Type 0 where
   pub bound : IsBoundOf vs i f
@@ -215,13 +206,6 @@ module _ (vs : List Feature) (i : ℕ) (w : Feature) (new : List Feature) (f : T
 
   pub last_held : (g : Text) → feature_at new g ≡ option_or (feature_at vs g) (cond (bytes_eq g w.key.now) (Some w) None)
   last_held g = put_new vs w (feature_at new g) g missing (placed_held vs i w up place new became g)
-
-  pub last_only : (g : Text) → feature_at new g ≡ cond (bytes_eq g f) (Some w) (feature_at vs g)
-  last_only g = subst (λ k. feature_at new g ≡ cond (bytes_eq g k) (Some w) (feature_at vs g)) key (placed_held vs i w up place new became g)
-
-  -- none of its name was there
-  pub last_missing : feature_at vs f ≡ None
-  last_missing = subst (λ k. feature_at vs k ≡ None) key missing
 
 -- behind all others one is pushed, which then becomes another
 module _ (vs : List Feature) (i : ℕ) (v : Feature) (pushed : List Feature) (f : Text) (up : AreInOrder vs) (behind : IsBehind vs i f) (put : pushed ≡ vs ++ v ∷ []) where

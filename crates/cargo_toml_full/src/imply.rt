@@ -3,21 +3,17 @@ ghost use Rattle.std.specs.Prelude.{◌≡◌, ◌≤◌, ◌||◌, ◌∷◌, [
 ghost use Rattle.std.specs.Prelude.{IfOk, IsTrue, OnOk, None, map, take};
 ghost use Rattle.cargo_toml_graph.specs.Action.{Text};
 ghost use Rattle.cargo_toml_features.specs.InOrder.{AreInOrder, feature_at};
-ghost use Rattle.cargo_toml_features.specs.Views.{entry_of};
+ghost use Rattle.cargo_toml_features.specs.Views.{entry_of, set_has};
 ghost use Rattle.cargo_toml_full.specs.Implying.{ActsOn, AreFree, IsImplied, ImpliesAll};
 ghost use Rattle.cargo_toml_full.specs.Implying.{is_offered, is_offered_alone, is_one_of};
 ghost use Rattle.cargo_toml_full.specs.Searching.{has_key};
 
 use crate::acted::Acted;
 use crate::names::ascending;
-use crate::ordered::{insert_at, is_there, lower_bound, put_feature, stands_at};
+use crate::ordered::{is_there, put_feature};
 use cargo_toml_features::features::{DepAction, Feature, ParseDependency};
 use std::alloc::{AllocError, Global};
 use std::collections::{BTreeMap, BTreeSet};
-
-/// Up to so many optional entries, the implied features are put among the others one by one. More
-/// are merged with the others in one go, so that not each moves those behind it.
-pub const FEW: usize = 16;
 
 // The one action of the feature that a key implies.
 fn own_action(alloc: Global, key: &str) -> Result<BTreeMap<&str, DepAction<'_>>, AllocError>
@@ -66,62 +62,16 @@ fn imply_key<'m>(
     ensures implied { OnOk result
         (ImpliesAll (λ q. bytes_eq q key.now) features.old.items features.new.items) }
 {
-    let place = lower_bound(features.as_slice(), key);
-    if place >= features.len() {
-        // Most keys are above all others: then the feature is made at the end, where it stays.
-        let actions = own_action(alloc, key)?;
-        features.push(implied_feature(alloc, key, actions))?;
-    } else if !stands_at(features.as_slice(), place, key) {
-        let actions = own_action(alloc, key)?;
-        insert_at(features, place, implied_feature(alloc, key, actions))?;
-    }
+    let actions = own_action(alloc, key)?;
+    put_feature(features, implied_feature(alloc, key, actions))?;
     Ok(())
 }
 
 // Whether the entry is optional, and no action on its key is dep-only.
 fn offers(acted: &Acted<'_>, entry: &ParseDependency<'_, '_>) -> bool
-    ensures { result ≡ is_offered_alone (has_key acted.now.reserved) (entry_of entry.now) }
+    ensures { result ≡ is_offered_alone (set_has acted.now.reserved) (entry_of entry.now) }
 {
-    entry.dep.optional() && !acted.reserves(entry.key)
-}
-
-// Adds the feature that the entry implies, if it does.
-fn imply<'m>(
-    alloc: Global,
-    features: &mut Vec<Feature<'m>>,
-    acted: &Acted<'m>,
-    entry: &ParseDependency<'m, '_>,
-) -> Result<(), AllocError>
-    requires { AreInOrder features.old.items }
-    ensures in_order { OnOk result (AreInOrder features.new.items) }
-    ensures implied { OnOk result
-        (ImpliesAll (is_offered (has_key acted.now.reserved) (entry_of entry.now ∷ []))
-        features.old.items features.new.items) }
-{
-    if !offers(acted, entry) {
-        return Ok(());
-    }
-    imply_key(alloc, features, entry.key)?;
-    Ok(())
-}
-
-// Adds the features that entries imply, each by itself.
-fn imply_all<'m>(
-    alloc: Global,
-    features: &mut Vec<Feature<'m>>,
-    acted: &Acted<'m>,
-    entries: &[ParseDependency<'m, '_>],
-) -> Result<(), AllocError>
-    requires { AreInOrder features.old.items }
-    ensures in_order { OnOk result (AreInOrder features.new.items) }
-    ensures implied { OnOk result
-        (ImpliesAll (is_offered (has_key acted.now.reserved) (map entry_of entries.now))
-        features.old.items features.new.items) }
-{
-    for entry in entries {
-        imply(alloc, features, acted, entry)?;
-    }
-    Ok(())
+    entry.dep.optional() && !acted.reserved.contains(entry.key)
 }
 
 // Notes the key of the entry, if it implies a feature and none of its name is there.
@@ -134,7 +84,7 @@ fn note_implied<'m>(
     requires { AreInOrder features.now }
     ensures noted { OnOk result ((q : Text) → feature_at features.now q ≡ None
         → has_key keys.new q ≡ (has_key keys.old q
-        || is_offered (has_key acted.now.reserved) (entry_of entry.now ∷ []) q)) }
+        || is_offered (set_has acted.now.reserved) (entry_of entry.now ∷ []) q)) }
     ensures free { OnOk result (AreFree keys.old features.now → AreFree keys.new features.now) }
 {
     if !offers(acted, entry) || is_there(features, entry.key) {
@@ -150,14 +100,13 @@ fn implied_keys<'m>(
     features: &[Feature<'m>],
     acted: &Acted<'m>,
     entries: &[ParseDependency<'m, '_>],
-    room: usize,
 ) -> Result<Vec<&'m str>, AllocError>
     requires { AreInOrder features.now }
     ensures keys { IfOk result (λ ks. (q : Text) → feature_at features.now q ≡ None
-        → has_key ks q ≡ is_offered (has_key acted.now.reserved) (map entry_of entries.now) q) }
+        → has_key ks q ≡ is_offered (set_has acted.now.reserved) (map entry_of entries.now) q) }
     ensures free { IfOk result (λ ks. AreFree ks features.now) }
 {
-    let mut keys = Vec::with_capacity(alloc, room)?;
+    let mut keys = Vec::new(alloc);
     for entry in entries {
         note_implied(&mut keys, features, acted, entry)?;
     }
@@ -222,32 +171,22 @@ fn merged<'m>(
     Ok(all)
 }
 
-/// How many entries are optional, and so may imply a feature. No clause says how many: by the
-/// number one of two ways is chosen, and each is proved.
-pub fn optional_count(entries: &[ParseDependency<'_, '_>]) -> usize {
-    entries.iter().filter(|entry| entry.dep.optional()).count()
-}
-
-/// The features with those that optional dependencies imply, of which there are so many entries.
-/// It fails only where memory runs out.
+/// The features with those that optional dependencies imply. It fails only where memory runs out.
 pub fn with_implied<'m>(
     alloc: Global,
-    mut features: Vec<Feature<'m>>,
+    features: Vec<Feature<'m>>,
     acted: &Acted<'m>,
     entries: &[ParseDependency<'m, '_>],
-    optional: usize,
 ) -> Result<Vec<Feature<'m>>, AllocError>
     requires { AreInOrder features.items }
     ensures in_order { IfOk result (λ vs. AreInOrder vs.items) }
     ensures implied { IfOk result (λ vs.
-        ImpliesAll (is_offered (has_key acted.now.reserved) (map entry_of entries.now))
+        ImpliesAll (is_offered (set_has acted.now.reserved) (map entry_of entries.now))
         features.entry.items vs.items) }
 {
-    if optional > FEW {
-        let keys = implied_keys(alloc, features.as_slice(), acted, entries, optional)?;
-        merged(alloc, features, keys.as_slice())
-    } else {
-        imply_all(alloc, &mut features, acted, entries)?;
-        Ok(features)
+    let keys = implied_keys(alloc, features.as_slice(), acted, entries)?;
+    if keys.is_empty() {
+        return Ok(features);
     }
+    merged(alloc, features, keys.as_slice())
 }

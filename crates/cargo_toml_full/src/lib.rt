@@ -6,7 +6,6 @@
 #![tactic(auto)]
 
 mod acted;
-mod acting;
 mod imply;
 mod names;
 mod ordered;

@@ -5,7 +5,7 @@ use Rattle.cargo_toml_features.specs.{declared.features.DepAction.DepAction, Rec
 use Rattle.cargo_toml_graph.specs.Action.{Text}
 use Rattle.cargo_toml_full.specs.Redundant.{IsSaidOf}
 use Rattle.cargo_toml_full.proofs.Thinning.{Finds, looked_up}
-use Rattle.cargo_toml_full.proofs.redundant.thin_actions.Goals as goal
+use Rattle.cargo_toml_full.proofs.redundant.thin_feature.Goals as goal
 
 pub returns-clause-thinned : goal.returns-clause-thinned
 returns-clause-thinned c = λ entries said. record {

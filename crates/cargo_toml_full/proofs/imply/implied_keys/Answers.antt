@@ -2,9 +2,6 @@ use Rattle.std.proofs.{Common.take_all, Common.arith, Common.rules, lemmas.Grind
 use Rattle.cargo_toml_full.proofs.{Implying.offered_more, TakenMore.taken_more, Searched.same_among}
 use Rattle.cargo_toml_full.proofs.imply.implied_keys.Goals as goal
 
-pub loop-entry-init : goal.loop-entry-init
-loop-entry-init c = search rules
-
 pub loop-entry-preserved : goal.loop-entry-preserved
 loop-entry-preserved c = grind (arith, common_steps, taken_more, offered_more)
 

@@ -22,6 +22,3 @@ returns-clause-thinned c = λ entries recorded.
     let new = c.loop-feature.features in
     let end : ¬ (i < length new) = omega (arith, c.loop-feature-test.false) in
     record { at = all_turned (Thinned entries) i c.args.features.now new c.loop-feature.invariant.names end (c.loop-feature.invariant.thinned entries recorded) }
-
-pub returns-clause-same_names : goal.returns-clause-same_names
-returns-clause-same_names c = search rules

@@ -111,18 +111,6 @@ fn add_targets_dev<'m>(
     Ok(())
 }
 
-// Room for the entries of each target. A hint: without it the list moves as it grows.
-fn room_of_targets(targets: &TargetDepsSet, limit: usize) -> usize {
-    let mut room: usize = 0;
-    for (_name, target) in targets {
-        room = room
-            .saturating_add(target.dependencies.len().min(limit))
-            .saturating_add(target.build_dependencies.len().min(limit))
-            .saturating_add(target.dev_dependencies.len().min(limit));
-    }
-    room
-}
-
 /// The entries of all tables in the order in which they count: normal and build dependencies, those
 /// of each target, dev dependencies, those of each target. Of each table the first `limit` count,
 /// by key in byte order.
@@ -147,8 +135,7 @@ pub fn entries_of<'m>(
         .len()
         .min(limit)
         .saturating_add(build_dependencies.len().min(limit))
-        .saturating_add(dev_dependencies.len().min(limit))
-        .saturating_add(room_of_targets(target, limit));
+        .saturating_add(dev_dependencies.len().min(limit));
     let mut entries = Vec::with_capacity(alloc, room)?;
     add_built(&mut entries, dependencies, build_dependencies, limit, None)?;
     add_targets_built(&mut entries, target, limit)?;

@@ -10,9 +10,8 @@ use Rattle.cargo_toml_full.specs.{declared.read.Mentions.Mentions, Slots.HeldHav
 use Rattle.cargo_toml_full.specs.{Implying.is_offered, Reading.IsRead, Reading.IsFresh, Reading.AreFresh, Requiring.Required, Requiring.RequiredAll, Recording.recorded_at, Recording.is_mentioned_in}
 use Rattle.cargo_toml_full.specs.{Redundant.IsRecordOf, Redundant.Thinned, Redundant.ThinnedAll, Unremoved.AreUnremoved, declared.slots.Slots.Slots}
 use Rattle.cargo_toml_graph.specs.{Action.Text, Action.Action, Admitted.Listed, Admitted.is_explicit, Admitted.joined_action, Graph.Table}
-use Rattle.cargo_toml_full.proofs.HeldTargets.{have_targets}
+use Rattle.cargo_toml_full.{proofs.HeldTargets.have_targets, specs.Searching.has_key}
 use Rattle.cargo_toml_dependencies.specs.Details.{plain_detail}
-use Rattle.cargo_toml_features.specs.Views.{set_has}
 
 -- tables that say the same
 pub record Same (t u : Table) : Type 0 where
@@ -107,8 +106,8 @@ same_recorded : (a b : Option RecordedKey) → a ≡ b → SameRecorded a b
 same_recorded a b e = grind (arith, common_steps)
 
 module _ (listed : Listed) (entries : List Entry) (details : NamedDetails) (own : Text → List Text) (mentions : Mentions) (thinned implied last : List Feature) (deps : Slots FeatureDependency)
-    (r : IsRead listed (table_among mentions.features.items) (set_has mentions.acted.keys) (set_has mentions.acted.reserved)) (fresh : AreFresh listed details mentions.features.items)
-    (thins : (entries : Text → List Entry) → IsRecordOf deps entries → ThinnedAll entries mentions.features.items thinned) (i : ImpliesAll (is_offered (set_has mentions.acted.reserved) entries) thinned implied)
+    (r : IsRead listed (table_among mentions.features.items) (has_key mentions.acted.keys) (has_key mentions.acted.reserved)) (fresh : AreFresh listed details mentions.features.items)
+    (thins : (entries : Text → List Entry) → IsRecordOf deps entries → ThinnedAll entries mentions.features.items thinned) (i : ImpliesAll (is_offered (has_key mentions.acted.reserved) entries) thinned implied)
     (b : RequiredAll own implied last)
     (recorded : ((k : Text) → is_mentioned_in mentions k ≡ is_mentioned listed k) → (k : Text) → recorded_at deps k ≡ recorded_of (entries_at listed entries k)) where
   abbrev t : Table
@@ -133,16 +132,16 @@ module _ (listed : Listed) (entries : List Entry) (details : NamedDetails) (own 
   action_still : (f k : Text) → (table_among thinned).action f k ≡ option_map (left k) (joined_action listed f k)
   action_still f k = action_thinned (entries_at listed entries) mentions.features.items thinned less f k ∙ ap (option_map (left k)) (r.action f k)
 
-  offered_is : (f : Text) → is_offered (set_has mentions.acted.reserved) entries f ≡ (list_any (is_optional_at f) entries && not (is_reserved listed f))
+  offered_is : (f : Text) → is_offered (has_key mentions.acted.reserved) entries f ≡ (list_any (is_optional_at f) entries && not (is_reserved listed f))
   offered_is f = ap (λ b. list_any (is_optional_at f) entries && not b) (r.reserves f)
 
   same : Same (table_among implied) t
   same = record {
-    has = λ f. has_after (is_offered (set_has mentions.acted.reserved) entries) thinned implied i f ∙ ap (λ b. b || is_offered (set_has mentions.acted.reserved) entries f) (has_still f) ∙ ap (λ b. is_explicit listed f || b) (offered_is f) ∙ or_not (is_explicit listed f) _;
-    names = λ f x. names_after (is_offered (set_has mentions.acted.reserved) entries) thinned implied i f x ∙ names_thinned (entries_at listed entries) mentions.features.items thinned less f x ∙ r.names f x;
+    has = λ f. has_after (is_offered (has_key mentions.acted.reserved) entries) thinned implied i f ∙ ap (λ b. b || is_offered (has_key mentions.acted.reserved) entries f) (has_still f) ∙ ap (λ b. is_explicit listed f || b) (offered_is f) ∙ or_not (is_explicit listed f) _;
+    names = λ f x. names_after (is_offered (has_key mentions.acted.reserved) entries) thinned implied i f x ∙ names_thinned (entries_at listed entries) mentions.features.items thinned less f x ∙ r.names f x;
     action = λ f k.
-        action_after (is_offered (set_has mentions.acted.reserved) entries) thinned implied i f k ∙ ap (λ b. cond b ((table_among thinned).action f k) (cond (is_offered (set_has mentions.acted.reserved) entries f && bytes_eq k f) (Some plain_action) None)) (has_still f)
-        ∙ ap (λ o. cond (is_explicit listed f) o (cond (is_offered (set_has mentions.acted.reserved) entries f && bytes_eq k f) (Some plain_action) None)) (action_still f k)
+        action_after (is_offered (has_key mentions.acted.reserved) entries) thinned implied i f k ∙ ap (λ b. cond b ((table_among thinned).action f k) (cond (is_offered (has_key mentions.acted.reserved) entries f && bytes_eq k f) (Some plain_action) None)) (has_still f)
+        ∙ ap (λ o. cond (is_explicit listed f) o (cond (is_offered (has_key mentions.acted.reserved) entries f && bytes_eq k f) (Some plain_action) None)) (action_still f k)
         ∙ ap (λ b. cond (is_explicit listed f) (option_map (left k) (joined_action listed f k)) (cond (b && bytes_eq k f) (Some plain_action) None)) (offered_is f)
         ∙ go (left k) refl (is_explicit listed f) (joined_action listed f k) (list_any (is_optional_at f) entries && not (is_reserved listed f)) (bytes_eq k f);
   }
@@ -168,7 +167,7 @@ module _ (listed : Listed) (entries : List Entry) (details : NamedDetails) (own 
   implied_marks f off = grind (arith, common_steps, false≢true)
 
   marked_all : (f : Text) → IfSome (feature_at implied f) (IsMarked f (marks_in listed details f))
-  marked_all f = became (is_offered (set_has mentions.acted.reserved) entries) thinned implied i f (λ t o o'. IfSome o' (IsMarked f (marks_in listed details f))) tt
+  marked_all f = became (is_offered (has_key mentions.acted.reserved) entries) thinned implied i f (λ t o o'. IfSome o' (IsMarked f (marks_in listed details f))) tt
       (λ v s k. record { key = k.key; enabled_by = k.enabled_by; bins = k.bins; marks = k.marks ∙ implied_marks f (sym (has_still f) ∙ ap is_some s) })
       (λ t v s.
       let k = fresh_still f v s in

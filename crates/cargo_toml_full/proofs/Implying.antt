@@ -9,6 +9,7 @@ use Rattle.cargo_toml_features.{specs.InOrder.feature_at, proofs.TextKeys.none_i
 use Rattle.cargo_toml_graph.{specs.Action.Text, proofs.Texts.bytes_eq_sym}
 use Rattle.cargo_toml_full.specs.Implying.{AreFree, IsImplied, Becomes, ImpliesAll, is_optional_at, is_offered, is_offered_alone, is_one_of}
 use Rattle.cargo_toml_full.proofs.{TakenMore.taken_more, Placed.none_from, ReadOne.has_more}
+use Rattle.std.proofs.Common.{take_all, ◌≤◌}
 
 stays : (t : Bool) (q : Text) (o : Option Feature) → (t ≡ true → is_some o ≡ true) → Becomes t q o o
 stays v0 v1 v2 v3 = search rules
@@ -83,3 +84,17 @@ stands (w ∷ ws) rest v = grind (arith, common_steps, stands ws rest v)
 pub listed_free : (ks : List (Bor Text)) (i : ℕ) (done rest : List Feature) (v : Feature) → ((q : Text) → is_one_of (map (λ k. k.now) ks) q ≡ true → feature_at (done ++ v ∷ rest) q ≡ None)
     → is_one_of (map (λ k. k.now) (take i ks)) v.key.now ≡ false
 listed_free ks i done rest v free = false_from_ne_true _ (λ on. false≢true (sym (ap is_some (free v.key.now (taken_among ks i v.key.now on))) ∙ stands done rest v))
+
+-- each key of a list, one after another
+pub implied_each : (ks : List (Bor Text)) (next : ℕ) (old new : List Feature) → length ks ≤ next
+    → ((started : List Feature) → ImpliesAll (is_one_of (map (λ k. k.now) (take 0 ks))) started old → ImpliesAll (is_one_of (map (λ k. k.now) (take next ks))) started new)
+    → ImpliesAll (is_one_of (map (λ k. k.now) ks)) old new
+implied_each ks next old new past each = subst (λ us. ImpliesAll (is_one_of (map (λ k. k.now) us)) old new) (take_all next ks (omega (arith, past)))
+    (each old (record { at = λ q. search rules }))
+
+moved : (q : Text) (o o' : Option Feature) (b b' : Bool) → (o ≡ None → b ≡ b') → Becomes b q o o' → Becomes b' q o o'
+moved v0 v1 v2 v3 v4 v5 v6 = search rules
+
+-- where no feature has the key, it is one of these exactly if it is offered
+pub implied_as : (keys offered : Text → Bool) (old new : List Feature) → ((q : Text) → feature_at old q ≡ None → keys q ≡ offered q) → ImpliesAll keys old new → ImpliesAll offered old new
+implied_as keys offered old new same h = record { at = λ q. moved q (feature_at old q) (feature_at new q) (keys q) (offered q) (same q) (h.at q) }

@@ -10,7 +10,12 @@ use Rattle.cargo_toml_full.specs.{Placing.IsBoundOf, Placing.IsPlaceOf, Slots.he
 use Rattle.cargo_toml_full.proofs.Ascending.{Below, below_then, lower}
 use Rattle.cargo_toml_features.proofs.Places.{at_among, rises}
 use Rattle.cargo_toml_full.proofs.HeldValues.{held_at, held_set}
-use Rattle.std.proofs.lemmas.List.{map-set, set-get_or}
+use Rattle.std.{proofs.lemmas.List.map-set, proofs.lemmas.List.set-get_or, specs.List.list_any}
+
+-- a name is that of one of them, or of none
+pub found_any : (vs : List Feature) (f : Text) → list_any (λ v. bytes_eq f v.key.now) vs ≡ is_some (feature_at vs f)
+found_any [] f = refl
+found_any (v ∷ vs) f = grind (arith, common_steps, found_any vs f)
 
 -- a name that isn't there has no feature
 pub feature_missing : (vs : List Feature) (f : Text) → (¬ Among (names_of vs) f) → feature_at vs f ≡ None

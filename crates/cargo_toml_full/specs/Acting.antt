@@ -3,11 +3,11 @@
 use Rattle.std.specs.Prelude.{◌≡◌, ◌||◌, false, Option, is_some}
 use Rattle.std.specs.Option.{option_map_or}
 use Rattle.cargo_toml_graph.specs.Action.{Text, Action}
-use Rattle.cargo_toml_features.specs.Views.{set_has}
-use Rattle.cargo_toml_full.specs.declared.acted.Acted.{Acted}
+use Rattle.cargo_toml_full.specs.Searching.{has_key}
+use Rattle.cargo_toml_full.specs.declared.acting.Acting.{Acting}
 
 -- the keys gained those on which there are these actions
-pub record Notes (said : Text → Option Action) (old new : Acted) : Type 0 where
-  pub keys : (k : Text) → set_has new.keys k ≡ (set_has old.keys k || is_some (said k))
-  pub reserved : (k : Text) → set_has new.reserved k
-      ≡ (set_has old.reserved k || option_map_or (λ a. a.is_dep_only) (said k) false)
+pub record Notes (said : Text → Option Action) (old new : Acting) : Type 0 where
+  pub keys : (k : Text) → has_key new.keys k ≡ (has_key old.keys k || is_some (said k))
+  pub reserved : (k : Text) → has_key new.reserved k
+      ≡ (has_key old.reserved k || option_map_or (λ a. a.is_dep_only) (said k) false)

@@ -8,10 +8,11 @@ use Rattle.cargo_toml_features.specs.declared.features.FeatureDependency.{Featur
 use Rattle.cargo_toml_full.specs.declared.read.Mentions.{Mentions}
 use Rattle.cargo_toml_graph.specs.Action.{Text}
 use Rattle.cargo_toml_features.specs.Recorded.{Entry, RecordedKey, target_cmp}
-use Rattle.cargo_toml_features.specs.Views.{recorded_in, set_has}
+use Rattle.cargo_toml_features.specs.Views.{recorded_in}
 use Rattle.cargo_toml_full.specs.Slots.{held_in}
 use Rattle.cargo_toml_full.specs.declared.slots.Slots.{Slots}
 use Rattle.cargo_toml_features.specs.InOrder.{feature_at}
+use Rattle.cargo_toml_full.specs.Searching.{has_key}
 
 -- what a map of dependencies records of a key
 abbrev pub recorded_at : Slots FeatureDependency → Text → Option RecordedKey
@@ -36,7 +37,7 @@ recorded_with o e = recorded_next (unwrap_or o (recorded_nowhere e)) e
 
 -- k is a feature, or one acts on it
 abbrev pub is_mentioned_in : Mentions → Text → Bool
-is_mentioned_in m k = is_some (feature_at m.features.items k) || set_has m.acted.keys k
+is_mentioned_in m k = is_some (feature_at m.features.items k) || has_key m.acted.keys k
 
 -- what is recorded of q after e, where o was recorded of q before: e counts if its key is recorded
 -- already or mentioned, or e is optional

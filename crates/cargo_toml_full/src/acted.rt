@@ -1,32 +1,16 @@
-//! The keys that features act on.
-ghost use Rattle.std.specs.Prelude.{OnOk, Some, None, bytes_eq, if◌then◌else◌};
-ghost use Rattle.cargo_toml_features.specs.ActionText.{action_in};
-ghost use Rattle.cargo_toml_full.specs.Acting.{Notes};
+//! The keys that features act on, to be looked up.
+ghost use Rattle.std.specs.Prelude.{map};
+ghost use Rattle.cargo_toml_full.specs.Searching.{IsSearchable, IsSearchable-prop};
 
-use cargo_toml_features::action::{ActionText, add_text};
-use std::alloc::AllocError;
-use std::collections::BTreeSet;
-
-/// The keys that features act on.
+/// The keys that features act on. More than a few stand in byte order, each once.
 #[derive(Drop)]
 pub struct Acted<'m> {
     /// All keys.
-    pub keys: BTreeSet<&'m str>,
+    pub keys: Vec<&'m str>,
     /// Those of them on which some action is dep-only (`dep:key`).
-    pub reserved: BTreeSet<&'m str>,
-}
-
-impl<'m> Acted<'m> {
-    /// Notes an action on its target.
-    pub fn note(&mut self, action: ActionText<'m>) -> Result<(), AllocError>
-        ensures { OnOk result (Notes
-            (λ k. if bytes_eq k action.entry.target.now then Some (action_in action.entry)
-            else None) self.old self.new) }
-    {
-        add_text(&mut self.keys, action.target)?;
-        if action.is_dep_only {
-            add_text(&mut self.reserved, action.target)?;
-        }
-        Ok(())
-    }
+    pub reserved: Vec<&'m str>,
+    ghost keys_searchable: { IsSearchable (map (λ k. k.now) keys.items) } by { IsSearchable-prop
+        (map (λ k. k.now) keys.items) },
+    ghost reserved_searchable: { IsSearchable (map (λ k. k.now) reserved.items) } by { (
+        IsSearchable-prop (map (λ k. k.now) reserved.items)) },
 }

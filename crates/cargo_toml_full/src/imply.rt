@@ -3,7 +3,7 @@ ghost use Rattle.std.specs.Prelude.{◌≡◌, ◌≤◌, ◌||◌, ◌∷◌, [
 ghost use Rattle.std.specs.Prelude.{IfOk, IsTrue, OnOk, None, map, take};
 ghost use Rattle.cargo_toml_graph.specs.Action.{Text};
 ghost use Rattle.cargo_toml_features.specs.InOrder.{AreInOrder, feature_at};
-ghost use Rattle.cargo_toml_features.specs.Views.{entry_of, set_has};
+ghost use Rattle.cargo_toml_features.specs.Views.{entry_of};
 ghost use Rattle.cargo_toml_full.specs.Implying.{ActsOn, AreFree, IsImplied, ImpliesAll};
 ghost use Rattle.cargo_toml_full.specs.Implying.{is_offered, is_offered_alone, is_one_of};
 ghost use Rattle.cargo_toml_full.specs.Searching.{has_key};
@@ -14,6 +14,10 @@ use crate::ordered::{is_there, put_feature};
 use cargo_toml_features::features::{DepAction, Feature, ParseDependency};
 use std::alloc::{AllocError, Global};
 use std::collections::{BTreeMap, BTreeSet};
+
+// Up to so many features are put among the others one by one. More are merged with them in one go,
+// so that not each moves those behind it.
+const FEW: usize = 16;
 
 // The one action of the feature that a key implies.
 fn own_action(alloc: Global, key: &str) -> Result<BTreeMap<&str, DepAction<'_>>, AllocError>
@@ -69,9 +73,9 @@ fn imply_key<'m>(
 
 // Whether the entry is optional, and no action on its key is dep-only.
 fn offers(acted: &Acted<'_>, entry: &ParseDependency<'_, '_>) -> bool
-    ensures { result ≡ is_offered_alone (set_has acted.now.reserved) (entry_of entry.now) }
+    ensures { result ≡ is_offered_alone (has_key acted.now.reserved) (entry_of entry.now) }
 {
-    entry.dep.optional() && !acted.reserved.contains(entry.key)
+    entry.dep.optional() && !acted.reserves(entry.key)
 }
 
 // Notes the key of the entry, if it implies a feature and none of its name is there.
@@ -84,7 +88,7 @@ fn note_implied<'m>(
     requires { AreInOrder features.now }
     ensures noted { OnOk result ((q : Text) → feature_at features.now q ≡ None
         → has_key keys.new q ≡ (has_key keys.old q
-        || is_offered (set_has acted.now.reserved) (entry_of entry.now ∷ []) q)) }
+        || is_offered (has_key acted.now.reserved) (entry_of entry.now ∷ []) q)) }
     ensures free { OnOk result (AreFree keys.old features.now → AreFree keys.new features.now) }
 {
     if !offers(acted, entry) || is_there(features, entry.key) {
@@ -103,7 +107,7 @@ fn implied_keys<'m>(
 ) -> Result<Vec<&'m str>, AllocError>
     requires { AreInOrder features.now }
     ensures keys { IfOk result (λ ks. (q : Text) → feature_at features.now q ≡ None
-        → has_key ks q ≡ is_offered (set_has acted.now.reserved) (map entry_of entries.now) q) }
+        → has_key ks q ≡ is_offered (has_key acted.now.reserved) (map entry_of entries.now) q) }
     ensures free { IfOk result (λ ks. AreFree ks features.now) }
 {
     let mut keys = Vec::new(alloc);
@@ -174,19 +178,20 @@ fn merged<'m>(
 /// The features with those that optional dependencies imply. It fails only where memory runs out.
 pub fn with_implied<'m>(
     alloc: Global,
-    features: Vec<Feature<'m>>,
+    mut features: Vec<Feature<'m>>,
     acted: &Acted<'m>,
     entries: &[ParseDependency<'m, '_>],
 ) -> Result<Vec<Feature<'m>>, AllocError>
     requires { AreInOrder features.items }
     ensures in_order { IfOk result (λ vs. AreInOrder vs.items) }
     ensures implied { IfOk result (λ vs.
-        ImpliesAll (is_offered (set_has acted.now.reserved) (map entry_of entries.now))
+        ImpliesAll (is_offered (has_key acted.now.reserved) (map entry_of entries.now))
         features.entry.items vs.items) }
 {
     let keys = implied_keys(alloc, features.as_slice(), acted, entries)?;
-    if keys.is_empty() {
-        return Ok(features);
+    if keys.len() > FEW {
+        return merged(alloc, features, keys.as_slice());
     }
-    merged(alloc, features, keys.as_slice())
+    imply_below(alloc, &mut features, keys.as_slice(), 0, None)?;
+    Ok(features)
 }

@@ -6,6 +6,7 @@
 #![tactic(auto)]
 
 mod acted;
+mod acting;
 mod imply;
 mod names;
 mod ordered;

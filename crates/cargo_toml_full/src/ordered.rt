@@ -10,7 +10,7 @@ ghost use Rattle.cargo_toml_features.specs.Places.{nth_text};
 
 use cargo_toml_features::features::Feature;
 use cargo_toml_features::node::Node;
-use cargo_toml_features::texts::is_same;
+use cargo_toml_features::texts::{FEW, is_same};
 use std::alloc::AllocError;
 
 // Whether the name of the feature at this place is below another.
@@ -63,7 +63,11 @@ pub fn is_there(features: &[Feature<'_>], name: &str) -> bool
     requires { AreInOrder features.now }
     ensures { result ≡ is_some (feature_at features.now name.now) }
 {
-    node_among(features, name).is_some()
+    if features.len() > FEW {
+        node_among(features, name).is_some()
+    } else {
+        features.iter().any(|feature| is_same(name, feature.key))
+    }
 }
 
 /// Puts a feature in its place, below those that aren't below it. It fails only where memory runs

@@ -9,12 +9,14 @@ ghost use Rattle.cargo_toml_dependencies.specs.Details.{Detail, plain_detail};
 ghost use Rattle.cargo_toml_features.specs.declared.features.Feature.{Feature};
 ghost use Rattle.cargo_toml_features.specs.InOrder.{AreInOrder, feature_at, table_among};
 ghost use Rattle.cargo_toml_features.specs.Marks.{detail_in, named_details};
-ghost use Rattle.cargo_toml_features.specs.Views.{listed_of, set_has};
+ghost use Rattle.cargo_toml_features.specs.Views.{listed_of};
 ghost use Rattle.cargo_toml_full.specs.Acting.{Notes};
 ghost use Rattle.cargo_toml_full.specs.Reading.{IsRead, AreFresh};
 ghost use Rattle.cargo_toml_full.specs.ReadFeature.{joined_in, IsReadFeature};
+ghost use Rattle.cargo_toml_full.specs.Searching.{has_key};
 
 use crate::acted::Acted;
+use crate::acting::Acting;
 use crate::ordered::{lower_bound, put_feature};
 use cargo_toml_dependencies::FeatureDetail;
 use cargo_toml_features::action::{add_text, join_action, read_action};
@@ -22,6 +24,9 @@ use cargo_toml_features::admit::Listing;
 use cargo_toml_features::features::Feature;
 use std::alloc::{AllocError, Global};
 use std::collections::{BTreeMap, BTreeSet};
+
+// Room for `default` and for some features that dependencies imply.
+const ROOM: usize = 16;
 
 /// What the lists of features say, before dependencies are looked at.
 #[derive(Drop)]
@@ -56,19 +61,19 @@ fn empty_feature<'m>(alloc: Global, key: &'m str, detail: Option<&'m FeatureDeta
 fn add_item<'m>(
     alloc: Global,
     feature: &mut Feature<'m>,
-    acted: &mut Acted<'m>,
+    acting: &mut Acting<'m>,
     text: &'m str,
 ) -> Result<(), AllocError>
     ensures read { OnOk result ((f : Text) (d : Detail) (items : List Item)
         → IsReadFeature f d items feature.old
         → IsReadFeature f d (items ++ item_of text.now ∷ []) feature.new) }
     ensures noted { OnOk result
-        (Notes (λ k. action_on k (item_of text.now)) acted.old acted.new) }
+        (Notes (λ k. action_on k (item_of text.now)) acting.old acting.new) }
 {
     let action = read_action(text);
     if action.acts() {
         join_action(alloc, &mut feature.enables_deps, action)?;
-        acted.note(action)?;
+        acting.note(action)?;
     } else {
         add_text(&mut feature.enables_features, action.target)?;
     }
@@ -79,7 +84,7 @@ fn add_item<'m>(
 fn read_list<'m>(
     alloc: Global,
     feature: &mut Feature<'m>,
-    acted: &mut Acted<'m>,
+    acting: &mut Acting<'m>,
     listing: Listing<'m>,
 ) -> Result<(), AllocError>
     requires { IsReadFeature listing.name.now (detail_in listing.detail) [] feature.old }
@@ -87,11 +92,11 @@ fn read_list<'m>(
         (IsReadFeature listing.entry.name.now (detail_in listing.entry.detail)
         (map item_of (map string_bytes listing.entry.actions.now)) feature.new) }
     ensures noted { OnOk result
-        (Notes (joined_in (map item_of (map string_bytes listing.entry.actions.now))) acted.old
-        acted.new) }
+        (Notes (joined_in (map item_of (map string_bytes listing.entry.actions.now))) acting.old
+        acting.new) }
 {
     for text in listing.actions {
-        add_item(alloc, feature, acted, text.as_str())?;
+        add_item(alloc, feature, acting, text.as_str())?;
     }
     Ok(())
 }
@@ -100,7 +105,7 @@ fn read_list<'m>(
 fn read_listing<'m>(
     alloc: Global,
     features: &mut Vec<Feature<'m>>,
-    acted: &mut Acted<'m>,
+    acting: &mut Acting<'m>,
     listing: Listing<'m>,
 ) -> Result<(), AllocError>
     requires { AreInOrder features.old.items }
@@ -110,13 +115,13 @@ fn read_listing<'m>(
         v × ((f : Text) → feature_at features.new.items f ≡ option_or
         (feature_at features.old.items f) (if bytes_eq f v.key.now then Some v else None))) }
     ensures noted { OnOk result
-        (Notes (joined_in (map item_of (map string_bytes listing.entry.actions.now))) acted.old
-        acted.new) }
+        (Notes (joined_in (map item_of (map string_bytes listing.entry.actions.now))) acting.old
+        acting.new) }
 {
     let place = lower_bound(features.as_slice(), listing.name);
     if place < features.len() {
         let mut feature = empty_feature(alloc, listing.name, listing.detail);
-        read_list(alloc, &mut feature, acted, listing)?;
+        read_list(alloc, &mut feature, acting, listing)?;
         put_feature(features, feature)?;
         return Ok(());
     }
@@ -126,7 +131,7 @@ fn read_listing<'m>(
     if listing.actions.is_empty() {
         return Ok(());
     }
-    read_list(alloc, &mut features[place], acted, listing)?;
+    read_list(alloc, &mut features[place], acting, listing)?;
     Ok(())
 }
 
@@ -157,18 +162,18 @@ pub fn read_features<'m>(
     requires { IsOnce (map (λ l. l.name.now) listings.now) }
     ensures in_order { IfOk result (λ r. AreInOrder r.features.items) }
     ensures read { IfOk result (λ r. IsRead (listed_of listings.now)
-        (table_among r.features.items) (set_has r.acted.keys) (set_has r.acted.reserved)) }
+        (table_among r.features.items) (has_key r.acted.keys) (has_key r.acted.reserved)) }
     ensures fresh { IfOk result (λ r.
         AreFresh (listed_of listings.now) (named_details listings.now) r.features.items) }
 {
-    let mut features = Vec::with_capacity(alloc, listings.len().saturating_add(1))?;
-    let mut acted = Acted {
-        keys: BTreeSet::new(alloc),
-        reserved: BTreeSet::new(alloc),
-    };
+    let mut features = Vec::with_capacity(alloc, listings.len().saturating_add(ROOM))?;
+    let mut acting = Acting::new(alloc);
     for listing in listings {
-        read_listing(alloc, &mut features, &mut acted, *listing)?;
+        read_listing(alloc, &mut features, &mut acting, *listing)?;
     }
     add_default(alloc, &mut features)?;
-    Ok(Mentions { features, acted })
+    Ok(Mentions {
+        features,
+        acted: acting.into_acted(),
+    })
 }

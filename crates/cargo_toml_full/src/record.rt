@@ -65,7 +65,7 @@ fn counts<'m>(mentions: &Mentions<'m>, entry: &ParseDependency<'m, '_>) -> bool
     ensures { result ≡ counts_alone (is_mentioned_in mentions.now) (entry_of entry.now) }
 {
     entry.dep.optional()
-        || mentions.acted.keys.contains(entry.key)
+        || mentions.acted.has(entry.key)
         || is_there(mentions.features.as_slice(), entry.key)
 }
 

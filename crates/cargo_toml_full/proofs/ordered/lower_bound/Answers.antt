@@ -1,4 +1,4 @@
-use Rattle.std.proofs.{Common.◌-◌, Common.rules, lemmas.Fn.always_returns_same}
+use Rattle.std.proofs.{Common.rules, lemmas.Fn.always_returns_same}
 use Rattle.cargo_toml_features.specs.declared.features.Feature.{Feature}
 use Rattle.cargo_toml_graph.specs.Admitted.{is_below}
 use Rattle.cargo_toml_full.proofs.Placed.{below_through, bound_by_point}

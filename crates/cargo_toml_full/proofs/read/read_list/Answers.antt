@@ -14,8 +14,8 @@ loop-text-preserved c =
     let more = items_more texts i c.text-item.result c.as_str.result.now c.loop-text-test.true c.text-item.is c.as_str.ensures.value in
     record {
       listed = subst (λ is. IsReadFeature c.args.listing.name.now (detail_in c.args.listing.detail) is c.add_item.new.feature) (sym more) (c.in_ok-add_item.ensures.read c.args.listing.name.now (detail_in c.args.listing.detail) items c.loop-text.invariant.listed);
-      noted = subst (λ is. Notes (joined_in is) c.args.acted.now c.add_item.new.acted) (sym more)
-          (noted_more c.args.acted.now c.loop-text.acted c.add_item.new.acted items (item_of c.as_str.result.now) c.loop-text.invariant.noted c.in_ok-add_item.ensures.noted);
+      noted = subst (λ is. Notes (joined_in is) c.args.acting.now c.add_item.new.acting) (sym more)
+          (noted_more c.args.acting.now c.loop-text.acting c.add_item.new.acting items (item_of c.as_str.result.now) c.loop-text.invariant.noted c.in_ok-add_item.ensures.noted);
     }
 
 pub returns-clause-listed : goal.returns-clause-listed

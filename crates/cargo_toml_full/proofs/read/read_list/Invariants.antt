@@ -7,5 +7,5 @@ use Rattle.cargo_toml_full.proofs.read.read_list.Given as goal
 abbrev pub invariant-loop-text : goal.invariant-loop-text
 invariant-loop-text l = record {
   listed : IsReadFeature l.listing.name.now (detail_in l.listing.detail) (map item_of (map string_bytes (take l.text-index l.listing.actions.now))) l.feature;
-  noted : Notes (joined_in (map item_of (map string_bytes (take l.text-index l.listing.actions.now)))) l.initial.acted l.acted;
+  noted : Notes (joined_in (map item_of (map string_bytes (take l.text-index l.listing.actions.now)))) l.initial.acting l.acting;
 }

@@ -24,7 +24,7 @@ returns-then-is_empty c =
         subst (λ ts. IsReadFeature name (detail_in c.args.listing.detail) (map item_of (map string_bytes ts)) v) (sym none) c.empty_feature.ensures,
         last_held vs place v new name c.requires behind c.empty_feature.ensures.fresh.key c.in_ok-push.ensures.items,
       );
-      noted = subst (λ ts. Notes (joined_in (map item_of (map string_bytes ts))) c.args.acted.now c.args.acted.now) (sym none) (noted_none c.args.acted.now);
+      noted = subst (λ ts. Notes (joined_in (map item_of (map string_bytes ts))) c.args.acting.now c.args.acting.now) (sym none) (noted_none c.args.acting.now);
     }
 
 pub returns : goal.returns

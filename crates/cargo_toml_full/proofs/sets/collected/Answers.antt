@@ -1,5 +1,4 @@
 use Rattle.std.proofs.{Common.rules, lemmas.Iterator.Adapters.fact_from_collect}
-use Rattle.std.specs.BTreeSet as sorted
 use Rattle.cargo_toml_full.proofs.Gathering.{texts_made}
 use Rattle.cargo_toml_full.proofs.sets.collected.Goals as goal
 

@@ -5,8 +5,7 @@ use Rattle.std.specs.{Cmp.Lexicographic.slice_cmp, FinMap.Entries.put, FinMap.En
 use Rattle.std.specs.{HashMap.HashMap, List.AllByRecursion, List.Sorted.IsStrictlySortedBy, Map.lookup, Ordering.nat_cmp, Ordering.is_lt, declared.alloc.Global.Global, declared.cmp.Ordering.Ordering}
 use Rattle.std.{specs.declared.cmp.Ordering.TheVariants.Less, proofs.Common.rules}
 use Rattle.cargo_toml_graph.specs.{Action.Text, Admitted.Listed}
-use Rattle.cargo_toml_features.specs.Hashed.{IsListingOf}
-use Rattle.cargo_toml_features.proofs.OneListing.{by_bytes}
+use Rattle.cargo_toml_features.{specs.Hashed.IsListingOf, proofs.OneListing.by_bytes}
 
 abbrev Entries : Type 0
 Entries = List (String Global × Vec (String Global) Global)

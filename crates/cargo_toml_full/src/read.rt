@@ -128,9 +128,6 @@ fn read_listing<'m>(
     // Listings come in the order of their names, so each feature goes to the end. It is a wide
     // value, which is made there before its list is read.
     features.push(empty_feature(alloc, listing.name, listing.detail))?;
-    if listing.actions.is_empty() {
-        return Ok(());
-    }
     read_list(alloc, &mut features[place], acting, listing)?;
     Ok(())
 }

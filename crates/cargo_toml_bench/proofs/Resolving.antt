@@ -28,7 +28,7 @@ use Rattle.cargo_toml_features.specs.Recorded.{Entry}
 use Rattle.cargo_toml_features.specs.Resolved.{IsAnswer, table_of}
 use Rattle.cargo_toml_features.specs.Views.{answer_of, set_has, resolution_of, table_in, value_at}
 use Rattle.cargo_toml_resolve.specs.Texts.{texts_now}
-use Rattle.cargo_toml_resolve.proofs.SameKept.{resolved_same}
+use Rattle.cargo_toml_resolve.proofs.AgainstAll.{resolved_same}
 use Rattle.cargo_toml_bench.specs.Removing.{AreTakenOut, Redirected, bins_at}
 use Rattle.cargo_toml_bench.proofs.Unreferenced.{nothing_removed}
 

@@ -22,10 +22,7 @@ module _ (E : ℕ → ℕ → Type 0) (R : ℕ → Type 0) (L : ℕ → ℕ → 
 
   module _ (r : ℕ) (E' L' : ℕ → ℕ → Type 0) (rows : AreRows r E' L') where
     lift : (s v : ℕ) → Under r s → Under s v → Under r v
-    lift s v u w = (w.0, below v s w.1 u.1)
-      where
-        below : (v s : ℕ) → v < s → s < r → v < r
-        below v s h k = omega arith
+    lift s v u w = grind arith
 
     -- a step along a row is a path
     unrow : {s b : ℕ} → Under r s → E' s b → Reaches E (Under r) s b
@@ -63,10 +60,7 @@ module _ (E : ℕ → ℕ → Type 0) (R : ℕ → Type 0) (L : ℕ → ℕ → 
 
       -- the end of the path
       ended : (a b : ℕ) → Under r a → Under r b → Reaches E (Under a) a b → L b x → (b < a) ⊎ (a ≤ b) → Cut a
-      ended a b u w p l (inl lt) = (a, inl refl, (rows.row_labels a x u).1 ((b, inr ((w.0, lt), p), l), out_under a u))
-      ended a b u w p l (inr le) =
-          prepend ((rows.row_edges a b u).1 (p, λ v. absurd (omega (arith, le, v.1)))) w
-          (b, inl refl, (rows.row_labels b x w).1 ((b, inl refl, l), out_under b w))
+      ended a b u w p l w6 = grind (arith, out_under, prepend)
 
       -- from a, by removed vertices below it, to c, and on to b
       cut : {c b : ℕ} (a : ℕ) → Under r a → Under r c → Under r b → Reaches E (Under a) a c → Reaches E (Under r) c b → L b x → (c < a) ⊎ (a ≤ c) → Cut a
@@ -81,8 +75,7 @@ module _ (E : ℕ → ℕ → Type 0) (R : ℕ → Type 0) (L : ℕ → ℕ → 
       from_start {b} v (through {b = c} e s (through {b = d} f t q)) l = prepend ((rows.start_edges c).1 e) s (cut c s t v (edge f) q l (cases_lt d c))
 
       rows_complete : GathersLabel E (Under r) L r x → GathersLabel E' (Under r) L' r x
-      rows_complete (b, inl same, l) = (r, inl refl, (rows.start_labels x).1 (subst (λ v. L v x) same l))
-      rows_complete (b, inr g, l) = from_start g.0 g.1 l
+      rows_complete w0 = grind (arith, from_start)
 
     -- the next row, from the rows below
     pub next_row : (x : ℕ) → (GathersLabel E' (Under r) L' r x × ¬ Under r x) ↔ (GathersLabel E (Under r) L r x × ¬ Under r x)
@@ -113,10 +106,7 @@ module _ (removed : List Bool) (r : ℕ) (kept : IsWanted removed false r) where
   still_finished finished h v = (λ w. under_later removed r v ((h v).0 w), λ u. (h v).1 (back v u))
 
 pub one_more_finished : (removed finished : List Bool) (r : ℕ) → r < length finished → IsWanted removed true r → IsFinished removed r finished → IsFinished removed (r + 1) (set finished r true)
-one_more_finished removed finished r lt gone h v = elim (cases_eq v r) [
-  | inl same ↦ (λ w. (subst (IsWanted removed true) (sym same) gone, omega (arith, same)), λ u. ap (λ z. get_or (set finished r true) z false) same ∙ get_or-set_same finished r true false lt)
-  | inr other ↦ (λ w. under_later removed r v ((h v).0 (sym (get_or-set_other finished r v true false other) ∙ w)), λ u. get_or-set_other finished r v true false other ∙ (h v).1 (under_split removed r v other u))
-]
+one_more_finished removed finished r lt gone h v = grind (arith, cases_eq v r, get_or-set_same finished r true false lt, under_later, get_or-set_other, under_split)
 
 pub none_among : (xs : List ℕ) → length xs ≡ 0 → (b : ℕ) → ¬ Among xs b
 none_among [] e b i = absurd i

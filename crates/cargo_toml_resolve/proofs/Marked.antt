@@ -1,5 +1,5 @@
 -- Stamps as marks.
-use Rattle.std.proofs.Common.{◌≡◌, ◌<◌, ◌≤◌, ℕ, zero, suc, Bool, true, false, List, [], ◌∷◌, length, get_or, set, map, replicate, nat_eq, refl, ap, ◌∙◌, arith}
+use Rattle.std.proofs.Common.{◌≡◌, ◌<◌, ◌≤◌, ℕ, zero, suc, Bool, true, false, List, [], ◌∷◌, length, get_or, set, map, replicate, nat_eq, refl, ap, arith}
 use Rattle.std.proofs.lemmas.{List.map-set, Bool.Decides.nat_tests}
 
 -- what stands at an epoch
@@ -19,6 +19,4 @@ none_at_first zero = refl
 none_at_first (suc n) = ap (λ l. false ∷ l) (none_at_first n)
 
 pub one_marked : (ss : List ℕ) (x s e : ℕ) → s ≡ e → marks_at e (set ss x s) ≡ set (marks_at e ss) x true
-one_marked ss x s e is =
-    let same : nat_eq s e ≡ true = grind (arith, nat_tests) in
-    map-set (λ z. nat_eq z e) ss x s ∙ ap (set (marks_at e ss) x) same
+one_marked ss x s e is = grind (arith, nat_tests, map-set (λ z. nat_eq z e) ss x s)

@@ -1,12 +1,12 @@
 -- Binaries that are put into the lists of features, place after place.
-use Rattle.std.proofs.Common.{◌≡◌, ◌⊎◌, ◌↔◌, ◌<◌, ◌≤◌, ℕ, cond, List, [], ◌∷◌, ◌++◌, length, get_or, Option, Bor, refl, sym, ap, subst, inl, inr, ◌∙◌, arith}
-use Rattle.std.proofs.lemmas.{Bool.cases_eq, Option.slice_get_read}
+use Rattle.std.proofs.Common.{◌≡◌, ◌⊎◌, ◌↔◌, ◌<◌, ◌≤◌, ℕ, cond, List, [], ◌∷◌, ◌++◌, length, get_or, Option, Bor, refl, ap, subst, inl, inr, ◌∙◌, arith, ◌+◌, take, if◌then◌else◌}
+use Rattle.std.proofs.lemmas.{Bool.cases_eq, Option.slice_get_read, List.map_more}
 use Rattle.std.specs.Option.{option_map_or}
-use Rattle.cargo_toml_graph.specs.{Action.Text, Reach.Among, Removal.put_each}
+use Rattle.cargo_toml_graph.specs.{Action.Text, Reach.Among, Removal.put_each, Removal.lists_text}
 use Rattle.cargo_toml_graph.proofs.BinLists.{among-true, put_puts}
 use Rattle.cargo_toml_features.specs.declared.features.Feature.{Feature}
-use Rattle.cargo_toml_resolve.specs.{Passing.bins_of, Passing.IsSameButBins, Passing.AreSameButBins, Puts.Puts, Texts.texts_now}
-use Rattle.cargo_toml_resolve.proofs.AlikePlaces.{does_itself, each_itself, then_does, then_each}
+use Rattle.cargo_toml_resolve.specs.{Passing.bins_of, Passing.IsSameButBins, Passing.AreSameButBins, Passing.Puts, Texts.texts_now}
+use Rattle.cargo_toml_resolve.proofs.TakingOver.{does_itself, each_itself, then_does, then_each}
 
 -- what is there already isn't put
 put_none : (xs ys : List Text) → ((x : Text) → Among ys x → Among xs x) → put_each xs ys ≡ xs
@@ -34,10 +34,7 @@ put_nowhere bins vs = record { same = same_features vs; lists = λ y below. inr 
 
 decided_among : (xs : List ℕ) (y : ℕ) → Among xs y ⊎ (¬ Among xs y)
 decided_among [] y = inr (λ i. i)
-decided_among (x ∷ xs) y = elim (cases_eq y x) [
-  | inl same ↦ inl (inl same)
-  | inr other ↦ elim (decided_among xs y) [ inl i ↦ inl (inr i) | inr n ↦ inr (λ i. elim i [ inl e ↦ other e | inr i ↦ n i ]) ]
-]
+decided_among (x ∷ xs) y = grind (arith, cases_eq y x, decided_among xs y)
 
 -- no binary is put
 pub put_nothing : (row : List ℕ) (ks : List (Bor Text)) (bins : List Text) (vs : List Feature) → length ks ≡ 0 → texts_now ks ≡ bins → Puts (Among row) bins vs vs
@@ -47,28 +44,20 @@ put_nothing row (k ∷ ks) bins vs none are = absurd (omega arith)
 module _ (A B C : ℕ → Type 0) (bins : List Text) (vs ws : List Feature) (old : Puts A bins vs ws) where
   -- into these lists, then into those
   pub then_put : (us : List Feature) → ((y : ℕ) → C y ↔ (A y ⊎ B y)) → Puts B bins ws us → Puts C bins vs us
-  then_put us both new = record {
-    same = then_same vs ws us old.same new.same;
-    lists = λ y below. after y (old.lists y below) (new.lists y (subst (λ n. y < n) (sym old.same.len) below));
-  }
-    where
-      put : {xs ys : List Text} → xs ≡ ys → put_each xs bins ≡ put_each ys bins
-      put e = ap (λ xs. put_each xs bins) e
-
-      after : (y : ℕ) → (A y × (bins_of ws y ≡ put_each (bins_of vs y) bins)) ⊎ ((¬ A y) × (bins_of ws y ≡ bins_of vs y))
-          → (B y × (bins_of us y ≡ put_each (bins_of ws y) bins)) ⊎ ((¬ B y) × (bins_of us y ≡ bins_of ws y))
-          → (C y × (bins_of us y ≡ put_each (bins_of vs y) bins)) ⊎ ((¬ C y) × (bins_of us y ≡ bins_of vs y))
-      after y (inl a) (inl b) = inl ((both y).1 (inl a.0), b.1 ∙ put a.1 ∙ put_again (bins_of vs y) bins)
-      after y (inl a) (inr b) = inl ((both y).1 (inl a.0), b.1 ∙ a.1)
-      after y (inr a) (inl b) = inl ((both y).1 (inr b.0), b.1 ∙ put a.1)
-      after y (inr a) (inr b) = inr (λ n. elim ((both y).0 n) [ inl i ↦ a.0 i | inr i ↦ b.0 i ], b.1 ∙ a.1)
+  then_put us both new = grind (arith, then_same, put_again)
 
   -- those are no places of features
   pub put_past : ((y : ℕ) → C y ↔ (A y ⊎ B y)) → ((y : ℕ) → B y → length vs ≤ y) → Puts C bins vs ws
-  put_past both past = record {
-    same = old.same;
-    lists = λ y below. elim (old.lists y below) [
-      | inl a ↦ inl ((both y).1 (inl a.0), a.1)
-      | inr a ↦ inr (λ n. elim ((both y).0 n) [ inl i ↦ a.0 i | inr i ↦ let le = past y i in omega (arith, le, below) ], a.1)
-    ];
-  }
+  put_past both past = grind arith
+
+put_last : (xs ys : List Text) (y : Text) → put_each xs (ys ++ y ∷ []) ≡ put_each (put_each xs ys) (y ∷ [])
+put_last xs [] y = refl
+put_last xs (z ∷ ys) y = put_last (if lists_text xs z then xs else (xs ++ z ∷ [])) ys y
+
+-- one more binary
+pub put_more : (own : List Text) (ks : List (Bor Text)) (i : ℕ) (d : Bor Text) → i < length ks → put_each own (texts_now (take (i + 1) ks)) ≡ put_each (put_each own (texts_now (take i ks))) ((get_or ks i d).now ∷ [])
+put_more own ks i d lt = ap (put_each own) (map_more (λ (k : Bor Text). k.now) ks i d lt) ∙ put_last own (texts_now (take i ks)) (get_or ks i d).now
+
+-- what an index past the end reads
+abbrev pub blank : Bor Text
+blank = record { ref_ptr = (0, 0); now = [] }

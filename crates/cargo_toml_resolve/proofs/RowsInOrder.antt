@@ -1,11 +1,10 @@
 -- Rows in ascending order, as lists.
-use Rattle.std.proofs.Common.{◌≡◌, ◌≢◌, ◌⊎◌, ◌↔◌, ◌<◌, ◌≤◌, ◌+◌, ℕ, Bool, true, false, List, [], length, get_or, set, replicate, refl, sym, ap, subst, inl, inr, ◌∙◌, arith}
+use Rattle.std.proofs.Common.{◌≡◌, ◌≢◌, ◌⊎◌, ◌↔◌, ◌<◌, ◌≤◌, ◌+◌, ℕ, Bool, true, false, List, length, get_or, set, replicate, refl, sym, inl, inr, ◌∙◌, arith}
 use Rattle.std.proofs.lemmas.{Bool.cases_eq, Bool.cases_lt, Bool.cases_Bool, Bool.false≢true, List.get_or-set_same, List.get_or-set_other, List.get_or_past, List.get_or-replicate}
 use Rattle.cargo_toml_graph.specs.Reach.{Among}
 use Rattle.cargo_toml_graph.proofs.Members.{label_within}
 use Rattle.cargo_toml_resolve.specs.Numbers.{IsWanted, FindsRedirects, HasLabel, IsPassed, IsRedirect, Leads, Replaces, row_items, Moves}
-use Rattle.cargo_toml_resolve.proofs.{Linking.last_edge, Linking.with_last, Cuts.AreRows, Cuts.IsBelow, Cuts.IsFinished, Cuts.back, Cuts.next_row, Cuts.not_own, Cuts.under_later, Cuts.under_split}
-use Rattle.cargo_toml_resolve.proofs.Labelled.{gathered}
+use Rattle.cargo_toml_resolve.proofs.{Cuts.AreRows, Cuts.IsBelow, Cuts.IsFinished, Cuts.back, Cuts.next_row, Cuts.not_own, Cuts.under_later, Cuts.under_split, Labelled.gathered, Labelled.last_edge, Labelled.with_last}
 
 module _ (edges : List (List ℕ)) (removed : List Bool) where
   -- the rows of the removed vertices below n are finished, and the others are as they were
@@ -16,34 +15,12 @@ module _ (edges : List (List ℕ)) (removed : List Bool) where
     pub left : (a x : ℕ) → ¬ IsBelow removed n a → Leads rows a x ↔ Leads initial a x
 
   pub skipped_rows : (initial : List (List ℕ)) (bound r : ℕ) (rows : List (List ℕ)) → IsWanted removed false r → RowsState initial bound r rows → RowsState initial bound (r + 1) rows
-  skipped_rows initial bound r rows kept h = record {
-    len = h.len;
-    inside = h.inside;
-    done = λ a x u. h.done a x (back removed r kept a u);
-    left = λ a x n. h.left a x (λ u. n (under_later removed r a u));
-  }
+  skipped_rows initial bound r rows kept h = grind (arith, back, under_later)
 
   -- the row of r becomes its redirect
   pub next_rows : (initial : List (List ℕ)) (bound r : ℕ) (rows : List (List ℕ)) → RowsState initial bound r rows → IsWanted removed true r → (new : List (List ℕ)) → Replaces r (IsRedirect edges removed initial r) rows new
       → ((x : ℕ) → IsRedirect edges removed initial r x → x < bound) → RowsState initial bound (r + 1) new
-  next_rows initial bound r rows h gone new v below = record {
-    len = v.len ∙ h.len;
-    inside = λ a x i. elim (cases_eq a r) [
-      | inl same ↦ below x ((v.here x).0 (subst (λ z. Leads new z x) same i))
-      | inr other ↦ h.inside a x (subst (λ l. Among l x) (v.others a other) i)
-    ];
-    done = λ a x u. elim (cases_eq a r) [
-      | inl same ↦ (
-        λ i. subst (λ z. IsRedirect edges removed initial z x) (sym same) ((v.here x).0 (subst (λ z. Leads new z x) same i)),
-        λ w. subst (λ z. Leads new z x) (sym same) ((v.here x).1 (subst (λ z. IsRedirect edges removed initial z x) same w)),
-      )
-      | inr other ↦ subst (λ l. Among l x ↔ IsRedirect edges removed initial a x) (sym (v.others a other)) (h.done a x (under_split removed r a other u))
-    ];
-    left = λ a x n. elim (cases_eq a r) [
-      | inl same ↦ absurd (n (subst (IsWanted removed true) (sym same) gone, omega (arith, same)))
-      | inr other ↦ subst (λ l. Among l x ↔ Leads initial a x) (sym (v.others a other)) (h.left a x (λ u. n (under_later removed r a u)))
-    ];
-  }
+  next_rows initial bound r rows h gone new v below = grind (arith, cases_eq, under_split, under_later)
 
   module _ (initial : List (List ℕ)) (bound within r : ℕ) (targets rows : List (List ℕ)) (t : RowsState edges within r targets) (h : RowsState initial bound r rows) where
     are_rows : AreRows (Leads edges) (IsWanted removed true) (Leads initial) r (Leads targets) (Leads rows)
@@ -93,42 +70,15 @@ still_own r moved initial rows h a d = h a (elim d [ inl e ↦ inl e | inr le �
 
 pub one_more_own : (r : ℕ) (moved : List Bool) (initial rows new : List (List ℕ)) (is_moved : Bool) (P : ℕ → Type 0) → r < length moved → KeepsOwn r moved initial rows → Moves r P rows new is_moved
     → KeepsOwn (r + 1) (set moved r is_moved) initial new
-one_more_own r moved initial rows new is_moved P lt h m a d = elim (cases_eq a r) [
-  | inl same ↦ elim d [
-    | inl e ↦
-        let kept : is_moved ≡ false = sym (get_or-set_same moved r is_moved false lt) ∙ ap (λ i. get_or (set moved r is_moved) i false) (sym same) ∙ e in
-        ap (λ l. row_items l a) (m.stays kept) ∙ h a (inr (omega (arith, same)))
-    | inr le ↦ absurd (omega (arith, same, le))
-  ]
-  | inr ne ↦ m.row.others a ne ∙ h a (elim d [ inl e ↦ inl (sym (get_or-set_other moved r a is_moved false ne) ∙ e) | inr le ↦ inr (omega (arith, le)) ])
-]
+one_more_own r moved initial rows new is_moved P lt h m a d = grind (arith, cases_eq a r, get_or-set_same moved r is_moved false lt, get_or-set_other)
 
 -- where all are marked, those past the end of the rows are left
 pub all_moved : (n m : ℕ) (moved : List Bool) (initial rows : List (List ℕ)) → length initial ≤ n → length initial ≤ m → length rows ≡ length initial → moved ≡ replicate n true → KeepsOwn m moved initial rows
-all_moved n m moved initial rows fits ends len all a d =
-    let past : length initial ≤ a = elim d [
-      | inl e ↦ elim (cases_lt a n) [
-        | inl lt ↦ absurd (false≢true (sym e ∙ ap (λ l. get_or l a false) all ∙ get_or-replicate n a true false lt))
-        | inr le ↦ omega (arith, le, fits)
-      ]
-      | inr le ↦ omega (arith, le, ends)
-    ] in
-    get_or_past rows a [] (omega (arith, past, len)) ∙ sym (get_or_past initial a [] past)
+all_moved n m moved initial rows fits ends len all a d = grind (arith, cases_lt a n, get_or-replicate, get_or_past rows a, get_or_past initial a)
 
 -- before the first
 pub first_rows : (edges : List (List ℕ)) (removed : List Bool) (initial : List (List ℕ)) (bound : ℕ) → ((a x : ℕ) → Leads initial a x → x < bound) → RowsState edges removed initial bound 0 initial
-first_rows edges removed initial bound inside = record {
-  len = refl;
-  inside = inside;
-  done = λ a x u. absurd (let lt = u.1 in omega (arith, lt));
-  left = λ a x n. (λ i. i, λ i. i);
-}
+first_rows edges removed initial bound inside = grind arith
 
 pub finds_redirects : (edges labels : List (List ℕ)) (flags moved : List Bool) (n : ℕ) (rows : List (List ℕ)) → length labels ≤ n → RowsState edges flags labels (length flags) n rows → length moved ≡ length flags → KeepsOwn n moved labels rows → FindsRedirects edges labels flags moved rows
-finds_redirects edges labels flags moved n rows all state count own = record {
-  len = state.len;
-  count = count;
-  redirects = λ r x lt gone. state.done r x (gone, omega (arith, all, lt));
-  own = λ r e. own r (inl e);
-  inside = state.inside;
-}
+finds_redirects edges labels flags moved n rows all state count own = grind arith

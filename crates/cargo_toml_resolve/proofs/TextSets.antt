@@ -1,5 +1,5 @@
 -- Sets of the texts of numbers.
-use Rattle.std.proofs.Common.{◌≡◌, ◌↔◌, ◌<◌, ℕ, List, [], ◌∷◌, length, map, get_or, bytes_eq, Result, Ok, Err, IfOk, Bor, IsTrue, refl, sym, ap, subst, inl, inr, ◌∙◌}
+use Rattle.std.proofs.Common.{arith, ◌≡◌, ◌↔◌, ◌<◌, ℕ, List, [], ◌∷◌, length, map, get_or, bytes_eq, Result, Ok, Err, IfOk, Bor, IsTrue, refl, sym, ap, subst, inl, inr}
 use Rattle.std.proofs.lemmas.List.{length-map}
 use Rattle.std.specs.{BTreeSet.BTreeSet, List.list_any}
 use Rattle.cargo_toml_graph.specs.{Action.Text, Reach.Among}
@@ -15,8 +15,7 @@ place_below numbers n i x p inside lt is at = subst (λ y. y < n) (sym (item_at 
 -- a set that tells of each text whether it is one of a list has those of the list
 pub set_made : {E : Type 0} (xs : List Text) (r : Result (BTreeSet (Bor Text)) E) → IfOk r (λ s. (x : Text) → set_has s x ≡ list_any (bytes_eq x) xs)
     → IfOk r (λ s. (x : Text) → IsTrue (set_has s x) ↔ Among xs x)
-set_made xs (Err e) h = tt
-set_made xs (Ok s) h = λ x. (λ y. is_among-true xs x (sym (h x) ∙ y), λ i. h x ∙ among-true xs x i)
+set_made xs w1 h = grind (arith, is_among-true, among-true)
 
 module _ (texts : List Text) where
   from_number : (numbers : List ℕ) (x : Text) → Among (map (nth_text texts) numbers) x → (j : ℕ) × (nth_text texts j ≡ x) × Among numbers j
@@ -32,19 +31,12 @@ module _ (texts : List Text) where
 -- the texts of all numbers
 pub all_texts_put : (texts : List (Bor Text)) (numbers ns : List ℕ) (x : Text) → ((n : ℕ) → Among numbers n → n < length texts) → ns ≡ numbers
     → Among (map (nth_text (texts_now texts)) ns) x ↔ IsTextOf (texts_now texts) numbers x
-all_texts_put texts numbers ns x inside all = (
-  λ a.
-      let f = from_number (texts_now texts) numbers x (subst (λ l. Among (map (nth_text (texts_now texts)) l) x) all a) in
-      (f.0, subst (λ n. f.0 < n) (sym (length-map texts (λ k. k.now))) (inside f.0 f.2), f.1, f.2),
-  λ n. subst (λ l. Among (map (nth_text (texts_now texts)) l) x) (sym all) (subst (Among (map (nth_text (texts_now texts)) numbers)) n.2 (to_text (texts_now texts) numbers n.0 n.3)),
-)
+all_texts_put texts numbers ns x inside all = grind (arith, from_number (texts_now texts) numbers x, length-map, to_text)
 
 -- a set that has the texts of all numbers
 pub has_all : (texts : List (Bor Text)) (numbers : List ℕ) (s : BTreeSet (Bor Text)) → ((x : ℕ) → Among numbers x → x < length texts)
     → ((x : Text) → IsTrue (set_has s x) ↔ Among (map (nth_text (texts_now texts)) numbers) x) → HasTextsOf (texts_now texts) numbers s
-has_all texts numbers s inside h x =
-    let all = all_texts_put texts numbers numbers x inside refl in
-    (λ y. all.0 ((h x).0 y), λ n. (h x).1 (all.1 n))
+has_all texts numbers s inside h x = grind (arith, all_texts_put texts numbers numbers x inside refl)
 
 -- the set of their texts is what the numbers stand for
 pub set_of_numbers : {E : Type 0} (texts : List (Bor Text)) (numbers : List ℕ) (ks : List (Bor Text)) (r : Result (BTreeSet (Bor Text)) E) →

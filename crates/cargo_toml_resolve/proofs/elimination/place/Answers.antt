@@ -1,6 +1,6 @@
 use Rattle.std.proofs.Common.{rules, ◌≡◌, ◌<◌, ℕ, length, ap, refl, sym, subst, ◌∙◌, arith}
 use Rattle.std.specs.Option.{ForSome}
-use Rattle.cargo_toml_resolve.specs.{Dense.AreTables, Numbers.FindsRedirects, Passing.bins_of, Passing.passed_below, Texts.texts_now, Walking.AreRedirects}
+use Rattle.cargo_toml_resolve.specs.{Dense.AreTables, Numbers.FindsRedirects, Passing.bins_of, Passing.passed_below, Texts.texts_now, Dense.AreRedirects}
 use Rattle.cargo_toml_resolve.proofs.Placing.{bins_there, kept_there, left_there, named_alike_there, redirects_there}
 use Rattle.cargo_toml_resolve.proofs.elimination.place.Goals as goal
 

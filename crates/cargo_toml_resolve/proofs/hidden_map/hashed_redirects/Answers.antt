@@ -3,7 +3,7 @@ use Rattle.std.proofs.lemmas.List.{get_or-map}
 use Rattle.cargo_toml_graph.specs.Action.{Text}
 use Rattle.cargo_toml_features.specs.Places.{nth_text}
 use Rattle.cargo_toml_resolve.specs.{Numbers.IsWanted, Texts.texts_now}
-use Rattle.cargo_toml_resolve.proofs.HashedRedirects.{HandsBelow, as_handed, none_handed, not_yet, one_handed, redirect_put, redirect_skipped, skips_handed}
+use Rattle.cargo_toml_resolve.proofs.HashedKept.{HandsBelow, as_handed, none_handed, not_yet, one_handed, redirect_put, redirect_skipped, skips_handed}
 use Rattle.cargo_toml_resolve.proofs.hidden_map.hashed_redirects.Goals as goal
 use Rattle.cargo_toml_resolve.proofs.hidden_map.hashed_redirects.Goals.{then-index+in_ok-redirect+in_ok-put, else-index}
 

@@ -2,7 +2,7 @@ use Rattle.std.proofs.Common.{◌≡◌, ◌<◌, Bor, List, false, length, refl
 use Rattle.std.proofs.lemmas.Option.{slice_get_read}
 use Rattle.cargo_toml_graph.specs.{Action.Text, Reach.Among}
 use Rattle.cargo_toml_resolve.specs.{Numbers.IsWanted, Numbers.row_items, Holding.HasTextsOf, Texts.texts_now}
-use Rattle.cargo_toml_resolve.proofs.{Steps.read_at, HashedRedirects.none_handed, HashedRedirects.set_handed}
+use Rattle.cargo_toml_resolve.proofs.{Steps.read_at, HashedKept.none_handed, HashedKept.set_handed}
 use Rattle.cargo_toml_resolve.proofs.hidden_map.redirect_of.Goals as goal
 
 pub set_of_nodes-requires : goal.set_of_nodes-requires

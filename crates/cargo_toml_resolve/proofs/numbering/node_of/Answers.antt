@@ -3,7 +3,7 @@ use Rattle.std.proofs.lemmas.List.{get_or-take, length-map, length-take-le, map_
 use Rattle.cargo_toml_graph.specs.{Action.Text, Ascending.Ascend, Reach.Among}
 use Rattle.cargo_toml_features.specs.Places.{nth_text}
 use Rattle.cargo_toml_resolve.specs.{Numbering.Extends, Numbering.IsNodeOf, Texts.texts_now}
-use Rattle.cargo_toml_resolve.proofs.NumberTexts.{extends_none, extends_push, fits_now, node_found, node_pushed}
+use Rattle.cargo_toml_resolve.proofs.NumberRows.{extends_none, extends_push, fits_now, node_found, node_pushed}
 use Rattle.cargo_toml_resolve.proofs.numbering.node_of.Goals as goal
 
 pub seek-requires : goal.seek-requires

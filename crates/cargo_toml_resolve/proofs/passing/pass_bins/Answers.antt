@@ -1,6 +1,6 @@
 use Rattle.std.proofs.Common.{rules, ◌≡◌, ◌<◌, true, false, take, length, ap, refl, sym, subst, ◌∙◌, arith}
 use Rattle.cargo_toml_graph.specs.Reach.{Among}
-use Rattle.cargo_toml_resolve.specs.{Numbers.IsWanted, Numbers.Leads, Numbers.row_items, KnownBins.AreKnown, Passing.bins_of, Passing.passed_below, Puts.Puts}
+use Rattle.cargo_toml_resolve.specs.{Numbers.IsWanted, Numbers.Leads, Numbers.row_items, Passing.AreKnown, Passing.bins_of, Passing.passed_below, Passing.Puts}
 use Rattle.cargo_toml_resolve.proofs.{PutAlong.same_features, PutAlong.then_same, BinTurns.kept_turn, BinTurns.none_passed, BinTurns.one_turn}
 use Rattle.cargo_toml_resolve.proofs.passing.pass_bins.Goals as goal
 use Rattle.cargo_toml_resolve.proofs.passing.pass_bins.Goals.{then-flags-r+in_ok-pass_from, else-flags-r}

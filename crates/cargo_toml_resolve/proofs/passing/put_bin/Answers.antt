@@ -1,8 +1,8 @@
 use Rattle.std.proofs.Common.{◌≡◌, [], ◌∷◌, true, false, Bor, ap, sym, subst, ◌∙◌}
 use Rattle.std.proofs.lemmas.{Bool.cond-true, Bool.cond-false, List.map_push}
 use Rattle.cargo_toml_graph.specs.Removal.{lists_text, put_each}
-use Rattle.cargo_toml_resolve.specs.{KnownBins.Knows, Texts.texts_now}
-use Rattle.cargo_toml_resolve.proofs.KnownBins.{knows_more, was_false, was_true}
+use Rattle.cargo_toml_resolve.specs.{Passing.Knows, Texts.texts_now}
+use Rattle.cargo_toml_resolve.proofs.BinTurns.{knows_more, was_false, was_true}
 use Rattle.cargo_toml_resolve.proofs.passing.put_bin.Goals as goal
 
 pub returns-in_ok-push-clause-put : goal.returns-in_ok-push-clause-put

@@ -1,7 +1,7 @@
 use Rattle.std.proofs.Common.{◌∷◌, [], get_or, ap, sym, ◌∙◌}
 use Rattle.cargo_toml_graph.specs.Removal.{put_each}
 use Rattle.cargo_toml_resolve.specs.Texts.{texts_now}
-use Rattle.cargo_toml_resolve.proofs.Put.{put_more, blank}
+use Rattle.cargo_toml_resolve.proofs.PutAlong.{put_more, blank}
 use Rattle.cargo_toml_resolve.proofs.passing.put_bins.Goals as goal
 
 pub put_bin-requires : goal.put_bin-requires

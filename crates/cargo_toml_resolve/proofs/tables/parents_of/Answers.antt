@@ -2,7 +2,7 @@ use Rattle.std.proofs.Common.{rules, ◌+◌, ◌<◌, ◌↔◌, ℕ, ◌++◌,
 use Rattle.std.proofs.lemmas.Bool.{false≢true}
 use Rattle.cargo_toml_graph.specs.Reach.{Among}
 use Rattle.cargo_toml_resolve.specs.Bits.{HasBit, Holds}
-use Rattle.cargo_toml_resolve.proofs.{Steps.list_read, Tabled.holds_inside, Words.none_more_held, Words.one_more_held}
+use Rattle.cargo_toml_resolve.proofs.{Steps.list_read, Tabled.holds_inside, Tabled.none_more_held, Tabled.one_more_held}
 use Rattle.cargo_toml_resolve.proofs.tables.parents_of.Goals.{then-has_bit+in_ok-push, else-has_bit}
 use Rattle.cargo_toml_resolve.proofs.tables.parents_of.Goals as goal
 

@@ -11,8 +11,14 @@ fn dependency(alloc: Global, value: &str) -> Result<Dependency, Error> {
 /// What is answered to who asks for the requirement, and for the detail, of one that is inherited.
 pub fn questions_to_inherited(alloc: Global) -> Shown {
     let mut inherited = dependency(alloc, "{ workspace = true }")?;
-    let req = format!(in alloc; "{:?}", inherited.try_req())?;
-    let detail = format!(in alloc; "{:?}", inherited.try_detail_mut(alloc))?;
+    let req = match inherited.try_req() {
+        Ok(_) => String::from_str(alloc, "answered")?,
+        Err(fault) => format!(in alloc; "{fault:?}")?,
+    };
+    let detail = match inherited.try_detail_mut(alloc) {
+        Ok(_) => String::from_str(alloc, "answered")?,
+        Err(fault) => format!(in alloc; "{fault:?}")?,
+    };
     Ok(format!(in alloc; "try_req(): {req}\ntry_detail_mut(): {detail}\n")?)
 }
 

@@ -10,7 +10,7 @@ use cargo_toml_bench::whole::{keep_a, resolve_by, resolve_whole};
 use cargo_toml_held::HeldManifest;
 use cargo_toml_program::{feature_lines, print_features};
 use std::alloc::{AllocError, Global};
-use std::collections::HashMap;
+use std::collections::{BTreeSet, HashMap};
 use std::fmt::Write;
 use std::hash::BuildHasher;
 use std::rt::Files;
@@ -94,9 +94,11 @@ pub fn recorded(alloc: Global, bytes: &[u8]) -> Shown {
 fn sorted<'m, V, S: BuildHasher>(
     alloc: Global,
     map: &HashMap<&'m str, V, S>,
-) -> Result<Vec<&'m str>, AllocError> {
-    let mut keys: Vec<&str> = map.keys().copied().collect(alloc)?;
-    keys.sort()?;
+) -> Result<BTreeSet<&'m str>, AllocError> {
+    let mut keys = BTreeSet::new(alloc);
+    for key in map.keys() {
+        keys.insert(*key)?;
+    }
     Ok(keys)
 }
 

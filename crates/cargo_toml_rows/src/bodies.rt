@@ -26,7 +26,8 @@ pub fn answer<R: Files + AllocGlobal>(rt: &R, path: &str) -> Shown {
         _ => {}
     }
     let held = HeldManifest::from_slice(alloc, bytes)?;
-    let (keep, every) = (keep_a, keep_every);
+    let keep = keep_a;
+    let every = keep_every;
     match kind {
         "kept" => compared(alloc, resolve_by_both(alloc, Some(&keep), &*held.manifest)?),
         "whole" => compared(

@@ -23,11 +23,8 @@ pub fn lines<R: Files + AllocGlobal>(row: &Row<'_, R>, bytes: &[u8]) -> Shown {
         let files = files_around(row)?;
         let empty = Answer::Names(Vec::new(alloc));
         let without = with_answer(alloc, bytes, files, path.as_str(), empty)?;
-        let came = if text == without {
-            "as if empty"
-        } else {
-            text.as_str()
-        };
+        let same = text == without;
+        let came = if same { "as if empty" } else { text.as_str() };
         write!(lines, "{path}: {came}\n")?;
     }
     Ok(lines)

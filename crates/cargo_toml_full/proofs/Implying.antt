@@ -9,7 +9,6 @@ use Rattle.cargo_toml_features.{specs.InOrder.feature_at, proofs.TextKeys.none_i
 use Rattle.cargo_toml_graph.{specs.Action.Text, proofs.Texts.bytes_eq_sym}
 use Rattle.cargo_toml_full.specs.Implying.{AreFree, IsImplied, Becomes, ImpliesAll, is_optional_at, is_offered, is_offered_alone, is_one_of}
 use Rattle.cargo_toml_full.proofs.{TakenMore.taken_more, Placed.none_from, ReadOne.has_more}
-use Rattle.std.proofs.Common.{take_all, ◌≤◌}
 
 stays : (t : Bool) (q : Text) (o : Option Feature) → (t ≡ true → is_some o ≡ true) → Becomes t q o o
 stays v0 v1 v2 v3 = search rules
@@ -31,6 +30,11 @@ module _ where
   implied_more : (p r s : Text → Bool) (a b c : List Feature) → ((q : Text) → s q ≡ (p q || r q)) → ImpliesAll p a b → ImpliesAll r b c → ImpliesAll s a c
   implied_more p r s a b c same h k = record { at = λ q. subst (λ t. Becomes t q (feature_at a q) (feature_at c q)) (sym (same q)) (twice (p q) (r q) q (feature_at a q) (feature_at b q) (feature_at c q) (h.at q) (k.at q)) }
 
+  -- the entries es, and then e
+  pub implied_next : (reserved : Text → Bool) (es : List Entry) (e : Entry) (a b c : List Feature)
+      → ImpliesAll (is_offered reserved es) a b → ImpliesAll (is_offered reserved (e ∷ [])) b c → ImpliesAll (is_offered reserved (es ++ e ∷ [])) a c
+  implied_next v0 v1 v2 v3 v4 v5 v6 v7 = search (rules, implied_more, offered_more)
+
   -- the feature of the key is put where none is
   pub implied_put : (key : Text) (m n : List Feature) (w : Feature) → IsImplied key w
       → ((q : Text) → feature_at n q ≡ option_or (feature_at m q) (cond (bytes_eq q w.key.now) (Some w) None)) → ImpliesAll (λ q. bytes_eq q key) m n
@@ -48,6 +52,10 @@ plain_made key m n s none empty u k =
     go : (t : Bool) → option_map action_of (cond t (Some (record { is_conditional = false; is_dep_only = false; dep_features = s })) None) ≡ cond t (Some plain_action) None
     go true = λ i. Some (record { is_conditional = false; is_dep_only = false; features = λ x. none_in s empty x i })
     go false = refl
+
+-- no entries offer anything
+pub offers_nothing : (reserved : Text → Bool) (vs : List Feature) → ImpliesAll (is_offered reserved []) vs vs
+offers_nothing reserved vs = record { at = λ q. stays false q (feature_at vs q) (λ y. absurd (false≢true y)) }
 
 -- one entry offers its key, if any
 pub offered_one : (reserved : Text → Bool) (e : Entry) (q : Text) → is_offered reserved (e ∷ []) q ≡ cond (is_offered_alone reserved e) (bytes_eq q e.key) false
@@ -84,17 +92,3 @@ stands (w ∷ ws) rest v = grind (arith, common_steps, stands ws rest v)
 pub listed_free : (ks : List (Bor Text)) (i : ℕ) (done rest : List Feature) (v : Feature) → ((q : Text) → is_one_of (map (λ k. k.now) ks) q ≡ true → feature_at (done ++ v ∷ rest) q ≡ None)
     → is_one_of (map (λ k. k.now) (take i ks)) v.key.now ≡ false
 listed_free ks i done rest v free = false_from_ne_true _ (λ on. false≢true (sym (ap is_some (free v.key.now (taken_among ks i v.key.now on))) ∙ stands done rest v))
-
--- each key of a list, one after another
-pub implied_each : (ks : List (Bor Text)) (next : ℕ) (old new : List Feature) → length ks ≤ next
-    → ((started : List Feature) → ImpliesAll (is_one_of (map (λ k. k.now) (take 0 ks))) started old → ImpliesAll (is_one_of (map (λ k. k.now) (take next ks))) started new)
-    → ImpliesAll (is_one_of (map (λ k. k.now) ks)) old new
-implied_each ks next old new past each = subst (λ us. ImpliesAll (is_one_of (map (λ k. k.now) us)) old new) (take_all next ks (omega (arith, past)))
-    (each old (record { at = λ q. search rules }))
-
-moved : (q : Text) (o o' : Option Feature) (b b' : Bool) → (o ≡ None → b ≡ b') → Becomes b q o o' → Becomes b' q o o'
-moved v0 v1 v2 v3 v4 v5 v6 = search rules
-
--- where no feature has the key, it is one of these exactly if it is offered
-pub implied_as : (keys offered : Text → Bool) (old new : List Feature) → ((q : Text) → feature_at old q ≡ None → keys q ≡ offered q) → ImpliesAll keys old new → ImpliesAll offered old new
-implied_as keys offered old new same h = record { at = λ q. moved q (feature_at old q) (feature_at new q) (keys q) (offered q) (same q) (h.at q) }

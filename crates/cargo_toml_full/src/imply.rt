@@ -15,8 +15,8 @@ use cargo_toml_features::features::{DepAction, Feature, ParseDependency};
 use std::alloc::{AllocError, Global};
 use std::collections::{BTreeMap, BTreeSet};
 
-// Up to so many features are put among the others one by one. More are merged with them in one go,
-// so that not each moves those behind it.
+// Up to so many optional entries, the implied features are put among the others one by one. More
+// are merged with the others in one go, so that not each moves those behind it.
 const FEW: usize = 16;
 
 // The one action of the feature that a key implies.
@@ -76,6 +76,45 @@ fn offers(acted: &Acted<'_>, entry: &ParseDependency<'_, '_>) -> bool
     ensures { result ≡ is_offered_alone (has_key acted.now.reserved) (entry_of entry.now) }
 {
     entry.dep.optional() && !acted.reserves(entry.key)
+}
+
+// Adds the feature that the entry implies, if it does.
+fn imply<'m>(
+    alloc: Global,
+    features: &mut Vec<Feature<'m>>,
+    acted: &Acted<'m>,
+    entry: &ParseDependency<'m, '_>,
+) -> Result<(), AllocError>
+    requires { AreInOrder features.old.items }
+    ensures in_order { OnOk result (AreInOrder features.new.items) }
+    ensures implied { OnOk result
+        (ImpliesAll (is_offered (has_key acted.now.reserved) (entry_of entry.now ∷ []))
+        features.old.items features.new.items) }
+{
+    if !offers(acted, entry) {
+        return Ok(());
+    }
+    imply_key(alloc, features, entry.key)?;
+    Ok(())
+}
+
+// Adds the features that entries imply, each by itself.
+fn imply_all<'m>(
+    alloc: Global,
+    features: &mut Vec<Feature<'m>>,
+    acted: &Acted<'m>,
+    entries: &[ParseDependency<'m, '_>],
+) -> Result<(), AllocError>
+    requires { AreInOrder features.old.items }
+    ensures in_order { OnOk result (AreInOrder features.new.items) }
+    ensures implied { OnOk result
+        (ImpliesAll (is_offered (has_key acted.now.reserved) (map entry_of entries.now))
+        features.old.items features.new.items) }
+{
+    for entry in entries {
+        imply(alloc, features, acted, entry)?;
+    }
+    Ok(())
 }
 
 // Notes the key of the entry, if it implies a feature and none of its name is there.
@@ -175,6 +214,12 @@ fn merged<'m>(
     Ok(all)
 }
 
+// Whether many entries are optional, and so may imply a feature. No clause says it: by that one of
+// two ways is chosen, and each is proved.
+fn implies_many(entries: &[ParseDependency<'_, '_>]) -> bool {
+    entries.iter().filter(|entry| entry.dep.optional()).count() > FEW
+}
+
 /// The features with those that optional dependencies imply. It fails only where memory runs out.
 pub fn with_implied<'m>(
     alloc: Global,
@@ -188,10 +233,11 @@ pub fn with_implied<'m>(
         ImpliesAll (is_offered (has_key acted.now.reserved) (map entry_of entries.now))
         features.entry.items vs.items) }
 {
-    let keys = implied_keys(alloc, features.as_slice(), acted, entries)?;
-    if keys.len() > FEW {
-        return merged(alloc, features, keys.as_slice());
+    if implies_many(entries) {
+        let keys = implied_keys(alloc, features.as_slice(), acted, entries)?;
+        merged(alloc, features, keys.as_slice())
+    } else {
+        imply_all(alloc, &mut features, acted, entries)?;
+        Ok(features)
     }
-    imply_below(alloc, &mut features, keys.as_slice(), 0, None)?;
-    Ok(features)
 }

@@ -1,0 +1,10 @@
+use Rattle.std.proofs.Common.{map, take}
+use Rattle.cargo_toml_features.specs.{InOrder.AreInOrder, Views.entry_of}
+use Rattle.cargo_toml_full.specs.{Implying.ImpliesAll, Implying.is_offered, Searching.has_key}
+use Rattle.cargo_toml_full.proofs.imply.imply_all.Given as goal
+
+abbrev pub invariant-loop-entry : goal.invariant-loop-entry
+invariant-loop-entry l = record {
+  in_order : AreInOrder l.features.items;
+  implied : ImpliesAll (is_offered (has_key l.acted.reserved) (map entry_of (take l.entry-index l.entries))) l.initial.features.items l.features.items;
+}

@@ -1,4 +1,4 @@
--- An answer beside one of a filter that keeps every name, and beside another by its own filter.
+-- An answer beside one of a filter that keeps every name, beside another by its own filter, and beside what holds the same.
 use Rattle.std.proofs.Common.{arith, ◌≡◌, ◌&&◌, not, Bool, true, List, Bor, Option, codes, nat_eq, IsFalse, IsSome, IsTrue, is_some}
 use Rattle.std.specs.List.{starts_with}
 use Rattle.cargo_toml_graph.specs.{Action.Text, Admitted.Listed, Graph.Table, Graph.IsResolved, Graph.Resolution, Kept.KeepsEnabling, Kept.LosesNothing, Kept.NoneIsLeft, Removal.is_removed, Removal.SameKept}
@@ -39,10 +39,10 @@ module _ (listed : Listed) (entries : List Entry) where
     keep r = not (is_some (b.redirects r))
 
     first : (x y z : Bool) → (x && y && not (not z)) ≡ true → z ≡ true
-    first w0 y z e = grind arith
+    first x y z e = grind arith
 
     all : (x y z : Bool) → x ≡ true → y ≡ true → z ≡ true → (x && y && not (not z)) ≡ true
-    all w0 y z e e' e'' = grind arith
+    all x y z e e' e'' = grind arith
 
     into : (r : Text) → IsRemovedBy g filter t r → IsTrue (is_removed t keep r)
     into r gone = all (t.has r) (starts_with nat_eq r (codes "_")) (is_some (b.redirects r)) gone.there gone.hidden ((h.answer.redirected r).1 gone)

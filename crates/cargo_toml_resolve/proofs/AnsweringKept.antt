@@ -1,6 +1,6 @@
 -- From all that is resolved, and what is kept of it once hidden features are taken out, to the whole answer.
 use mathlib.Core.Bool.{beq}
-use Rattle.std.proofs.Common.{arith, ◌≡◌, ◌↔◌, Bool, length, true, false, List, [], Bor, map, Option, Some, IsTrue, IfSome, is_some, option_map, refl, sym, ◌∙◌}
+use Rattle.std.proofs.Common.{arith, ◌≡◌, ◌↔◌, Bool, length, true, false, List, [], Bor, map, Option, IsTrue, IfSome, is_some, option_map, refl, sym, ◌∙◌}
 use Rattle.std.proofs.lemmas.Bool.{false≢true}
 use Rattle.std.specs.{BTreeSet.BTreeSet, List.IsAnyAnswer, List.slice_index_or, Option.option_map_or}
 use Rattle.cargo_toml_graph.specs.{Action.Text, Admitted.Listed, Admitted.is_below, Bins.ArePassedOn, Graph.Table, Redirects.RedirectsTo, Removal.unremoved}
@@ -9,20 +9,20 @@ use Rattle.cargo_toml_features.specs.{Places.nth_text, declared.features.Feature
 use Rattle.cargo_toml_features.specs.{Marks.NamedDetails, Marks.marked, Marks.marks_in, Marks.marks_of, Recorded.Entry, Recorded.entries_at, Recorded.recorded_of, Resolved.IsAnswerWithout}
 use Rattle.cargo_toml_features.specs.{Resolved.SameRecorded, Resolved.table_of, Views.answer_of, Views.set_has, Views.value_at}
 use Rattle.cargo_toml_dependencies.specs.Details.{plain_detail}
-use Rattle.cargo_toml_resolve.specs.{KeptFeatures.IsNamedAlike, KeptFeatures.own_bins, KeptFeatures.AreKept, Numbering.IsFlagged}
+use Rattle.cargo_toml_resolve.specs.{KeptFeatures.own_bins, KeptFeatures.AreKept, Numbering.IsFlagged}
 use Rattle.cargo_toml_resolve.proofs.InPlace.{found_stands}
 
 -- the key of a feature that may be there
 pub key_told : (f : Text) (o : Option Feature) → IfSome o (λ v. v.key.now ≡ f) → IfSome (option_map (λ (v : Feature). v.key.now) o) (λ k. k ≡ f)
-key_told f w1 k = grind arith
+key_told f o k = grind arith
 
 -- the binaries of one that is there
 pub bins_told : (own : List Text) (o : Option Feature) → IsTrue (is_some o) → IfSome o (λ v. map (λ b. b.now) v.required_by_bins.items ≡ own) → option_map_or (λ v. map (λ (b : Bor Text). b.now) v.required_by_bins.items) o [] ≡ own
-bins_told own w1 y e = grind arith
+bins_told own o y e = grind arith
 
 -- a set of texts is there where it is seen as a test
 pub test_there : (o : Option (BTreeSet (Bor Text))) → is_some (option_map set_has o) ≡ is_some o
-test_there w0 = grind arith
+test_there o = grind arith
 
 module _ {S H : Type 0} (listed : Listed) (entries : List Entry) (details : NamedDetails) (own : Text → List Text) (removed : Text → Bool) (vs : List Feature) (a : Features S H)
     (start : AreTable (table_of listed entries) vs) (there : (f : Text) → IsTrue (removed f) → IsTrue ((table_of listed entries).has f))
@@ -36,9 +36,6 @@ module _ {S H : Type 0} (listed : Listed) (entries : List Entry) (details : Name
 
   abbrev R : Text → Type 0
   R f = IsTrue (removed f)
-
-  abbrev Stays : Text → Feature → Type 0
-  Stays f w = (v : Feature) × (feature_at vs f ≡ Some v) × IsNamedAlike v w
 
   pub keyed : IsKeyed a.features
   keyed f = grind (arith, found_stands)
@@ -86,7 +83,7 @@ some_flagged true vs flags R len h is = (
 )
   where
     stands : (c : Bool) → beq c true ≡ true → c ≡ true
-    stands w0 e = grind arith
+    stands c e = grind arith
 some_flagged false vs flags R len h is = (
   λ y. absurd (false≢true y),
   λ r. grind arith,

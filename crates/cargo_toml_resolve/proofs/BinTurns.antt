@@ -1,4 +1,4 @@
--- Removed places pass binaries on, turn after turn.
+-- Removed places pass binaries on, turn after turn, and sets say which stand in a list.
 use Rattle.std.proofs.Common.{◌≡◌, ◌⊎◌, ◌<◌, ◌≤◌, ◌+◌, ◌&&◌, ◌||◌, ℕ, zero, suc, true, false, Bool, List, [], ◌∷◌, cond, length, map, nat_eq, not, take, Bor, refl, sym, ap, subst, inl, inr, ◌∙◌, arith, eq-eqb, eqb-true, ◌++◌, slice_get, Some, bytes_eq, IsTrue, ◌↔◌}
 use Rattle.std.proofs.Math.Bool.{or-false}
 use Rattle.std.proofs.lemmas.{Bool.cases_Bool, Bool.false≢true, Bool.or_cases, Bool.or_left, Bool.or_right, Bool.Decides.nat_tests, Slice.Eq.bytes_eq-Decides}
@@ -27,7 +27,7 @@ no_bins true [] none on = refl
 no_bins true (x ∷ bins) none on = let some : not (nat_eq (length (x ∷ bins)) 0) ≡ true = grind (arith, nat_tests) in absurd (false≢true (sym none ∙ some))
 
 either_off : (a b : Bool) → (a || b) ≡ false → (a ≡ false) × (b ≡ false)
-either_off w0 b off = grind arith
+either_off a b off = grind arith
 
 -- where the test of every feature with its flag fails, no removed place has a binary
 pub none_had : (vs : List Feature) (flags : List Bool) → length vs ≤ length flags → list_any (λ (p : Feature × Bool). p.1 && not (nat_eq (length p.0.required_by_bins.items) 0)) (zip vs flags) ≡ false
@@ -47,10 +47,10 @@ none_passed rows flags own (suc n) none y = go (none_passed rows flags own n (λ
     P = passed_below rows flags n own
 
     put : ((x : ℕ) → P x ≡ own x) → P n ≡ [] → (b : Bool) → cond b (put_each (P y) (take 10 (P n))) (P y) ≡ own y
-    put below is w2 = grind arith
+    put below is b = grind arith
 
     go : ((x : ℕ) → P x ≡ own x) → (b : Bool) → slice_index_or flags n false ≡ b → (cond b (passed_from rows n P) P) y ≡ own y
-    go below w1 gone = grind (arith, put)
+    go below b gone = grind (arith, put)
 
 module _ (rows : List (List ℕ)) (flags : List Bool) (own : ℕ → List Text) (size : ℕ) where
   -- the lists once the places below i have had their turns
@@ -73,7 +73,7 @@ module _ (rows : List (List ℕ)) (flags : List Bool) (own : ℕ → List Text) 
   one_turn i inside gone lists lists' t puts = grind (arith, next i lists', stands_true, stands_false)
 
 or_more : (a b c : Bool) → (a || (b || c)) ≡ ((a || b) || c)
-or_more w0 b c = grind arith
+or_more a b c = grind arith
 
 among_last : (xs : List Text) (k x : Text) → lists_text (xs ++ k ∷ []) x ≡ (lists_text xs x || bytes_eq x k)
 among_last [] k x = or-false (bytes_eq x k)
@@ -85,10 +85,10 @@ among_again xs k x there = grind (arith, bytes_eq-Decides x k, or-false (lists_t
 
 -- what an answer that says whether a text is new tells of the set before
 pub was_false : (had is_new : Bool) → is_new ≡ not had → is_new ≡ true → had ≡ false
-was_false w0 b e t = grind arith
+was_false had b e t = grind arith
 
 pub was_true : (had is_new : Bool) → is_new ≡ not had → is_new ≡ false → had ≡ true
-was_true w0 b e f = grind arith
+was_true had b e f = grind arith
 
 -- one more binary
 pub knows_more : (s n : BTreeSet (Bor Text)) (own : List Text) (k : Text) → Knows s own → ((x : Text) → set_has n x ≡ (set_has s x || bytes_eq x k)) → Knows n (put_each own (k ∷ []))
@@ -96,7 +96,7 @@ knows_more s n own k known added x = grind (arith, among_again, among_last own k
 
 -- a set that isn't empty is filled
 pub filled : (s : BTreeSet (Bor Text)) (xs : List Text) (is_empty : Bool) → IsTrue is_empty ↔ (btree_set_len s ≡ 0) → is_empty ≡ false → MayKnow s xs → Knows s xs
-filled s xs b tells not_empty w5 = grind arith
+filled s xs b tells not_empty p = grind arith
 
 -- so many sets, none of which is filled
 pub record AreBlank (ss : List (BTreeSet (Bor Text))) (n : ℕ) : Type 0 where

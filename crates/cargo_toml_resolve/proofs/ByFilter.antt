@@ -30,7 +30,7 @@ flag_is (v ∷ vs) (b ∷ flags) f = (into (flag_is vs flags f), out (flag_is vs
 
     at : IsTrue (flag_at vs flags f) ↔ IsFlagged vs flags f → (i : ℕ) → i < length (v ∷ vs) → nth_text (names_of (v ∷ vs)) i ≡ f → IsWanted (b ∷ flags) true i
         → IsTrue (flag_at (v ∷ vs) (b ∷ flags) f)
-    at rest w1 lt same stands = grind (arith, or_left, and_from, bytes_eq-Decides, or_right)
+    at rest p lt same stands = grind (arith, or_left, and_from, bytes_eq-Decides, or_right)
 
     out : IsTrue (flag_at vs flags f) ↔ IsFlagged vs flags f → IsFlagged (v ∷ vs) (b ∷ flags) f → IsTrue (flag_at (v ∷ vs) (b ∷ flags) f)
     out rest w = at rest w.0 w.1 w.2 w.3
@@ -101,10 +101,10 @@ module _ (listed : Listed) (entries : List Entry) (details : NamedDetails) (own 
     R = IsRemovedBy g filter t
 
     three : (h s k : Bool) → h ≡ true → s ≡ true → false ≡ k → (h && s && not k) ≡ true
-    three w0 s k e e' e'' = grind arith
+    three p s k e e' e'' = grind arith
 
     parts : (h s k : Bool) → (h && s && not k) ≡ true → (h ≡ true) × (s ≡ true) × (k ≡ false)
-    parts w0 s k e = grind arith
+    parts p s k e = grind arith
 
     -- each test that agrees with the filter tells the same as it
     pub tell_alike : (keep : Text → Bool) (a : Answer) → IsAnswerWithout listed entries details own R a

@@ -46,7 +46,7 @@ module _ (removed : List Bool) where
     first_paths a b = (λ h. edge h, only)
       where
         only : {c d : ℕ} → Reaches (Leads edges) (IsBelow removed 0) c d → Leads edges c d
-        only w0 = grind (arith, below_none)
+        only p = grind (arith, below_none)
 
     pub first_labels : (a x : ℕ) → Leads labels a x ↔ Labels 0 a x
     first_labels a x = grind (arith, below_none)

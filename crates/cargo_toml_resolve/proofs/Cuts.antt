@@ -60,7 +60,7 @@ module _ (E : ℕ → ℕ → Type 0) (R : ℕ → Type 0) (L : ℕ → ℕ → 
 
       -- the end of the path
       ended : (a b : ℕ) → Under r a → Under r b → Reaches E (Under a) a b → L b x → (b < a) ⊎ (a ≤ b) → Cut a
-      ended a b u w p l w6 = grind (arith, out_under, prepend)
+      ended a b u w p l q = grind (arith, out_under, prepend)
 
       -- from a, by removed vertices below it, to c, and on to b
       cut : {c b : ℕ} (a : ℕ) → Under r a → Under r c → Under r b → Reaches E (Under a) a c → Reaches E (Under r) c b → L b x → (c < a) ⊎ (a ≤ c) → Cut a
@@ -75,7 +75,7 @@ module _ (E : ℕ → ℕ → Type 0) (R : ℕ → Type 0) (L : ℕ → ℕ → 
       from_start {b} v (through {b = c} e s (through {b = d} f t q)) l = prepend ((rows.start_edges c).1 e) s (cut c s t v (edge f) q l (cases_lt d c))
 
       rows_complete : GathersLabel E (Under r) L r x → GathersLabel E' (Under r) L' r x
-      rows_complete w0 = grind (arith, from_start)
+      rows_complete p = grind (arith, from_start)
 
     -- the next row, from the rows below
     pub next_row : (x : ℕ) → (GathersLabel E' (Under r) L' r x × ¬ Under r x) ↔ (GathersLabel E (Under r) L r x × ¬ Under r x)

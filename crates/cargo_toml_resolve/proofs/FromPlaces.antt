@@ -12,13 +12,13 @@ use Rattle.cargo_toml_resolve.proofs.NumberedTables as numbered
 use Rattle.cargo_toml_resolve.proofs.{Answered.resolved_is, InPlace.name_in, InPlace.stands_found, InPlace.stands_in, Placing.place_inside, Placing.stood}
 
 none_unless : {X : Type 0} (o : Option X) → ¬ IsSome o → o ≡ None
-none_unless w0 h = grind arith
+none_unless o h = grind arith
 
 some_there : {X : Type 0} (o : Option X) (P : X → Type 0) → IsSomeAnd o P → IsSome o
-some_there w0 P h = grind arith
+some_there o P h = grind arith
 
 if_there : {X : Type 0} (o : Option X) (P : X → Type 0) → (IsSome o → IsSomeAnd o P) → IfSome o P
-if_there w0 P h = grind arith
+if_there o P h = grind arith
 
 module _ (t : Table) (removed : Text → Bool) (old new : List Feature) (texts : List Text) (edges names rows : List (List ℕ)) (flags : List Bool)
     (stand : StandFor t removed old texts edges names flags) (len : length new ≡ length old)
@@ -97,7 +97,7 @@ module _ (t : Table) (removed : Text → Bool) (old new : List Feature) (texts :
 
     list_there : (f : Text) (o : Option Feature) → IsSomeAnd o (IsKeptFeature t R f) → IfSome o (λ w. map (λ b. b.now) w.required_by_bins.items ≡ pass_all bins.order (unremoved t) (own_bins old) f) →
         option_map_or (λ v. map (λ (b : Bor Text). b.now) v.required_by_bins.items) o [] ≡ pass_all bins.order (unremoved t) (own_bins old) f
-    list_there f w1 k h = grind arith
+    list_there f o k h = grind arith
 
     pub are_kept : AreKept t removed old m hidden
     are_kept = record {

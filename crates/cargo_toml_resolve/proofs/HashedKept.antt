@@ -1,4 +1,4 @@
--- A map gets one kept feature after another.
+-- Hashed maps get one kept feature, one redirect or one value after another.
 use Rattle.std.proofs.Common.{◌≡◌, ◌<◌, ◌+◌, ℕ, zero, suc, Bool, true, false, cond, List, [], ◌∷◌, length, drop, Option, Some, None, Bor, IsSome, bytes_eq, is_some, slice_get, refl, sym, ap, subst, inl, inr, ◌∙◌, arith, if◌then◌else◌, get_or, set, length-set}
 use Rattle.std.proofs.Math.Seq.{drop-cons}
 use Rattle.std.proofs.lemmas.{Bool.cases_Bool, Bool.cases_eq, Bool.false_from_ne_true, List.length-drop, Slice.Eq.bytes_eq-Decides, Option.same_Some, Option.slice_get_read}
@@ -47,13 +47,13 @@ module _ {S : Type 0} (vs : List Feature) (flags : List Bool) where
   }
     where
       key_or : Option Feature → Text → Text
-      key_or w0 x = grind arith
+      key_or p x = grind arith
 
   -- one way or the other
   pub kept_turn : (n : ℕ) (m m' : HashMap (Bor Text) Feature S) (w : Feature) (flag : Bool) → slice_get vs n ≡ Some w → IsWanted flags flag n →
       ((i j : ℕ) (v u : Feature) → slice_get vs i ≡ Some v → slice_get vs j ≡ Some u → v.key.now ≡ u.key.now → i ≡ j) →
       ((k : Text) → value_at m' k ≡ cond flag (value_at m k) (cond (bytes_eq k w.key.now) (Some w) (value_at m k))) → HasKept n m → HasKept (n + 1) m'
-  kept_turn n m m' w w4 here off once put h = grind (arith, kept_put, kept_left)
+  kept_turn n m m' w flag here off once put h = grind (arith, kept_put, kept_left)
 
 -- each stands under its own key
 pub keyed_kept : {S : Type 0} (vs : List Feature) (flags : List Bool) (m : HashMap (Bor Text) Feature S) →

@@ -1,4 +1,4 @@
--- The texts of a set, as a list.
+-- The texts of a set, as a list, and lists that are gathered of sets.
 use Rattle.std.proofs.Common.{arith, ◌≡◌, ◌↔◌, List, [], ◌∷◌, map, IsTrue, Result, Ok, Err, IfOk, Vec, Global, Bor, subst, sym, inl, inr, ◌∙◌, ◌⊎◌, ◌++◌}
 use Rattle.std.proofs.lemmas.{Bool.false≢true, Bool.or_left, Bool.or_right, Bool.or_cases, Map.Text.is_eq-slice_cmp, Slice.Eq.bytes_eq-Decides, List.map_push}
 use Rattle.std.specs.{BTreeMap.is_at, BTreeSet.BTreeSet, Cmp.Lexicographic.slice_cmp, List.list_any, List.Sorted.IsStrictlySortedBy, Ordering.nat_cmp}
@@ -23,7 +23,7 @@ among_keys f ks = (into ks, out ks)
     out (k ∷ ks) e = elim (or_cases _ _ e) [ inl h ↦ inl ((bytes_eq-Decides f k.now).0 (sym (is_eq-slice_cmp f k.now) ∙ h)) | inr i ↦ inr (out ks i) ]
 
 pub all_taken : {E : Type 0} (r : Result (Vec (Bor Text) Global) E) (s : BTreeSet (Bor Text)) → IfOk r (λ v. v.items ≡ s.keys) → IfOk r (λ v. (f : Text) → Among (texts v.items) f ↔ IsTrue (set_has s f))
-all_taken w0 s e = grind (arith, among_keys)
+all_taken r s e = grind (arith, among_keys)
 
 pub taken_in_order : {E : Type 0} (r : Result (Vec (Bor Text) Global) E) (ks : List (Bor Text)) → IsStrictlySortedBy (λ (x : Bor Text) (y : Bor Text). slice_cmp nat_cmp x.now y.now) ks → IfOk r (λ v. v.items ≡ ks)
     → IfOk r (λ v. Ascend (texts v.items))

@@ -1,4 +1,4 @@
--- The labels of a list of vertices, one vertex after another.
+-- The labels of a list of vertices, one vertex after another, and a path by its last edge.
 use Rattle.std.proofs.Common.{arith, ◌↔◌, ◌<◌, ◌≤◌, ◌+◌, ℕ, Bool, true, false, List, take, length, get_or, refl, subst, inl, inr, sym}
 use Rattle.cargo_toml_graph.specs.{Reach.Among, Reach.GathersLabel, Reach.Reaches, Reach.Gathers, Reach.Reaches.edge, Reach.Reaches.through}
 use Rattle.cargo_toml_graph.proofs.Closure.{chained}

@@ -1,4 +1,4 @@
--- Enablers that features learn, place by place.
+-- Enablers that features learn, place by place, and what is kept where no feature is removed.
 use Rattle.std.proofs.Common.{◌≡◌, ◌≢◌, ◌↔◌, ◌⊎◌, ◌<◌, ◌+◌, ◌||◌, ◌∷◌, ℕ, suc, Bool, false, cond, List, [], length, map, get_or, set, slice_get, Option, Some, None, Bor, IsTrue, IfSome, is_some, option_map, bytes_eq, refl, sym, ap, subst, inl, inr, ◌∙◌, arith, IfOk, IsSome, Result}
 use Rattle.std.proofs.lemmas.{Bool.cases_eq, Bool.false≢true, Bool.or_cases, Bool.or_left, Bool.or_right, Bool.false_from_ne_true, List.length-map, Option.same_Some, Option.slice_get_read, Option.slice_get_within}
 use Rattle.std.proofs.lemmas.Slice.Eq.{bytes_eq-Decides}
@@ -219,7 +219,7 @@ alike_at (v ∷ vs) (w ∷ ws) s f =
     shift (Some x) (Some y) a = (suc a.0, a.1, a.2)
 
     go : Alike vs ws (feature_at vs f) (feature_at ws f) → (b : Bool) → Alike (v ∷ vs) (w ∷ ws) (cond b (Some v) (feature_at vs f)) (cond b (Some w) (feature_at ws f))
-    go rest w1 = grind (arith, shift)
+    go rest b = grind (arith, shift)
 
 keys_still : (vs ws : List Feature) → AreSameButEnablers vs ws → names_of ws ≡ names_of vs
 keys_still [] [] s = refl
@@ -239,7 +239,7 @@ module _ (vs ws : List Feature) (same : AreSameButEnablers vs ws) where
   along f P none some = go (feature_at vs f) (feature_at ws f) (alike_at vs ws same f)
     where
       go : (o o' : Option Feature) → Alike vs ws o o' → P o o'
-      go w0 w1 a = grind arith
+      go o o' a = grind arith
 
   pub own_still : (f : Text) → own_bins ws f ≡ own_bins vs f
   own_still f = along f (λ o o'. option_map_or (λ v. map (λ (b : Bor Text). b.now) v.required_by_bins.items) o' [] ≡ option_map_or (λ v. map (λ (b : Bor Text). b.now) v.required_by_bins.items) o []) refl
@@ -357,4 +357,4 @@ module _ {S : Type 0} (vs : List Feature) (up : AreInOrder vs) (m : HashMap (Bor
 
 -- a weaker fact of one result
 pub if_ok_weaker : {X Y : Type 0} (r : Result X Y) (A Q : X → Type 0) → ((x : X) → A x → Q x) → IfOk r A → IfOk r Q
-if_ok_weaker w0 A Q f a = grind arith
+if_ok_weaker r A Q f a = grind arith

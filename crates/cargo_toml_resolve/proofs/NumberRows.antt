@@ -1,4 +1,4 @@
--- Rows of numbers, number after number.
+-- Texts that get numbers, and rows of numbers, one after another.
 use Rattle.std.proofs.Common.{◌≡◌, ◌≢◌, ◌↔◌, ◌⊎◌, ◌<◌, ◌≤◌, ◌+◌, ℕ, zero, suc, Bool, true, false, List, [], ◌∷◌, ◌++◌, length, map, take, get_or, replicate, slice_get, IsTrue, Option, Some, is_some, option_map, Bor, refl, sym, ap, subst, inl, inr, ◌∙◌, arith}
 use Rattle.std.proofs.lemmas.{Bool.false≢true, Bool.cases_lt, List.length-map, List.map_push, List.take_all, List.get_or-take, List.get_or_append_left, List.length-append, List.length-take-le, List.take-map, List.take-take}
 use Rattle.std.proofs.lemmas.{List.take_at, Map.Made.is_some-lookup}
@@ -96,7 +96,7 @@ module _ (keys : List (Bor Text)) (own : ℕ) where
   keys_shown (e ∷ es) = ap (λ ys. e.0.now.now ∷ ys) (keys_shown es)
 
   plain_there : (o : Option DepAction) → IsPlain (option_map action_of o) → is_some o ≡ true
-  plain_there w0 p = grind arith
+  plain_there o p = grind arith
 
   pub all_actions : (m : BTreeMap (Bor Text) DepAction) (es : List (Bor (Bor Text) × Bor DepAction)) (old row : List ℕ) → map deref_pair es ≡ m.entries → Gains (length keys) own (PlainSoFar m es) old row
       → Gains (length keys) own (λ x. IsPlain (action_at m (nth_text (texts_now keys) x))) old row

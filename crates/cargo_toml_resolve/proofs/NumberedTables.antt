@@ -37,13 +37,13 @@ module _ (t : Table) (Removed : Text → Type 0) (texts : List Text) (edges name
     reaches_inside i j below p = (to_texts below p).0
 
     pub gathers_inside : (i b : ℕ) → i < length edges → Gathers (Leads edges) S i b → b < length edges
-    gathers_inside i b below w3 = grind (arith, reaches_inside)
+    gathers_inside i b below p = grind (arith, reaches_inside)
 
     gathers_to : (i b : ℕ) → i < length edges → Gathers (Leads edges) S i b → Gathers (Edge t) T (nth_text texts i) (nth_text texts b)
-    gathers_to i b below w3 = grind (arith, to_texts)
+    gathers_to i b below p = grind (arith, to_texts)
 
     gathers_from : (i : ℕ) (v : Text) → i < length edges → Gathers (Edge t) T (nth_text texts i) v → HasNumber texts (length edges) (Gathers (Leads edges) S i) v
-    gathers_from i v below w3 = grind (arith, target, to_numbers)
+    gathers_from i v below p = grind (arith, target, to_numbers)
 
     -- a vertex gathers the labels of what it gathers as a number
     pub gathers_each : {X : Type 0} (Has : Text → X → Type 0) (i : ℕ) (x : X) → i < length edges
@@ -72,7 +72,7 @@ module _ (t : Table) (Removed : Text → Type 0) (texts : List Text) (edges name
 
   -- what one of these gathers is asked for its names too
   all_asked : (i : ℕ) → IsNaming edges flags i → (k : ℕ) → Gathers (Leads edges) (IsWanted flags true) i k → IsNaming edges flags k
-  all_asked i asked k w3 = grind arith
+  all_asked i asked k p = grind arith
 
   pub keeps_name : (i : ℕ) (x : Text) → i < length edges → IsNaming edges flags i → KeepsName t Removed (nth_text texts i) x ↔ HasNumber texts (length texts) (KeepsLabel edges flags names i) x
   keeps_name i x below asked = (
@@ -104,7 +104,7 @@ module _ (t : Table) (Removed : Text → Type 0) (texts : List Text) (edges name
   vertex_under r below i vertex = under r below i (let fits = h.count in omega arith)
 
   under_asked : (r : ℕ) → IsWanted flags true r → (k : ℕ) → Gathers (Leads edges) (IsUnder edges flags r) r k → IsNaming edges flags k
-  under_asked r gone k w3 = grind arith
+  under_asked r gone k p = grind arith
 
   pub redirects_to : (r : ℕ) (x : Text) → r < length edges → IsWanted flags true r
       → RedirectsTo t Removed (λ a b. IsTrue (is_below a b)) (nth_text texts r) x ↔ HasNumber texts (length texts) (IsRedirect edges flags names r) x

@@ -16,7 +16,7 @@ wanted_inside flags i w = elim (cases_lt i (length flags)) [ inl lt ↦ lt | inr
 
 leads_same : (o : Option Feature) (k : Text)
     → IsSomeAnd o (λ v. LeadsTo v k) ↔ (IsTrue (option_map_or (λ v. set_has v.enables_features k) o false) ⊎ IsPlain (option_map_or (λ v. action_at v.enables_deps k) o None))
-leads_same w0 k = grind arith
+leads_same o k = grind arith
 
 module _ (t : Table) (removed : Text → Bool) (vs : List Feature) (marks : List Bool) (texts : List Text) (edges names : List (List ℕ)) (flags : List Bool)
     (made : AreTable t vs) (removed_is : (f : Text) → IsTrue (removed f) ↔ IsFlagged vs marks f) (up : AreInOrder vs) (marked : length marks ≡ length vs) (h : AreTextsOf vs texts) (r : AreRead vs marks texts edges names)
@@ -81,7 +81,7 @@ module _ (t : Table) (removed : Text → Bool) (vs : List Feature) (marks : List
 
   -- by the flags of all texts
   is_asked : (i : ℕ) → IsNaming edges flags i → IsNaming edges marks i
-  is_asked i w1 = grind arith
+  is_asked i p = grind arith
 
   has_label : (i : ℕ) (x : Text) → i < length edges → IsNaming edges flags i → IsTrue (t.names (nth_text texts i) x) ↔ HasNumber texts (length texts) (Leads names i) x
   has_label i x lt asked = grind (arith, vertex_in i lt, is_asked i asked, names_here)

@@ -53,7 +53,7 @@ module _ (t : Table) (removed : Text → Bool) (old : List Feature) (texts : Lis
   ascends_below (suc n) le = go (slice_index_or flags n false) (ascends_below n (omega (arith, le)))
     where
       go : (b : Bool) → Ascend (names_below texts flags n) → Ascend (cond b (names_below texts flags n ++ nth_text texts n ∷ []) (names_below texts flags n))
-      go w0 up = grind (arith, ascending_last, lower_there)
+      go p up = grind (arith, ascending_last, lower_there)
 
   there_below : (n : ℕ) → n < length edges → (v : Text) → Among (names_below texts flags n) v → IsTrue (t.has v)
   there_below n lt v i = stand.numbered.removed v (lower_there n lt v i).0

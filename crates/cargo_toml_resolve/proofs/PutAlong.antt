@@ -1,4 +1,4 @@
--- Binaries that are put into the lists of features, place after place.
+-- Binaries that are put into the lists of features, one after another, place after place.
 use Rattle.std.proofs.Common.{◌≡◌, ◌⊎◌, ◌↔◌, ◌<◌, ◌≤◌, ℕ, cond, List, [], ◌∷◌, ◌++◌, length, get_or, Option, Bor, refl, ap, subst, inl, inr, ◌∙◌, arith, ◌+◌, take, if◌then◌else◌}
 use Rattle.std.proofs.lemmas.{Bool.cases_eq, Option.slice_get_read, List.map_more}
 use Rattle.std.specs.Option.{option_map_or}

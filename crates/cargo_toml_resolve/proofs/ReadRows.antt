@@ -1,4 +1,4 @@
--- Rows of features, one after another.
+-- Rows that are put one after another, and those of features.
 use Rattle.std.proofs.Common.{◌≡◌, ◌↔◌, ◌⊎◌, ◌<◌, ◌≤◌, ◌+◌, ℕ, Bool, true, false, List, [], ◌∷◌, ◌++◌, length, slice_get, IsTrue, Some, if◌then◌else◌, refl, sym, ap, subst, inl, inr, ◌∙◌, arith, zero, suc, length-append}
 use Rattle.std.proofs.lemmas.{Bool.cases_eq, Bool.cases_lt, List.get_or_append_left, List.get_or_past, List.length-map, List.take_all}
 use Rattle.std.specs.Option.{option_map_or}
@@ -102,7 +102,7 @@ module _ (vs : List Feature) (flags : List Bool) (n : ℕ) (texts : List Text) (
   }
     where
       bound : (b : Bool) (x : ℕ) → Among (if b then named else []) x → x < length new
-      bound w0 x i = grind arith
+      bound b x i = grind arith
 
   -- one that leads nowhere
   pub none_read : ((x : Text) → ¬ LeadsTo v x) → RowsSoFar vs flags (n + 1) texts (edges ++ [] ∷ []) (names ++ [] ∷ [])

@@ -1,4 +1,4 @@
--- Sets of texts, by the bytes of their keys.
+-- Sets of texts, by the bytes of their keys, and actions that a feature takes over, one after another.
 use Rattle.std.proofs.Common.{arith, ◌≡◌, Bool, false, cond, ◌&&◌, ◌||◌, not, List, [], ◌∷◌, ◌++◌, bytes_eq, Bor, map, refl, ap, ◌∙◌, Option, Some, None, is_some, option_map}
 use Rattle.std.proofs.Math.Bool.{or-false}
 use Rattle.std.proofs.lemmas.{List.map_push, List.Folds.list_any-append, Map.Text.is_eq-slice_cmp, Slice.Eq.bytes_eq-Decides}
@@ -15,7 +15,7 @@ removed_text bs s n h x =
     ∙ go (bytes_eq bs x) (set_has s x) ∙ ap (λ t. set_has s x && not t) (bytes_eq_sym bs x)
   where
     go : (a b : Bool) → cond a false b ≡ (b && not a)
-    go w0 w1 = grind arith
+    go p b = grind arith
 
 pub text_in_more : (ks : List (Bor Text)) (k : Bor Text) (x : Text) → is_text_in (ks ++ k ∷ []) x ≡ (is_text_in ks x || bytes_eq x k.now)
 text_in_more ks k x = list_any-append _ ks (k ∷ []) ∙ ap (λ t. is_text_in ks x || t) (or-false _ ∙ is_eq-slice_cmp x k.now)
@@ -38,7 +38,7 @@ pub keys_more : (xs : List (Bor (Bor Text) × Bor DepAction)) (k : Bor (Bor Text
 keys_more xs k a x = ap (λ ys. is_text_in ys x) (map_push (λ (e : Bor (Bor Text) × Bor DepAction). e.0.now) xs (k, a)) ∙ text_in_more _ k.now x
 
 all_read : (own first more : Option Action) (named : Bool) → own ≡ cond named (join_option first more) first → named ≡ is_some more → own ≡ join_option first more
-all_read own first more w3 e n = grind arith
+all_read own first more p e n = grind arith
 
 keys_of_entries : (es : List (Bor Text × DepAction)) (k : Text) → is_text_in (map (λ e. e.0) es) k ≡ is_some (option_map action_of (lookup (is_at (λ q. slice_cmp nat_cmp k q.now)) es))
 keys_of_entries [] k = refl

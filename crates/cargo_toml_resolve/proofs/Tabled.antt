@@ -1,4 +1,4 @@
--- Tables of bits, row after row.
+-- Bits of words, and tables of bits, row after row.
 use Rattle.std.proofs.Common.{◌≡◌, ◌≢◌, ◌↔◌, ◌⊎◌, ◌<◌, ◌≤◌, ◌+◌, ◌*◌, ℕ, zero, suc, Bool, List, [], ◌∷◌, ◌++◌, take, length, get_or, set, Vec, refl, sym, ap, subst, inl, inr, ◌∙◌, arith, length-append, length-set, ◌/◌, ◌%◌, ◌^◌, max, w64}
 use Rattle.std.proofs.lemmas.{Bool.cases_eq, Bool.cases_lt, List.get_or_past, List.get_or-set_same, List.get_or-set_other, Nat.Bits.bit_at_or, Nat.Bits.bit_at-zero, Nat.Bits.bit_at-lt, Nat.Bits.bit_at_set_same}
 use Rattle.std.proofs.lemmas.{Nat.Bits.bit_at_set_other}

@@ -1,4 +1,4 @@
--- One feature of a list changes, and takes over what those that it passes do.
+-- Features that are alike place by place, and one of a list that takes over what those that it passes do.
 use Rattle.std.proofs.Common.{◌≡◌, ◌≢◌, ◌↔◌, ◌<◌, ◌⊎◌, ℕ, zero, suc, List, [], ◌∷◌, length, set, get_or, Some, Bor, refl, sym, ap, subst, inl, inr, ◌∙◌, arith, length-set, slice_get, ◌≤◌, ◌+◌, take, Option}
 use Rattle.std.proofs.lemmas.Option.{get_or_from_slice_get, same_Some, slice_get_read, slice_get-get_or, slice_get_within}
 use Rattle.std.specs.{Option.option_and_then, BTreeMap.BTreeMap, BTreeSet.BTreeSet}

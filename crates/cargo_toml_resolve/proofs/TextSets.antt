@@ -15,7 +15,7 @@ place_below numbers n i x p inside lt is at = subst (λ y. y < n) (sym (item_at 
 -- a set that tells of each text whether it is one of a list has those of the list
 pub set_made : {E : Type 0} (xs : List Text) (r : Result (BTreeSet (Bor Text)) E) → IfOk r (λ s. (x : Text) → set_has s x ≡ list_any (bytes_eq x) xs)
     → IfOk r (λ s. (x : Text) → IsTrue (set_has s x) ↔ Among xs x)
-set_made xs w1 h = grind (arith, is_among-true, among-true)
+set_made xs r h = grind (arith, is_among-true, among-true)
 
 module _ (texts : List Text) where
   from_number : (numbers : List ℕ) (x : Text) → Among (map (nth_text texts) numbers) x → (j : ℕ) × (nth_text texts j ≡ x) × Among numbers j

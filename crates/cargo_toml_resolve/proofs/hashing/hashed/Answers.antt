@@ -23,6 +23,4 @@ loop-value-preserved g c =
     }
 
 pub returns : goal.returns
-returns g c =
-    let none : c.loop-value.value-iterator.rest.items ≡ [] = nil_from_length _ (sym c.loop-value.value-iterator.rest.ok.0 ∙ c.in-None.ensures.steps.0) in
-    all_put c.args.names.now c.args.values.items c.loop-value.place c.loop-value.by_name (sym c.loop-value.invariant.rest ∙ none) c.loop-value.invariant.held
+returns g c = grind (arith, nil_from_length, all_put)

@@ -22,7 +22,4 @@ loop-a-preserved c =
     ]
 
 pub returns : goal.returns
-returns c = λ a. (
-  λ i. ((c.loop-a.invariant a).0 i).1,
-  λ h. let lt = holds_inside c.args.table.now a c.args.of h in (c.loop-a.invariant a).1 (omega (arith, lt), h),
-)
+returns c = grind (arith, holds_inside, c.loop-a.invariant)

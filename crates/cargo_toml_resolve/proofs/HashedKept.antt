@@ -45,9 +45,6 @@ module _ {S : Type 0} (vs : List Feature) (flags : List Bool) where
       | inr apart ↦ h.only f (sym (ap is_some (put f ∙ ap (λ b. cond b (Some w) (value_at m f)) apart)) ∙ y)
     ];
   }
-    where
-      key_or : Option Feature → Text → Text
-      key_or p x = grind arith
 
   -- one way or the other
   pub kept_turn : (n : ℕ) (m m' : HashMap (Bor Text) Feature S) (w : Feature) (flag : Bool) → slice_get vs n ≡ Some w → IsWanted flags flag n →

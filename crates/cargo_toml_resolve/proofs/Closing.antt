@@ -4,7 +4,7 @@ use Rattle.std.proofs.lemmas.{Bool.cases_eq, Bool.cases_lt, Bool.cases_Bool, Boo
 use Rattle.cargo_toml_graph.specs.{Reach.Among, Reach.Reaches, Reach.GathersLabel, Reach.With, Reach.Reaches.edge, Reach.Reaches.through}
 use Rattle.cargo_toml_graph.proofs.{Members.reaches_within, Members.label_within, Split.widen, Split.joined, Split.split, Split.label_split}
 use Rattle.cargo_toml_resolve.specs.{Bits.Gains, Bits.Holds, Dense.IsTable, Numbers.IsRedirect, Numbers.IsWanted, Numbers.Leads}
-use Rattle.cargo_toml_resolve.proofs.{Steps.has_row, Cuts.IsBelow, Cuts.IsFinished}
+use Rattle.cargo_toml_resolve.proofs.{Steps.has_row, RowsInOrder.IsBelow, RowsInOrder.IsFinished}
 
 -- the table has what another says
 pub table_alike : {Z : Type 0} (P Q : ℕ → ℕ → Type 0) (width n : ℕ) (table : List (Vec ℕ Z)) → ((a x : ℕ) → P a x ↔ Q a x) → IsTable P width n table → IsTable Q width n table

@@ -1,9 +1,6 @@
 mod Steps
 mod Spans
-mod Marked
-mod Walking
 mod Labelled
-mod Cuts
 mod RowsInOrder
 mod Tabled
 mod Closing
@@ -17,14 +14,12 @@ pub mod NumberingGraph
 mod Answered
 mod PassedPlaces
 mod Placing
-mod TextSets
 mod TakingOver
 mod HashedKept
 mod FromPlaces
 pub mod AnsweringKept
 pub mod ByFilter
-pub mod PutAlong
-mod BinTurns
+pub mod BinTurns
 pub mod Learning
 mod TakenOver
 pub mod NumberedTables

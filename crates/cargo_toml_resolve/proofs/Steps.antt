@@ -1,8 +1,9 @@
--- Steps of a walk over numbers, by marks.
-use Rattle.std.proofs.Common.{◌≡◌, ◌≢◌, ◌⊎◌, ◌↔◌, ◌<◌, ◌≤◌, ◌+◌, ℕ, zero, suc, Bool, true, false, List, [], ◌∷◌, ◌++◌, take, length, get_or, set, Vec, refl, sym, ap, subst, inl, inr, ◌∙◌, arith, add-one, length-append, length-set}
-use Rattle.std.proofs.lemmas.{Bool.cases_eq, List.get_or-set_same, List.get_or-set_other, List.take-append-le, List.Sums.sum_by-set}
-use Rattle.cargo_toml_graph.specs.Reach.{Among}
-use Rattle.cargo_toml_resolve.specs.{Bits.words_of, Numbers.AreMarked, Numbers.FindsNamed, Numbers.IsWanted, Numbers.Leads}
+-- Steps of a walk over numbers, by marks, and the walk.
+use Rattle.std.proofs.Common.{◌≡◌, ◌≢◌, ◌⊎◌, ◌↔◌, ◌<◌, ◌≤◌, ◌+◌, ℕ, zero, suc, Bool, true, false, List, [], ◌∷◌, ◌++◌, take, length, get_or, set, Vec, refl, sym, ap, subst, inl, inr, ◌∙◌, arith, add-one, length-append, length-set, map, replicate, nat_eq}
+use Rattle.std.proofs.lemmas.{Bool.cases_eq, List.get_or-set_same, List.get_or-set_other, List.take-append-le, List.map-set, List.Sums.sum_by-set, Bool.Decides.nat_tests}
+use Rattle.cargo_toml_graph.specs.{Reach.Among, Reach.Reaches, Reach.Reaches.edge, Reach.Reaches.through}
+use Rattle.cargo_toml_graph.proofs.Closure.{chained}
+use Rattle.cargo_toml_resolve.specs.{Bits.words_of, Numbers.AreMarked, Numbers.FindsNamed, Numbers.IsWanted, Numbers.Leads, Numbers.IsPassed}
 
 pub among_first : (xs ys : List ℕ) (x : ℕ) → Among xs x → Among (xs ++ ys) x
 among_first [] ys x i = absurd i
@@ -110,3 +111,69 @@ module _ (targets : List ℕ) (flags : List Bool) (wanted : Bool) (i : ℕ) (lt 
 
     pub passed_by : get_or flags (get_or targets i 0) false ≢ wanted → FindsNamed (Looked (i + 1)) f0 f1 m0 m1
     passed_by ne = alike (Looked i) (Looked (i + 1)) f0 f1 m0 m1 (without_target ne) v
+
+module _ (edges : List (List ℕ)) (flags : List Bool) (start : ℕ) where
+  pub record Walks (next : ℕ) (found : List ℕ) (met : List Bool) : Type 0 where
+    pub marks : AreMarked found met
+    pub begun : (y : ℕ) → Leads edges start y → IsWanted flags true y → Among found y
+    pub sound : (x : ℕ) → Among found x → IsPassed edges flags start x
+    pub closed : (x y : ℕ) → Among (take next found) x → Leads edges x y → IsWanted flags true y → Among found y
+
+  pub begins : (found : List ℕ) (met met' : List Bool) → FindsNamed (λ y. Leads edges start y × IsWanted flags true y) [] found met met' → Walks 0 found met'
+  begins found met met' v = record {
+    marks = v.marks;
+    begun = λ y l r. v.reaches y (l, r);
+    sound = λ x i. elim (v.only x i) [ inl i ↦ absurd i | inr n ↦ (n.1, edge n.0) ];
+    closed = λ x y i. absurd i;
+  }
+
+  pub goes_on : (next : ℕ) (found found' : List ℕ) (met met' : List Bool) → next < length found → Walks next found met
+      → (at : ℕ) → at ≡ get_or found next at → FindsNamed (λ y. Leads edges at y × IsWanted flags true y) found found' met met' → Walks (next + 1) found' met'
+  goes_on next found found' met met' lt w at is v = record {
+    marks = v.marks;
+    begun = λ y l r. v.grows y (w.begun y l r);
+    sound = λ x i. elim (v.only x i) [ inl i ↦ w.sound x i | inr n ↦ let p = w.sound at (subst (Among found) there (among_at found next lt)) in (n.1, chained (IsWanted flags true) p.1 p.0 (edge n.0)) ];
+    closed = λ x y i l r.
+        elim ((among_more found next x lt).0 (subst (λ t. Among t x) (v.front (next + 1) (omega arith)) i)) [
+          | inl i ↦ v.grows y (w.closed x y i l r)
+          | inr e ↦ v.reaches y (subst (λ z. Leads edges z y) (e ∙ there) l, r)
+        ];
+  }
+    where
+      there : get_or found next 0 ≡ at
+      there = read_at found next 0 at lt is
+
+  pub ends : (next : ℕ) (found : List ℕ) (met : List Bool) → length found ≤ next → Walks next found met → (b : ℕ) → Among found b ↔ IsPassed edges flags start b
+  ends next found met le w b = (w.sound b, λ p. all w.begun p.1 p.0)
+    where
+      all : {a b : ℕ} → ((y : ℕ) → Leads edges a y → IsWanted flags true y → Among found y) → Reaches (Leads edges) (IsWanted flags true) a b → IsWanted flags true b → Among found b
+      all {b} out (edge l) r = out b l r
+      all out (through {b = c} l s p) r = all (λ y m t. w.closed c y (among_all found next c le (out c l s)) m t) p r
+
+-- where a path ends
+pub path_inside : {E : ℕ → ℕ → Type 0} {S : ℕ → Type 0} {a b : ℕ} (bound : ℕ) → ((a b : ℕ) → E a b → b < bound) → Reaches E S a b → b < bound
+path_inside {a = a} {b = b} bound within (edge e) = within a b e
+path_inside bound within (through e s p) = path_inside bound within p
+
+-- the vertex that is looked at next
+pub next_below : (edges : List (List ℕ)) (flags : List Bool) (start next : ℕ) (found : List ℕ) (met : List Bool) → Walks edges flags start next found met → ((a b : ℕ) → Leads edges a b → b < length edges) → next < length found → (at : ℕ) → at ≡ get_or found next at → at < length edges
+next_below edges flags start next found met w whole lt at is = path_inside (length edges) whole (w.sound at (subst (Among found) (read_at found next 0 at lt is) (among_at found next lt))).1
+
+-- what stands at an epoch
+abbrev pub marks_at : ℕ → List ℕ → List Bool
+marks_at e ss = map (λ s. nat_eq s e) ss
+
+pub none_marked : (ss : List ℕ) (e e' : ℕ) → ((x : ℕ) → get_or ss x 0 ≤ e) → e < e' → marks_at e' ss ≡ replicate (length (marks_at e ss)) false
+none_marked [] e e' h lt = refl
+none_marked (s ∷ ss) e e' h lt =
+    let low : s ≤ e = h 0 in
+    let one : nat_eq s e' ≡ false = grind (arith, nat_tests) in
+    let rest = none_marked ss e e' (λ x. h (suc x)) lt in
+    cc
+
+pub none_at_first : (n : ℕ) → marks_at 1 (replicate n 0) ≡ replicate n false
+none_at_first zero = refl
+none_at_first (suc n) = ap (λ l. false ∷ l) (none_at_first n)
+
+pub one_marked : (ss : List ℕ) (x s e : ℕ) → s ≡ e → marks_at e (set ss x s) ≡ set (marks_at e ss) x true
+one_marked ss x s e is = grind (arith, nat_tests, map-set (λ z. nat_eq z e) ss x s)

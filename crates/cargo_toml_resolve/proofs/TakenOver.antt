@@ -9,7 +9,7 @@ use Rattle.cargo_toml_features.proofs.TextKeys.{none_in}
 use Rattle.cargo_toml_resolve.specs.{Numbers.IsPassed, Numbers.IsWanted, Numbers.KeepsLabel, Numbers.Leads, Numbers.PassesAny, Enabling.EnablesThrough, Enabling.GainEnabler, Enabling.LearnThrough}
 use Rattle.cargo_toml_resolve.specs.Holding.{AllTakeOver, HasActions, HasTextsOf, Holds, HoldsTheSame, KeepsOwn, SaysTheSame, TakesOver}
 use Rattle.cargo_toml_resolve.specs.{Holding.action_by, NumberedTables.HasNumber, Holding.ChangesIn, Holding.ComesToHold, Texts.texts_now}
-use Rattle.cargo_toml_resolve.proofs.{Cuts.none_among, InPlace.stands_found, InPlace.stands_in, Learning.nobody_learns, Learning.then_learn, TakingOver.own_actions, TakingOver.there_too}
+use Rattle.cargo_toml_resolve.proofs.{InPlace.stands_found, InPlace.stands_in, Learning.nobody_learns, Learning.then_learn, TakingOver.own_actions, TakingOver.there_too, RowsInOrder.none_among}
 
 -- the text in a place, as it is read there
 pub source_is : (texts : List (Bor Text)) (i p : ℕ) (source : Bor Text) → i < length texts → p ≡ i → source ≡ get_or texts p source → source.now ≡ nth_text (texts_now texts) i

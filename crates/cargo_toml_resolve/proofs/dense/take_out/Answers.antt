@@ -3,8 +3,8 @@ use Rattle.std.proofs.lemmas.{Bool.false≢true, List.length-replicate}
 use Rattle.cargo_toml_graph.specs.Reach.{Among, GathersLabel, Reaches}
 use Rattle.cargo_toml_resolve.specs.{Bits.Holds, Numbers.IsRedirect, Numbers.IsWanted, Numbers.Leads}
 use Rattle.cargo_toml_resolve.proofs.{Closing.Labels, Closing.Paths, Closing.Redirect, Closing.all_labels, Closing.all_paths, Closing.first_labels, Closing.first_paths, Closing.more_labels, Closing.more_paths}
-use Rattle.cargo_toml_resolve.proofs.{Closing.none_finished, Closing.redirect_row, Closing.same_labels, Closing.same_paths, Closing.table_alike, Closing.table_gains, Cuts.one_more_finished, Cuts.still_finished}
-use Rattle.cargo_toml_resolve.proofs.{RowsInOrder.all_moved, Steps.has_row, Tabled.holds_inside, ReadRows.IsFilled, ReadRows.none_filled, ReadRows.one_more_filled}
+use Rattle.cargo_toml_resolve.proofs.{Closing.none_finished, Closing.redirect_row, Closing.same_labels, Closing.same_paths, Closing.table_alike, Closing.table_gains, RowsInOrder.all_moved, RowsInOrder.one_more_finished}
+use Rattle.cargo_toml_resolve.proofs.{RowsInOrder.still_finished, Steps.has_row, Tabled.holds_inside, ReadRows.IsFilled, ReadRows.none_filled, ReadRows.one_more_filled}
 use Rattle.cargo_toml_resolve.proofs.dense.take_out.Goals.{then-is_removed-r+in_ok-row+in_ok-push+in_ok-parents+in_ok-pass_on+in_ok-pass_on-2, else-is_removed-r+in_ok-push-2}
 use Rattle.cargo_toml_resolve.proofs.dense.take_out.Goals as goal
 

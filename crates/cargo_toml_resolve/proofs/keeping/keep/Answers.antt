@@ -5,7 +5,7 @@ use Rattle.cargo_toml_graph.specs.{Action.Text, Reach.Among, Reach.Reaches, Reac
 use Rattle.cargo_toml_features.specs.Places.{nth_text}
 use Rattle.cargo_toml_resolve.specs.{Numbers.IsPassed, Numbers.IsWanted, Numbers.KeepsLabel, Numbers.Leads, Numbers.PassesAny, Numbers.row_items, Enabling.GainEnabler, Holding.HasTextsOf}
 use Rattle.cargo_toml_resolve.specs.{Holding.ChangesIn, Holding.ComesToHold, Texts.texts_now}
-use Rattle.cargo_toml_resolve.proofs.{TakenOver.directly, TakenOver.passes_none, TakenOver.source_is, TakenOver.stays_as_it_is, TakenOver.takes_over, Walking.path_inside}
+use Rattle.cargo_toml_resolve.proofs.{TakenOver.directly, TakenOver.passes_none, TakenOver.source_is, TakenOver.stays_as_it_is, TakenOver.takes_over, Steps.path_inside}
 use Rattle.cargo_toml_resolve.proofs.keeping.keep.Goals as goal
 
 pub has_flagged-requires : goal.has_flagged-requires

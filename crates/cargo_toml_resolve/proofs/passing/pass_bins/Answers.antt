@@ -2,7 +2,7 @@ use Rattle.std.proofs.lemmas.Grind.{common_steps}
 use Rattle.std.proofs.Common.{rules, ◌<◌, true, false, take, length, ap, sym, subst, ◌∙◌, arith}
 use Rattle.cargo_toml_graph.specs.Reach.{Among}
 use Rattle.cargo_toml_resolve.specs.{Numbers.IsWanted, Numbers.Leads, Numbers.row_items, Passing.bins_of, Passing.Puts}
-use Rattle.cargo_toml_resolve.proofs.{PutAlong.same_features, PutAlong.then_same, BinTurns.kept_turn, BinTurns.none_passed, BinTurns.one_turn}
+use Rattle.cargo_toml_resolve.proofs.BinTurns.{kept_turn, none_passed, one_turn, same_features, then_same}
 use Rattle.cargo_toml_resolve.proofs.passing.pass_bins.Goals as goal
 use Rattle.cargo_toml_resolve.proofs.passing.pass_bins.Goals.{then-flags-r+in_ok-pass_from, else-flags-r}
 

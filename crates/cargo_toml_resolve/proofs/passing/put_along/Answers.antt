@@ -1,7 +1,7 @@
 use Rattle.std.proofs.lemmas.Grind.{common_steps}
 use Rattle.std.proofs.Common.{◌≡◌, ◌≤◌, ◌+◌, take, length, get_or, take_all, arith}
 use Rattle.cargo_toml_graph.specs.Reach.{Among}
-use Rattle.cargo_toml_resolve.proofs.{Steps.among_more, Steps.item_at, Steps.item_is, PutAlong.put_nowhere, PutAlong.put_past, PutAlong.then_put}
+use Rattle.cargo_toml_resolve.proofs.{Steps.among_more, Steps.item_at, Steps.item_is, BinTurns.put_nowhere, BinTurns.put_past, BinTurns.then_put}
 use Rattle.cargo_toml_resolve.specs.Texts.{texts_now}
 use Rattle.cargo_toml_resolve.proofs.passing.put_along.Goals as goal
 use Rattle.cargo_toml_resolve.proofs.passing.put_along.Goals.{then-place-len+in_ok-put_at, else-place-len}

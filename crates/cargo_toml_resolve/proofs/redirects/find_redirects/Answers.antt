@@ -2,8 +2,8 @@ use Rattle.std.proofs.lemmas.Grind.{common_steps}
 use Rattle.std.proofs.Common.{rules, arith, ◌↔◌, ◌<◌, ℕ, List, Bool, true, false, ◌∙◌, subst, length, length-set}
 use Rattle.cargo_toml_graph.specs.Reach.{Among}
 use Rattle.cargo_toml_resolve.specs.Numbers.{IsWanted, HasLabel, IsPassed, Moves, Replaces}
-use Rattle.cargo_toml_resolve.proofs.{Closing.none_finished, Cuts.one_more_finished, Cuts.still_finished, RowsInOrder.finds_redirects, RowsInOrder.first_rows, RowsInOrder.none_moved}
-use Rattle.cargo_toml_resolve.proofs.RowsInOrder.{one_more_own, one_more_row, skipped_rows, still_own}
+use Rattle.cargo_toml_resolve.proofs.{Closing.none_finished, RowsInOrder.finds_redirects, RowsInOrder.first_rows, RowsInOrder.none_moved, RowsInOrder.one_more_own, RowsInOrder.one_more_row, RowsInOrder.skipped_rows}
+use Rattle.cargo_toml_resolve.proofs.{RowsInOrder.still_own, RowsInOrder.one_more_finished, RowsInOrder.still_finished}
 use Rattle.cargo_toml_resolve.proofs.redirects.find_redirects.Goals as goal
 use Rattle.cargo_toml_resolve.proofs.redirects.find_redirects.Goals.{then-is_removed-r+in_ok-moved-2, else-is_removed-r}
 

@@ -1,5 +1,5 @@
 use Rattle.std.proofs.Common.{true, length, arith}
-use Rattle.cargo_toml_resolve.proofs.{Tabled.flagged_row, Tabled.row_below, Tabled.row_wide, Walking.path_inside}
+use Rattle.cargo_toml_resolve.proofs.{Tabled.flagged_row, Tabled.row_below, Tabled.row_wide, Steps.path_inside}
 use Rattle.cargo_toml_resolve.proofs.finder.Finder.pass.Goals as goal
 
 pub flagged-requires-clause-own : goal.flagged-requires-clause-own

@@ -1,5 +1,5 @@
 -- What a loop over a list gathers.
-use Rattle.std.proofs.Common.{◌≡◌, ◌⊎◌, ◌↔◌, ◌||◌, ◌&&◌, ◌<◌, ◌+◌, ℕ, Bool, true, false, List, [], ◌∷◌, ◌++◌, map, take, length, get_or, Bor, IsTrue, refl, sym, ap, inl, inr, ◌∙◌}
+use Rattle.std.proofs.Common.{◌≡◌, ◌⊎◌, ◌↔◌, ◌||◌, ◌&&◌, ◌<◌, ◌+◌, ℕ, Bool, true, false, cond, Some, is_some, List, [], ◌∷◌, ◌++◌, map, take, length, get_or, Bor, String, Vec, Global, IsTrue, bytes_eq, string_bytes, refl, sym, ap, inl, inr, ◌∙◌}
 use Rattle.std.proofs.Math.Bool.{and-false, and-true, or-false}
 use Rattle.std.proofs.lemmas.List.{map_push, take_more}
 use Rattle.std.proofs.lemmas.Bool.{false≢true, or_cases, or_left, or_right}
@@ -9,6 +9,7 @@ use Rattle.std.proofs.lemmas.Slice.Eq.{bytes_eq-Decides}
 use Rattle.std.specs.BTreeMap.{is_at}
 use Rattle.std.specs.Cmp.Lexicographic.{slice_cmp}
 use Rattle.std.specs.List.{list_any}
+use Rattle.std.specs.Map.{lookup}
 use Rattle.std.specs.Ordering.{nat_cmp}
 use Rattle.cargo_toml.specs.Action.{Text}
 use Rattle.cargo_toml.specs.Reach.{Among}
@@ -60,3 +61,30 @@ pub any_map : {X Y : Type 0} (p : Y → Bool) (g : X → Y) (xs : List X) → li
     ≡ list_any (λ x. p (g x)) xs
 any_map p g [] = refl
 any_map p g (x ∷ xs) = ap (λ b. p (g x) || b) (any_map p g xs)
+
+-- ---- entries of a map of lists
+-- a name, and the texts of its list
+abbrev pub told : List (String Global × Vec (String Global) Global) → List (Text × List Text)
+told es = map (λ e. (string_bytes e.0, map string_bytes e.1.items)) es
+
+-- a map of texts has the name
+pub listed_in : {X Y : Type 0} (g : X → Y) (f : Text) (es : List (String Global × X)) →
+    is_some (lookup (is_at (λ k. slice_cmp nat_cmp f (string_bytes k))) es)
+    ≡ list_any (λ (e : Text × Y). bytes_eq f e.0)
+    (map (λ (e : String Global × X). (string_bytes e.0, g e.1)) es)
+listed_in g f [] = refl
+listed_in {X} {Y} g f (e ∷ es) =
+    go (listed_in g f es) (is_at (λ k. slice_cmp nat_cmp f (string_bytes k)) e.0)
+    (is_eq-slice_cmp f (string_bytes e.0))
+  where
+    rest : Bool
+    rest = list_any (λ (e : Text × Y). bytes_eq f e.0)
+        (map (λ (e : String Global × X). (string_bytes e.0, g e.1)) es)
+
+    go : is_some (lookup (is_at (λ k. slice_cmp nat_cmp f (string_bytes k))) es) ≡ rest → (b : Bool)
+        → b ≡ bytes_eq f (string_bytes e.0)
+        → is_some (cond b (Some e.1) (lookup
+        (is_at (λ k. slice_cmp nat_cmp f (string_bytes k))) es))
+        ≡ (bytes_eq f (string_bytes e.0) || rest)
+    go before true same = ap (λ b. b || rest) same
+    go before false same = before ∙ ap (λ b. b || rest) same

@@ -11,9 +11,10 @@ use Rattle.cargo_toml_features.proofs.Unremoved.{enables_has}
 use Rattle.cargo_toml_features.specs.Places.{nth_text}
 use Rattle.cargo_toml_lint.specs.Bits.{HasBit}
 use Rattle.cargo_toml_lint.specs.Findings.{IsCyclic, IsOnlyDefault, IsUnreachable, is_hidden}
-use Rattle.cargo_toml_lint.specs.Linked.{AreFound, AreLinks, IsIn, IsLeftAlone, IsOfDefault, is_default, name_at, names_of}
+use Rattle.cargo_toml_lint.specs.Linked.{AreFound, AreLinks, AreWalks, IsIn, IsLeftAlone, IsOfDefault, is_default, name_at, names_of}
 use Rattle.cargo_toml_lint.specs.Reached.{IsFlagged, IsInRing, Leads, Path}
 use Rattle.cargo_toml_lint.specs.declared.linking.Links.{Links}
+use Rattle.cargo_toml_lint.specs.declared.walks.Walks.{Walks}
 use Rattle.cargo_toml_lint.proofs.Edges.{length_now}
 use Rattle.cargo_toml_lint.proofs.Meeting.{along, path_edge}
 use Rattle.cargo_toml_lint.proofs.Rows.{has_row}
@@ -24,9 +25,6 @@ module _ (t : Table) (l : Links) (are : AreLinks t l) where
 
   in_names : {a : ℕ} → a < n → a < length (names_of l)
   in_names {a} lt = subst (λ k. a < k) (sym (length_now l.names.items)) lt
-
-  in_edges : {a : ℕ} → a < n → a < length l.reach.next.items
-  in_edges {a} lt = subst (λ k. a < k) (sym are.found.count) lt
 
   out_edges : {a : ℕ} → a < length l.reach.next.items → a < n
   out_edges {a} lt = subst (λ k. a < k) are.found.count lt
@@ -192,56 +190,45 @@ flagged (t ∷ names) test (suc a) = let r = flagged names test a in (
   λ h. r.1 (let lt = h.0 in omega (arith, lt), h.1),
 )
 
-module _ (l : Links) (found : AreFound l) where
-  abbrev next : List (Vec ℕ Global)
-  next = l.reach.next.items
+module _ (l : Links) (found : AreFound l) (w : Walks) (are : AreWalks l w) where
+  source_inside : (a b : ℕ) → Leads l.reach.next.items a b → a < length l.names.items
+  source_inside a b e = subst (λ k. a < k) found.count (has_row l.reach.next.items a b e)
 
-  abbrev Flags : (Text → Bool) → List Bool → Type 0
-  Flags test flags = flags ≡ map (λ t. test t.now) l.names.items
-
-  flag_at : (test : Text → Bool) (flags : List Bool) → Flags test flags → (a : ℕ) → IsFlagged flags a ↔ ((a < length l.names.items) × IsTrue (test (name_at l a)))
-  flag_at test flags is a = subst (λ fs. IsFlagged fs a ↔ ((a < length l.names.items) × IsTrue (test (name_at l a)))) (sym is) (flagged l.names.items test a)
-
-  source_inside : (a b : ℕ) → Leads next a b → a < length l.names.items
-  source_inside a b e = subst (λ k. a < k) found.count (has_row next a b e)
+  shown_at : (a : ℕ) → IsFlagged (map (λ t. not (is_hidden t.now)) l.names.items) a ↔ ((a < length l.names.items) × IsTrue (not (is_hidden (name_at l a))))
+  shown_at a = flagged l.names.items (λ f. not (is_hidden f)) a
 
   -- none that isn't hidden leads there
-  module _ (flags : List Bool) (are : Flags (λ f. not (is_hidden f)) flags) (bits : List ℕ)
-      (reached : (b : ℕ) → HasBit bits b ↔ ((a : ℕ) × IsFlagged flags a × Path next a b)) where
-    pub left_alone : (place : ℕ) → IsTrue (is_hidden (name_at l place)) → (¬ HasBit bits place) → IsLeftAlone l place
-    left_alone place hidden out = record {
-      hidden = hidden;
-      alone = λ k lt shown p. out ((reached place).1 (k, (flag_at (λ f. not (is_hidden f)) flags are k).1 (lt, not_from_false (is_hidden (name_at l k)) shown), p));
-    }
+  pub left_alone : (place : ℕ) → IsTrue (is_hidden (name_at l place)) → (¬ HasBit w.reached.items place) → IsLeftAlone l place
+  left_alone place hidden out = record {
+    hidden = hidden;
+    alone = λ k lt shown p. out ((are.reached place).1 (k, (shown_at k).1 (lt, not_from_false (is_hidden (name_at l k)) shown), p));
+  }
 
-    pub not_alone : (place : ℕ) → IsLeftAlone l place → ¬ HasBit bits place
-    not_alone place alone h =
-        let r = (reached place).0 h in
-        let f = (flag_at (λ f. not (is_hidden f)) flags are r.0).0 r.1 in
-        alone.alone r.0 f.0 (not-true (is_hidden (name_at l r.0)) f.1) r.2
+  pub not_alone : (place : ℕ) → IsLeftAlone l place → ¬ HasBit w.reached.items place
+  not_alone place alone h =
+      let r = (are.reached place).0 h in
+      let f = (shown_at r.0).0 r.1 in
+      alone.alone r.0 f.0 (not-true (is_hidden (name_at l r.0)) f.1) r.2
 
   -- `default` leads there, and no other
-  module _ (default others : List Bool) (are_default : Flags (is_default true) default) (are_others : Flags (is_default false) others)
-      (by_default by_others : List ℕ)
-      (some : (b : ℕ) → HasBit by_default b ↔ ((a : ℕ) × IsFlagged default a × (b ≢ a) × Leads next a b))
-      (other : (b : ℕ) → HasBit by_others b ↔ ((a : ℕ) × IsFlagged others a × (b ≢ a) × Leads next a b)) where
-    pub of_default : (place : ℕ) → HasBit by_default place → (¬ HasBit by_others place) → IsOfDefault l place
-    of_default place h out = record {
-      some =
-          let r = (some place).0 h in
-          let f = (flag_at (is_default true) default are_default r.0).0 r.1 in
-          (r.0, (bytes_eq-Decides (name_at l r.0) (codes "default")).0 f.1, r.2, r.3);
-      no_other = λ k apart e. elim (cases_Bool (bytes_eq (name_at l k) (codes "default"))) [
-        | inl is ↦ (bytes_eq-Decides (name_at l k) (codes "default")).0 is
-        | inr isnt ↦ absurd (out ((other place).1 (k, (flag_at (is_default false) others are_others k).1 (source_inside k place e, not_from_false _ isnt), apart, e)))
-      ];
-    }
+  default_at : (wanted : Bool) (a : ℕ) → IsFlagged (map (λ t. is_default wanted t.now) l.names.items) a ↔ ((a < length l.names.items) × IsTrue (is_default wanted (name_at l a)))
+  default_at wanted a = flagged l.names.items (is_default wanted) a
 
-    pub has_default : (place : ℕ) → IsOfDefault l place → HasBit by_default place × (¬ HasBit by_others place)
-    has_default place of = (
-      (some place).1 (of.some.0, (flag_at (is_default true) default are_default of.some.0).1 (source_inside of.some.0 place of.some.3, (bytes_eq-Decides (name_at l of.some.0) (codes "default")).1 of.some.1), of.some.2, of.some.3),
-      λ h.
-          let r = (other place).0 h in
-          let f = (flag_at (is_default false) others are_others r.0).0 r.1 in
-          false≢true (sym (not-true _ f.1) ∙ (bytes_eq-Decides (name_at l r.0) (codes "default")).1 (of.no_other r.0 r.2 r.3)),
-    )
+  pub of_default : (place : ℕ) → HasBit w.by_default.items place → (¬ HasBit w.by_others.items place) → IsOfDefault l place
+  of_default place h out = record {
+    some =
+        let r = (are.by_default place).0 h in
+        (r.0, (bytes_eq-Decides (name_at l r.0) (codes "default")).0 ((default_at true r.0).0 r.1).1, r.2, r.3);
+    no_other = λ k apart e. elim (cases_Bool (bytes_eq (name_at l k) (codes "default"))) [
+      | inl is ↦ (bytes_eq-Decides (name_at l k) (codes "default")).0 is
+      | inr isnt ↦ absurd (out ((are.by_others place).1 (k, (default_at false k).1 (source_inside k place e, not_from_false _ isnt), apart, e)))
+    ];
+  }
+
+  pub has_default : (place : ℕ) → IsOfDefault l place → HasBit w.by_default.items place × (¬ HasBit w.by_others.items place)
+  has_default place of = (
+    (are.by_default place).1 (of.some.0, (default_at true of.some.0).1 (source_inside of.some.0 place of.some.3, (bytes_eq-Decides (name_at l of.some.0) (codes "default")).1 of.some.1), of.some.2, of.some.3),
+    λ h.
+        let r = (are.by_others place).0 h in
+        false≢true (sym (not-true _ ((default_at false r.0).0 r.1).1) ∙ (bytes_eq-Decides (name_at l r.0) (codes "default")).1 (of.no_other r.0 r.2 r.3)),
+  )

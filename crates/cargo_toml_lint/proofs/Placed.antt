@@ -14,11 +14,6 @@ text_at [] i t lt e = absurd (omega arith)
 text_at (x ∷ xs) zero t lt e = ap (λ (s : Bor Text). s.now) (sym e)
 text_at (x ∷ xs) (suc i) t lt e = text_at xs i t (omega arith) e
 
-pub text_get : (names : List (Bor Text)) (i : ℕ) (d : Bor Text) → i < length names → nth_text (map (λ t. t.now) names) i ≡ (get_or names i d).now
-text_get [] i d lt = absurd (omega arith)
-text_get (x ∷ xs) zero d lt = refl
-text_get (x ∷ xs) (suc i) d lt = text_get xs i d (omega arith)
-
 module _ (names : List Text) (P : ℕ → Type 0) where
   -- the set has the names in the places before i that pass
   abbrev pub SoFar : ℕ → BTreeSet (Bor Text) → Type 0

@@ -15,17 +15,6 @@ no_bit_past words x past h =
     let one = h.stands in
     absurd (omega (arith, none, one))
 
--- nor among words that are none
-pub no_bit : (n : ℕ) (words : List ℕ) (x : ℕ) → words ≡ replicate n 0 → ¬ HasBit words x
-no_bit n words x are h =
-    let none : get_or (replicate n 0) (x / 64) 0 ≡ 0 = elim (cases_lt (x / 64) n) [
-      | inl lt ↦ get_or-replicate n (x / 64) 0 0 lt
-      | inr le ↦ get_or_past (replicate n 0) (x / 64) 0 (let l = length-replicate {A = ℕ} n 0 in omega (arith, l, le))
-    ] in
-    let zero : bit_at (get_or words (x / 64) 0) (x % 64) ≡ 0 = ap (λ w. bit_at (get_or w (x / 64) 0) (x % 64)) are ∙ ap (λ w. bit_at w (x % 64)) none ∙ bit_at-zero (x % 64) in
-    let one = h.stands in
-    absurd (omega (arith, zero, one))
-
 either_one : (p q : ℕ) → p < 2 → q < 2 → (max p q ≡ 1) ↔ ((p ≡ 1) ⊎ (q ≡ 1))
 either_one p q lp lq = (
   λ m. elim (cases_eq p 1) [ inl e ↦ inl e | inr ne ↦ inr (omega arith) ],

@@ -17,34 +17,14 @@ use Rattle.cargo_toml_lint.proofs.Rows.{among_either, among_first, among_last}
 -- what is found after something was added
 pub found_after : {a b : List Finding} {xs : List About} → Finds xs a b → (c : Code) (f t : Text)
     → IsFound b c f t ↔ (IsFound a c f t ⊎ Among xs (c, f, t))
-found_after {a} {b} {xs} put c f t = (
-  λ i. among_either (map about a) xs (c, f, t) (subst (λ ys. Among ys (c, f, t)) put.are i),
-  λ h. subst (λ ys. Among ys (c, f, t)) (sym put.are)
-      (elim h [
-        | inl i ↦ among_first (map about a) xs (c, f, t) i
-        | inr i ↦ among_last (map about a)
-            xs (c, f, t) i
-      ]),
-)
+found_after {a} {b} {xs} put c f t = grind (arith, among_either, among_first, among_last)
 
 -- what is found in the end, where nothing was found at first
 pub found_first : {P : Type 0} (a b d e : List Finding) (xs : List About) (c : Code) (f t : Text)
     → a ≡ [] → Finds xs a b
     → IsFound e c f t ↔ IsFound d c f t → IsFound d c f t ↔ (IsFound b c f t ⊎ P)
     → IsFound e c f t ↔ (Among xs (c, f, t) ⊎ P)
-found_first a b d e xs c f t none put same then =
-    let is = put.are ∙ ap (λ ys. map about ys ++ xs) none in (
-      λ i. elim (then.0 (same.0 i)) [
-        | inl j ↦ inl (subst (λ ys. Among ys (c, f, t)) is j)
-        | inr p ↦
-            inr p
-      ],
-      λ h. same.1 (then.1 (elim h [
-        | inl j ↦ inl (subst (λ ys. Among ys (c, f, t)) (sym is) j)
-        | inr
-            p ↦ inr p
-      ])),
-    )
+found_first a b d e xs c f t none put same then = grind arith
 
 told_in : (d : Code) (b : Bool) (n : Text) (c : Code) (f t : Text) → Among (told n [] (when b d)) (c, f, t)
     ↔ ((c ≡ d) × (t ≡ []) × (n ≡ f) × IsTrue b)
@@ -72,7 +52,7 @@ module _ {S : Type 0} (m : HashMap (Bor Text) Feature S) (l : Links) (place : �
 
   one : (d : Code) (b : Bool) → IsTrue b ↔ CountsAt m l d place → (c : Code) (f t : Text) → Among (told n [] (when b d)) (c, f, t)
       → (t ≡ []) × (name_at l place ≡ f) × CountsAt m l c place
-  one d b h c f t i = let r = (told_in d b n c f t).0 i in (r.1, at ∙ r.2, subst (λ e. CountsAt m l e place) (sym r.0) (h.0 r.3))
+  one d b h c f t i = grind (arith, told_in)
 
   of_code : (c : Code) → CountsAt m l c place → (f t : Text) → t ≡ [] → n ≡ f → Among All (c, f, t)
   of_code Implied q f t e s = among_first (told n [] (when implied Implied)) Later (Implied, f, t) ((told_in Implied implied n Implied f t).1 (refl, e, s, h1.1 q))
@@ -103,16 +83,4 @@ module _ {S : Type 0} (m : HashMap (Bor Text) Feature S) (l : Links) (place : �
 -- one more place
 pub one_more_place : (T start old new : Type 0) (N Q : ℕ → Type 0) (i : ℕ) → old ↔ (start ⊎ (T × ((a : ℕ) × (a < i) × N a × Q a)))
     → new ↔ (old ⊎ (T × N i × Q i)) → new ↔ (start ⊎ (T × ((a : ℕ) × (a < i + 1) × N a × Q a)))
-one_more_place T start old new N Q i h g = (
-  λ n. elim (g.0 n) [
-    | inl o ↦ elim (h.0 o) [ inl s ↦ inl s | inr w ↦ inr (w.0, (w.1.0, (let lt = w.1.1 in omega (arith, lt)), w.1.2, w.1.3)) ]
-    | inr w ↦ inr (w.0, (i, omega arith, w.1, w.2))
-  ],
-  elim [
-    | inl s ↦ g.1 (inl (h.1 (inl s)))
-    | inr w ↦ elim (cases_eq w.1.0 i) [
-      | inl same ↦ g.1 (inr (w.0, subst N same w.1.2, subst Q same w.1.3))
-      | inr ne ↦ let lt = w.1.1 in g.1 (inl (h.1 (inr (w.0, (w.1.0, omega (arith, lt, ne), w.1.2, w.1.3)))))
-    ]
-  ],
-)
+one_more_place T start old new N Q i h g = grind (arith, cases_eq)

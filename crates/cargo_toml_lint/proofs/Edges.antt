@@ -56,38 +56,17 @@ module _ (names : List (Bor Text)) (test : Text → Bool) where
 
   -- none passes
   pub edge_none : ((x : Text) → test x ≡ false) → (b : ℕ) → (None ≡ Some b) ↔ Hits b
-  edge_none is b = (
-    λ e. absurd (false≢true (ap is_some e)),
-    λ h. absurd (false≢true (sym (is (nth_text texts b)) ∙ h.1)),
-  )
+  edge_none is b = grind (arith, false≢true)
 
 -- one more text of a list
 module _ (n : ℕ) (before one now : ℕ → Bool) (more : (b : ℕ) → now b ≡ (before b || one b)) (r : Option ℕ)
     (is : (b : ℕ) → (r ≡ Some b) ↔ ((b < n) × IsTrue (one b))) (row : List ℕ)
     (held : (b : ℕ) → Among row b ↔ ((b < n) × IsTrue (before b))) where
   pub one_pushed : (place : ℕ) → r ≡ Some place → (b : ℕ) → Among (row ++ place ∷ []) b ↔ ((b < n) × IsTrue (now b))
-  one_pushed place at b = (
-    λ i. elim (among_either row (place ∷ []) b i) [
-      | inl j ↦ (((held b).0 j).0, more b ∙ or_left (before b) (one b) ((held b).0 j).1)
-      | inr j ↦ elim j [
-        | inl e ↦ let h = (is b).0 (at ∙ ap Some (sym e)) in (h.0, more b ∙ or_right (before b) (one b) h.1)
-        | inr k ↦ absurd k
-      ]
-    ],
-    λ h. elim (or_cases (before b) (one b) (sym (more b) ∙ h.1)) [
-      | inl o ↦ among_first row (place ∷ []) b ((held b).1 (h.0, o))
-      | inr o ↦ among_last row (place ∷ []) b (inl (let e : Some b ≡ Some place = sym ((is b).1 (h.0, o)) ∙ at in let f : b ≡ place = cc in f))
-    ],
-  )
+  one_pushed place at b = grind (arith, among_either, or_left, or_right, or_cases, among_first, among_last)
 
   pub none_pushed : r ≡ None → (b : ℕ) → Among row b ↔ ((b < n) × IsTrue (now b))
-  none_pushed none b = (
-    λ i. (((held b).0 i).0, more b ∙ or_left (before b) (one b) ((held b).0 i).1),
-    λ h. elim (or_cases (before b) (one b) (sym (more b) ∙ h.1)) [
-      | inl o ↦ (held b).1 (h.0, o)
-      | inr o ↦ absurd (false≢true (ap is_some (sym none ∙ (is b).1 (h.0, o))))
-    ],
-  )
+  none_pushed none b = grind (arith, or_left, or_cases, false≢true)
 
 -- ---- the list of a feature
 abbrev Lists : Type 0

@@ -1,5 +1,5 @@
 -- What is found in an answer for a manifest is what holds of the manifest.
-use Rattle.std.proofs.Common.{◌≡◌, ◌⊎◌, ◌↔◌, ◌||◌, ◌++◌, [], not, Bool, true, false, ℕ, Option, None, Some, is_some, IsTrue, length, nat_lt, List, refl, sym, ap, subst, inl, inr, ◌∙◌}
+use Rattle.std.proofs.Common.{arith, ◌≡◌, ◌⊎◌, ◌↔◌, ◌||◌, ◌++◌, [], not, Bool, true, false, ℕ, Option, None, Some, is_some, IsTrue, length, nat_lt, List, refl, sym, ap, subst, inl, inr, ◌∙◌}
 use Rattle.std.proofs.lemmas.Bool.{false≢true, and_parts, not-true, not_from_false, false_from_ne_true, or_cases, or_left, or_right}
 use Rattle.std.specs.List.{flat_map}
 use Rattle.std.specs.Option.{option_map_or}
@@ -30,9 +30,7 @@ use Rattle.cargo_toml_lint.specs.declared.linking.Links.{Links}
 use Rattle.cargo_toml_lint.proofs.Leading.{cyclic_is, only_default_is, place, unreachable_is}
 
 same_truth : (a b : Bool) → (IsTrue a ↔ IsTrue b) → a ≡ b
-same_truth true b h = sym (h.0 refl)
-same_truth false true h = h.1 refl
-same_truth false false h = refl
+same_truth a b h = grind arith
 
 module _ {M S H : Type 0} (limit : ℕ) (m : ManifestMeaning M) (a : Features S H) (known : Known)
     (names : held_names known ≡ all_names m) (listed_as : listed_by known ≡ m.features)
@@ -58,52 +56,16 @@ module _ {M S H : Type 0} (limit : ℕ) (m : ManifestMeaning M) (a : Features S 
       ≡ marks_in listed m.feature_details f) is (parsed.kept.marks f (ap is_some is))
 
   explicit_is : (f : Text) → explicit_at a.features f ≡ is_explicit listed f
-  explicit_is f = go (value_at a.features f) refl
-    where
-      go : (o : Option Feature) → value_at a.features f ≡ o → explicit_at a.features f ≡ is_explicit listed f
-      go None is =
-          ap (λ o. option_map_or (λ (v : Feature). v.explicit) o false) is
-          ∙ sym (false_from_ne_true (is_explicit listed f)
-          (λ e. false≢true (sym (ap is_some is) ∙ none_has f ∙ or_left _ _ e)))
-      go (Some v) is = ap (λ o. option_map_or (λ (v : Feature). v.explicit) o false) is
-          ∙ ap (λ (k : FeatureMarks). k.explicit) (mark f v is)
+  explicit_is f = grind (arith, false_from_ne_true, false≢true, none_has, or_left, mark)
 
   private_is : (f : Text) → IsTrue ((table_in a.features).has f) → private_at a.features f ≡ is_private listed m.feature_details f
-  private_is f = go (value_at a.features f) refl
-    where
-      go : (o : Option Feature) → value_at a.features f ≡ o → IsTrue (is_some o)
-          → option_map_or (λ (v : Feature). not v.public) o false ≡ is_private listed m.feature_details f
-      go None is there = absurd (false≢true there)
-      go (Some v) is there = ap (λ (k : FeatureMarks). not k.public) (mark f v is)
+  private_is f = grind (arith, there, false≢true, mark)
 
   implied_is : (f : Text) → IsTrue (implied_at a.features f) ↔ IsTrue (is_implied listed entries f)
-  implied_is f = go (value_at a.features f) refl
-    where
-      go : (o : Option Feature) → value_at a.features f ≡ o
-          → IsTrue (option_map_or (λ v. not v.explicit) o false)
-          ↔ IsTrue (is_implied listed entries f)
-      go None is = (
-        λ y. absurd (false≢true y),
-        λ h. absurd (false≢true (sym (ap is_some is) ∙ none_has f ∙ or_right _ _ h)),
-      )
-      go (Some v) is =
-          let told : v.explicit ≡ is_explicit listed f =
-          sym (ap (λ o. option_map_or (λ (v : Feature). v.explicit) o false) is)
-          ∙ explicit_is f in (
-            λ y. elim (or_cases (is_explicit listed f) (is_implied listed entries f)
-                (sym (none_has f) ∙ ap is_some is)) [
-                  | inl e ↦ absurd (false≢true (sym (not-true _ y) ∙ told ∙ e))
-                  | inr h ↦ h
-                ],
-            λ h. not_from_false _ (told ∙ not-true (is_explicit listed f) (and_parts _ _ h).1),
-          )
+  implied_is f = grind (arith, false≢true, none_has, or_right, explicit_is, or_cases, not-true, not_from_false, and_parts)
 
   implied_has : (f : Text) → IsTrue (implied_at a.features f) → IsTrue ((table_in a.features).has f)
-  implied_has f = go (value_at a.features f)
-    where
-      go : (o : Option Feature) → IsTrue (option_map_or (λ v. not v.explicit) o false) → IsTrue (is_some o)
-      go None h = h
-      go (Some v) h = refl
+  implied_has f = grind arith
 
   -- what the manifest's features turn on
   abbrev whole : Table
@@ -116,13 +78,7 @@ module _ {M S H : Type 0} (limit : ℕ) (m : ManifestMeaning M) (a : Features S 
     -- hidden or private, as the map tells of one that has a place
     private_in : (f : Text) → IsIn l (λ p. IsTrue (is_hidden (name_at l p) || private_at a.features (name_at l p)) × IsOfDefault l p) f
         ↔ (IsTrue (is_hidden f || is_private listed m.feature_details f) × IsOnlyDefault whole f)
-    private_in f =
-        let told = only_default_is whole l are (λ f k. refl) (λ x. IsTrue (is_hidden x || private_at a.features x)) f in
-        let same : IsTrue (whole.has f) → (is_hidden f || private_at a.features f) ≡ (is_hidden f || is_private listed m.feature_details f) =
-        λ h. ap (λ b. is_hidden f || b) (private_is f (none_has f ∙ h)) in (
-          λ i. let r = told.0 i in (sym (same r.1.default_does.target) ∙ r.0, r.1),
-          λ r. told.1 (same r.1.default_does.target ∙ r.0, r.1),
-        )
+    private_in f = grind (arith, only_default_is whole l are (λ f k. refl) (λ x. IsTrue (is_hidden x || private_at a.features x)), private_is, none_has)
 
     implied_in : (f : Text) → CountsIn a.features l Implied f ↔ IsTrue (is_implied listed entries f)
     implied_in f =
@@ -148,13 +104,4 @@ module _ {M S H : Type 0} (limit : ℕ) (m : ManifestMeaning M) (a : Features S 
     -- what is found is what holds
     pub holds_is : (c : Code) (f t : Text)
         → (Among (written_in a.features known limit m) (c, f, t) ⊎ ((t ≡ []) × CountsIn a.features l c f)) ↔ HoldsOf limit m c f t
-    holds_is c f t = (
-      elim [
-        | inl i ↦ inl (subst (λ xs. Among xs (c, f, t)) written_same i)
-        | inr h ↦ inr (h.0, (counts_is c f).0 h.1)
-      ],
-      elim [
-        | inl i ↦ inl (subst (λ xs. Among xs (c, f, t)) (sym written_same) i)
-        | inr h ↦ inr (h.0, (counts_is c f).1 h.1)
-      ],
-    )
+    holds_is c f t = grind (arith, written_same, counts_is)

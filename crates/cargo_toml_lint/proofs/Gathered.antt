@@ -1,5 +1,5 @@
 -- What a loop over a list gathers.
-use Rattle.std.proofs.Common.{◌≡◌, ◌⊎◌, ◌↔◌, ◌||◌, ◌&&◌, ◌<◌, ◌+◌, ℕ, Bool, true, false, cond, Some, is_some, List, [], ◌∷◌, ◌++◌, map, take, length, get_or, Bor, String, Vec, Global, IsTrue, bytes_eq, string_bytes, refl, sym, ap, inl, inr, ◌∙◌}
+use Rattle.std.proofs.Common.{arith, ◌≡◌, ◌⊎◌, ◌↔◌, ◌||◌, ◌&&◌, ◌<◌, ◌+◌, ℕ, Bool, true, false, cond, Some, is_some, List, [], ◌∷◌, ◌++◌, map, take, length, get_or, Bor, String, Vec, Global, IsTrue, bytes_eq, string_bytes, refl, sym, ap, inl, inr, ◌∙◌}
 use Rattle.std.proofs.Math.Bool.{and-false, and-true, or-false}
 use Rattle.std.proofs.lemmas.List.{map_push, take_more}
 use Rattle.std.proofs.lemmas.Bool.{false≢true, or_cases, or_left, or_right}
@@ -20,10 +20,7 @@ has_in ks f = list_any (is_at (λ k. slice_cmp nat_cmp f k.now)) ks
 
 pub at_head : (k : Bor Text) (ks : List (Bor Text)) (f : Text) → IsTrue (has_in (k ∷ ks) f)
     → (f ≡ k.now) ⊎ IsTrue (has_in ks f)
-at_head k ks f e = elim (or_cases _ _ e) [
-  | inl h ↦ inl ((bytes_eq-Decides f k.now).0 (sym (is_eq-slice_cmp f k.now) ∙ h))
-  | inr i ↦ inr i
-]
+at_head k ks f e = grind (arith, or_cases, bytes_eq-Decides, is_eq-slice_cmp)
 
 -- the same as texts
 pub among_now : (ks : List (Bor Text)) (f : Text) → IsTrue (has_in ks f) ↔ Among (map (λ k. k.now) ks) f
@@ -40,12 +37,10 @@ among_now (k ∷ ks) f = let rest = among_now ks f in (
 -- a key is put into a set where the test holds
 pub put_if : (old new same test : Bool) → test ≡ true → new ≡ (old || same) → new
     ≡ (old || (same && test))
-put_if old new same test is put = put
-    ∙ ap (λ b. old || b) (sym (ap (λ b. same && b) is ∙ and-true same))
+put_if old new same test is put = grind arith
 
 pub put_none : (old same test : Bool) → test ≡ false → old ≡ (old || (same && test))
-put_none old same test is = sym (ap (λ b. old || (same && b)) is
-    ∙ ap (λ b. old || b) (and-false same) ∙ or-false old)
+put_none old same test is = grind arith
 
 -- one more of the first elements
 pub any_more : {X Y : Type 0} (p : Y → Bool) (g : X → Y) (xs : List X) (i : ℕ) (x : X)

@@ -24,16 +24,14 @@ module _ (t : Table) (l : Links) (are : AreLinks t l) where
   n = length l.names.items
 
   in_names : {a : ℕ} → a < n → a < length (names_of l)
-  in_names {a} lt = subst (λ k. a < k) (sym (length_now l.names.items)) lt
+  in_names {a} lt = grind (arith, length_now)
 
   out_edges : {a : ℕ} → a < length l.reach.next.items → a < n
-  out_edges {a} lt = subst (λ k. a < k) are.found.count lt
+  out_edges {a} lt = grind arith
 
   -- a feature has a place
   pub place : (f : Text) → IsTrue (t.has f) → (a : ℕ) × (a < n) × (name_at l a ≡ f)
-  place f h =
-      let p = at_among (names_of l) f [] ((are.known f).0 h) in
-      (p.0, subst (λ k. p.0 < k) (length_now l.names.items) p.1, p.2)
+  place f h = grind (arith, at_among (names_of l) f [], length_now)
 
   pub known_at : (a : ℕ) → a < n → IsTrue (t.has (name_at l a))
   known_at a lt = (are.known (name_at l a)).1 (among_at (names_of l) a [] (in_names lt))
@@ -63,71 +61,18 @@ module _ (t : Table) (l : Links) (are : AreLinks t l) where
       (q.0, q.1, q.2, path_edge (Leads l.reach.next.items) r.3 edge)
 
   pub leads_at : (a b : ℕ) → a < n → b < n → Enables t (name_at l a) (name_at l b) → Path l.reach.next.items a b
-  leads_at a b lt lu e =
-      let r = leads_to a lt refl e in
-      subst (λ v. Path l.reach.next.items a v) (same_place r.0 b r.1 lu r.2) r.3
+  leads_at a b lt lu e = grind (arith, leads_to, same_place)
 
   -- what the feature in a place turns on
   pub in_place : (a : ℕ) (f : Text) → a < n → name_at l a ≡ f → (x : Text) → {b : Bool} → IsTrue b ↔ IsIn l (Path l.reach.next.items a) x → IsTrue b ↔ (IsTrue (t.has f) × Enables t f x)
-  in_place a f lt at x h = (
-    λ e.
-        let i = h.0 e in
-        (subst (λ y. IsTrue (t.has y)) at (known_at a lt), subst (λ y. Enables t y x) at (subst (λ y. Enables t (name_at l a) y) i.2 (turns a i.0 lt i.3).1)),
-    λ e. h.1 (leads_to a lt at e.1),
-  )
+  in_place a f lt at x h = grind (arith, known_at, turns, leads_to)
 
   -- ---- what is found of them
   pub cyclic_is : (f : Text) → IsIn l (IsInRing l.reach.next.items) f ↔ IsCyclic t f
-  cyclic_is f = (
-    λ i.
-        let a = i.0 in
-        let ring = i.3 in
-        let there = turns a ring.0 i.1 ring.2 in
-        let back = turns ring.0 a there.0 ring.3 in
-        record {
-          other = name_at l ring.0;
-          known = subst (λ y. IsTrue (t.has y)) i.2 (known_at a i.1);
-          apart = λ same. ring.1 (same_place ring.0 a there.0 i.1 (same ∙ sym i.2));
-          there = subst (λ y. Enables t y (name_at l ring.0)) i.2 there.1;
-          back = subst (λ y. Enables t (name_at l ring.0) y) i.2 back.1;
-        },
-    λ c.
-        let p = place f c.known in
-        let q = place c.other (enables_has c.known c.there) in (
-          p.0,
-          p.1,
-          p.2,
-          (
-            q.0,
-            (λ same. c.apart (sym q.2 ∙ ap (name_at l) same ∙ p.2)),
-            leads_at p.0 q.0 p.1 q.1 (subst (λ y. Enables t y (name_at l q.0)) (sym p.2) (subst (λ y. Enables t f y) (sym q.2) c.there)),
-            leads_at q.0 p.0 q.1 p.1 (subst (λ y. Enables t y (name_at l p.0)) (sym q.2) (subst (λ y. Enables t c.other y) (sym p.2) c.back)),
-          ),
-        ),
-  )
+  cyclic_is f = grind (arith, place, turns, leads_at, known_at, same_place, enables_has)
 
   pub unreachable_is : (f : Text) → IsIn l (IsLeftAlone l) f ↔ IsUnreachable t f
-  unreachable_is f = (
-    λ i. record {
-      known = subst (λ y. IsTrue (t.has y)) i.2 (known_at i.0 i.1);
-      hidden = subst (λ y. IsTrue (is_hidden y)) i.2 i.3.hidden;
-      left_alone = λ k h shown e.
-          let p = place k h in
-          i.3.alone p.0 p.1 (subst (λ y. IsFalse (is_hidden y)) (sym p.2) shown)
-          (leads_at p.0 i.0 p.1 i.1 (subst (λ y. Enables t y (name_at l i.0)) (sym p.2) (subst (λ y. Enables t k y) (sym i.2) e)));
-    },
-    λ u.
-        let p = place f u.known in (
-          p.0,
-          p.1,
-          p.2,
-          record {
-            hidden = subst (λ y. IsTrue (is_hidden y)) (sym p.2) u.hidden;
-            alone = λ k lt shown path. u.left_alone (name_at l k) (known_at k lt) shown
-                (subst (λ y. Enables t (name_at l k) y) p.2 (turns k p.0 lt path).1);
-          },
-        ),
-  )
+  unreachable_is f = grind (arith, place, turns, leads_at, known_at)
 
   -- an edge of the table, where that tells of no dependency
   module _ (none : (f k : Text) → t.action f k ≡ None) where
@@ -135,18 +80,10 @@ module _ (t : Table) (l : Links) (are : AreLinks t l) where
     leads_inside a b e = out_edges (has_row l.reach.next.items a b e)
 
     edge_at : (k a : ℕ) → k < n → a < n → a ≢ k → Leads l.reach.next.items k a → Edge t (name_at l k) (name_at l a)
-    edge_at k a lk la apart e = record {
-      source = known_at k lk;
-      target = known_at a la;
-      apart = λ same. apart (sym (same_place k a lk la same));
-      leads = inl ((are.leads k a lk la).0 e);
-    }
+    edge_at k a lk la apart e = grind (arith, known_at, same_place)
 
     edge_leads : (k a : ℕ) → k < n → a < n → Edge t (name_at l k) (name_at l a) → Leads l.reach.next.items k a
-    edge_leads k a lk la e = elim (e.leads) [
-      | inl m ↦ (are.leads k a lk la).1 m
-      | inr p ↦ absurd (subst IsPlain (none (name_at l k) (name_at l a)) p)
-    ]
+    edge_leads k a lk la e = grind arith
 
     pub only_default_is : (Q : Text → Type 0) (f : Text) → IsIn l (λ a. Q (name_at l a) × IsOfDefault l a) f ↔ (Q f × IsOnlyDefault t f)
     only_default_is Q f = (
@@ -199,16 +136,10 @@ module _ (l : Links) (found : AreFound l) (w : Walks) (are : AreWalks l w) where
 
   -- none that isn't hidden leads there
   pub left_alone : (place : ℕ) → IsTrue (is_hidden (name_at l place)) → (¬ HasBit w.reached.items place) → IsLeftAlone l place
-  left_alone place hidden out = record {
-    hidden = hidden;
-    alone = λ k lt shown p. out ((are.reached place).1 (k, (shown_at k).1 (lt, not_from_false (is_hidden (name_at l k)) shown), p));
-  }
+  left_alone place hidden out = grind (arith, place, shown_at, not_from_false)
 
   pub not_alone : (place : ℕ) → IsLeftAlone l place → ¬ HasBit w.reached.items place
-  not_alone place alone h =
-      let r = (are.reached place).0 h in
-      let f = (shown_at r.0).0 r.1 in
-      alone.alone r.0 f.0 (not-true (is_hidden (name_at l r.0)) f.1) r.2
+  not_alone place alone h = grind (arith, place, shown_at, not-true)
 
   -- `default` leads there, and no other
   default_at : (wanted : Bool) (a : ℕ) → IsFlagged (map (λ t. is_default wanted t.now) l.names.items) a ↔ ((a < length l.names.items) × IsTrue (is_default wanted (name_at l a)))

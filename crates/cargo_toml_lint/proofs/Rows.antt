@@ -126,13 +126,11 @@ has_row (y ∷ rows) (suc a) b i = let lt = has_row rows a b i in omega (arith, 
 
 -- a list that isn't said to be empty has something
 pub not_none : {X : Type 0} (xs : List X) (b : Bool) → b ≡ (length xs == 0) → b ≡ false → 0 < length xs
-not_none [] b is off = absurd (false≢true (sym off ∙ is))
-not_none (x ∷ xs) b is off = omega arith
+not_none xs b is off = grind (arith, Decides-eqb)
 
 -- and one that is has nothing
 pub is_none : {X : Type 0} (xs : List X) (b : Bool) → b ≡ (length xs == 0) → b ≡ true → length xs ≡ 0
-is_none [] b is on = refl
-is_none (x ∷ xs) b is on = absurd (false≢true (sym (is ∙ ne_eqb (length (x ∷ xs)) 0 (λ e. absurd (omega (arith, e)))) ∙ on))
+is_none xs b is on = grind (arith, Decides-eqb)
 
 -- a list without elements has none
 pub nothing : (xs : List ℕ) → length xs ≡ 0 → (y : ℕ) → ¬ Among xs y

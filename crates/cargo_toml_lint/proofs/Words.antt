@@ -10,22 +10,13 @@ use Rattle.cargo_toml_lint.proofs.Rows.{read_at}
 
 -- past the last word there is no bit
 pub no_bit_past : (words : List ℕ) (x : ℕ) → length words ≤ x / 64 → ¬ HasBit words x
-no_bit_past words x past h =
-    let none : bit_at (get_or words (x / 64) 0) (x % 64) ≡ 0 = ap (λ w. bit_at w (x % 64)) (get_or_past words (x / 64) 0 past) ∙ bit_at-zero (x % 64) in
-    let one = h.stands in
-    absurd (omega (arith, none, one))
+no_bit_past words x past h = grind (arith, get_or_past, bit_at-zero)
 
 either_one : (p q : ℕ) → p < 2 → q < 2 → (max p q ≡ 1) ↔ ((p ≡ 1) ⊎ (q ≡ 1))
-either_one p q lp lq = (
-  λ m. elim (cases_eq p 1) [ inl e ↦ inl e | inr ne ↦ inr (omega arith) ],
-  elim [ inl e ↦ omega arith | inr e ↦ omega arith ],
-)
+either_one p q lp lq = grind (arith, cases_eq)
 
 word_joined : (u v w i : ℕ) → w ≡ bit_or u v → (bit_at w i ≡ 1) ↔ ((bit_at u i ≡ 1) ⊎ (bit_at v i ≡ 1))
-word_joined u v w i e =
-    let both : bit_at w i ≡ max (bit_at u i) (bit_at v i) = ap (λ z. bit_at z i) e ∙ bit_at_or u v i in
-    let either = either_one (bit_at u i) (bit_at v i) (bit_at-lt u i) (bit_at-lt v i) in
-    (λ h. either.0 (sym both ∙ h), λ h. both ∙ either.1 h)
+word_joined u v w i e = grind (arith, bit_at_or, either_one, bit_at-lt)
 
 -- word by word
 pub joined_bits : (old new other : List ℕ) (n : ℕ) → length other ≤ n
@@ -51,10 +42,10 @@ module _ (words : List ℕ) (x : ℕ) (inside : x / 64 < length words) where
   word_with = bit_or (get_or words (x / 64) 0) (1 * 2 ^ (x % 64) % 2 ^ 64)
 
   at_word : (y : ℕ) → y / 64 ≡ x / 64 → bit_at (get_or (set words (x / 64) word_with) (y / 64) 0) (y % 64) ≡ bit_at word_with (y % 64)
-  at_word y e = ap (λ z. bit_at (get_or (set words (x / 64) word_with) z 0) (y % 64)) e ∙ ap (λ w. bit_at w (y % 64)) (get_or-set_same words (x / 64) word_with 0 inside)
+  at_word y e = grind (arith, get_or-set_same)
 
   at_other : (y : ℕ) → y / 64 ≢ x / 64 → bit_at (get_or (set words (x / 64) word_with) (y / 64) 0) (y % 64) ≡ bit_at (get_or words (y / 64) 0) (y % 64)
-  at_other y ne = ap (λ w. bit_at w (y % 64)) (get_or-set_other words (x / 64) (y / 64) word_with 0 ne)
+  at_other y ne = grind (arith, get_or-set_other)
 
   within : x % 64 < 64
   within = omega arith

@@ -1,11 +1,11 @@
 -- Findings of single codes, for the features of which something holds.
-use Rattle.std.proofs.Common.{◌≡◌, ◌⊎◌, ◌↔◌, ◌<◌, ◌+◌, ℕ, Bool, true, false, List, [], ◌∷◌, ◌++◌, map, Bor, IsTrue, arith, refl, sym, ap, subst, inl, inr, ◌∙◌}
+use Rattle.std.proofs.Common.{◌≡◌, ◌⊎◌, ◌↔◌, ◌<◌, ◌+◌, ℕ, Bool, true, false, List, [], ◌++◌, Bor, IsTrue, arith, refl, sym, ap, inl, inr, ◌∙◌}
 use Rattle.std.proofs.lemmas.Bool.{cases_eq, false≢true}
 use Rattle.std.specs.HashMap.{HashMap}
 use Rattle.cargo_toml.specs.Action.{Text}
 use Rattle.cargo_toml.specs.Feature.{Feature}
 use Rattle.cargo_toml.specs.Reach.{Among}
-use Rattle.cargo_toml_lint.specs.Findings.{About, IsFound, about, told, when}
+use Rattle.cargo_toml_lint.specs.Findings.{About, IsFound, told, when}
 use Rattle.cargo_toml_lint.specs.Linked.{name_at}
 use Rattle.cargo_toml_lint.specs.Steps.{CountsAt, Finds}
 use Rattle.cargo_toml_lint.specs.declared.finding.Code.{Code}

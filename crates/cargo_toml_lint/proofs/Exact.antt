@@ -1,5 +1,5 @@
 -- What is found in an answer for a manifest is what holds of the manifest.
-use Rattle.std.proofs.Common.{arith, ◌≡◌, ◌⊎◌, ◌↔◌, ◌||◌, ◌++◌, [], not, Bool, true, false, ℕ, Option, None, Some, is_some, IsTrue, length, nat_lt, List, refl, sym, ap, subst, inl, inr, ◌∙◌}
+use Rattle.std.proofs.Common.{arith, ◌≡◌, ◌⊎◌, ◌↔◌, ◌||◌, ◌++◌, [], not, Bool, true, false, ℕ, Some, is_some, IsTrue, length, nat_lt, List, refl, sym, ap, subst, ◌∙◌}
 use Rattle.std.proofs.lemmas.Bool.{false≢true, and_parts, not-true, not_from_false, false_from_ne_true, or_cases, or_left, or_right}
 use Rattle.std.specs.List.{flat_map}
 use Rattle.std.specs.Option.{option_map_or}
@@ -9,7 +9,7 @@ use Rattle.cargo_toml.specs.Details.{plain_detail}
 use Rattle.cargo_toml.specs.Feature.{Feature}
 use Rattle.cargo_toml.specs.Graph.{Table}
 use Rattle.cargo_toml.specs.Manifests.{ManifestMeaning}
-use Rattle.cargo_toml.specs.Marks.{FeatureMarks, marked, marks_in, marks_of}
+use Rattle.cargo_toml.specs.Marks.{marked, marks_in, marks_of}
 use Rattle.cargo_toml.specs.Parsed.{IsParsed, parsed_entries, parsed_table}
 use Rattle.cargo_toml.specs.Reach.{Among}
 use Rattle.cargo_toml.specs.Recorded.{Entry, is_implied}

@@ -1,5 +1,5 @@
 -- What is met, one vertex after another.
-use Rattle.std.proofs.Common.{◌≡◌, ◌≢◌, ◌⊎◌, ◌↔◌, ◌<◌, ◌≤◌, ◌+◌, ℕ, zero, suc, Bool, Vec, List, [], ◌∷◌, ◌++◌, length, drop, get_or, refl, sym, ap, subst, inl, inr, ◌∙◌, arith, append_assoc, append-nil, length-append, Global, ◌==◌, true, false}
+use Rattle.std.proofs.Common.{◌≡◌, ◌≢◌, ◌⊎◌, ◌↔◌, ◌<◌, ◌≤◌, ◌+◌, ℕ, zero, suc, Bool, Vec, List, [], ◌∷◌, ◌++◌, length, drop, get_or, refl, sym, subst, inl, inr, ◌∙◌, arith, append_assoc, append-nil, length-append, Global, ◌==◌, true, false}
 use Rattle.std.proofs.lemmas.Bool.{cases_eq, false≢true}
 use Rattle.cargo_toml.specs.Reach.{Among, Gathers, Reaches, IsOnce}
 use Rattle.cargo_toml.specs.Reach.Reaches.{edge, through}

@@ -1,6 +1,6 @@
 -- What numbered vertices lead to, and how that is found.
 use Rattle.std.specs.Prelude.{◌≡◌, ◌≢◌, ◌↔◌, ◌⊎◌, ◌<◌, ◌≤◌, ◌*◌, ◌++◌, ℕ, Bool, true, false, List}
-use Rattle.std.specs.Prelude.{[], length, Vec}
+use Rattle.std.specs.Prelude.{length, Vec}
 use Rattle.std.specs.List.{slice_index_or}
 use Rattle.cargo_toml.specs.Reach.{Among, Gathers, IsOnce}
 use Rattle.cargo_toml_lint.specs.Bits.{HasBit, words_of}

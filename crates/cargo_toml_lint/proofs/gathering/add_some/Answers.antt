@@ -21,6 +21,4 @@ loop-product-preserved c =
     (c.in_ok-add_texts.ensures (required_fault n) (λ t r told. search (rules, tests)))) c.loop-product.invariant
 
 pub returns : goal.returns
-returns c = finding_done (slice_none (product_findings (held_names c.args.known.now))
-    product_meaning c.args.products.now c.loop-product.product-index (omega arith))
-    c.loop-product.invariant
+returns c = search (rules, finding_done, slice_none)

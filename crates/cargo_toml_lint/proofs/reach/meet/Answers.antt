@@ -1,4 +1,4 @@
-use Rattle.std.proofs.Common.{◌≡◌, ◌⊎◌, ◌↔◌, ◌<◌, ℕ, length, sym, subst, ◌∙◌}
+use Rattle.std.proofs.Common.{rules, ◌⊎◌, ◌↔◌, ◌<◌, ℕ, length, sym, subst, ◌∙◌}
 use Rattle.std.proofs.lemmas.Bool.{false≢true}
 use Rattle.cargo_toml_lint.specs.Bits.{HasBit}
 use Rattle.cargo_toml_lint.proofs.Meeting.{meets_none, meets_one, meets_row}
@@ -6,16 +6,10 @@ use Rattle.cargo_toml_lint.proofs.Rows.{list_read, not_none}
 use Rattle.cargo_toml_lint.proofs.reach.meet.Goals as goal
 
 pub returns-then-has_bit : goal.returns-then-has_bit
-returns-then-has_bit c =
-    meets_none c.args.reach.now (λ y. y ≡ c.args.x) c.args.row.now.items c.args.met.now.items
-    (λ y e. subst (HasBit c.args.row.now.items) (sym e)
-    (subst (λ r. HasBit r c.args.x) c.as_slice.ensures.value (c.has_bit.ensures.0 c.if-has_bit.true)))
+returns-then-has_bit c = search (rules, meets_none)
 
 pub returns-in_ok-push : goal.returns-in_ok-push
-returns-in_ok-push c =
-    meets_one c.args.reach.now c.args.x c.args.row.now.items c.set_bit.new.words.items c.args.met.now.items c.push.new.self.items
-    (λ h. false≢true (sym c.if-has_bit.false ∙ c.has_bit.ensures.1 (subst (λ r. HasBit r c.args.x) (sym c.as_slice.ensures.value) h)))
-    c.set_bit.ensures.len c.set_bit.ensures.bits c.in_ok-push.ensures.items
+returns-in_ok-push c = search (rules, meets_one, false≢true)
 
 pub returns-else-is_empty : goal.returns-else-is_empty
 returns-else-is_empty c =

@@ -1,39 +1,32 @@
 -- What completion gives of a manifest that is told, from a workspace that is, is told.
-use Rattle.std.proofs.Common.{arith, ◌≡◌, refl, ap, subst, ℕ, List, [], ◌∷◌, Bool, true, false, Option, Some, None, IfSome, option_map, option_and_then, Result, Ok, Err, if◌then◌else◌}
+use Rattle.std.proofs.Common.{arith, ◌≡◌, refl, ap, subst, ℕ, List, [], ◌∷◌, Bool, true, false, Option, Some, None, IfSome, option_and_then, Result, Ok, Err, if◌then◌else◌}
 use Rattle.std.specs.List.{AllByRecursion}
 use Rattle.std.specs.Str.{bytes_eq}
 use Rattle.std.proofs.lemmas.List.Elements.{All-from_recursion, recursion_from_All}
 use Rattle.semver.specs.Parse.{Held}
-use Rattle.toml.specs.Data.{Data}
-use Rattle.cargo_toml_dependencies.specs.Dependencies.{DependencyMeaning, InheritedMeaning, detail_keys, detailed, inherited, simple}
-use Rattle.cargo_toml_dependencies.specs.Inheriting.{Entries, adds_nothing, detail_of_requirement, entry_at, from_template, inherited_entries, inherited_entry, inherited_target, inherited_targets, with_entry}
+use Rattle.cargo_toml_dependencies.specs.Dependencies.{DependencyMeaning, InheritedMeaning, detailed, inherited, simple}
+use Rattle.cargo_toml_dependencies.specs.Inheriting.{Entries, detail_of_requirement, entry_at, from_template, inherited_entries, inherited_entry, inherited_target, inherited_targets, with_entry}
 use Rattle.cargo_toml_dependencies.specs.Targets.{TargetMeaning}
 use Rattle.cargo_toml_discovery.specs.Discovering.{discovered}
 use Rattle.cargo_toml_discovery.specs.Names.{Name}
 use Rattle.cargo_toml_discovery.specs.Around.{around}
-use Rattle.cargo_toml_discovery.specs.Seen.{Seen, seen, seen_as, faulty, unclear}
+use Rattle.cargo_toml_discovery.specs.Seen.{Seen, seen, seen_as}
 use Rattle.cargo_toml_discovery.specs.Told as folders
 use Rattle.cargo_toml_manifest.specs.Choosing.{Choice, from, lost, unclear_root}
 use Rattle.cargo_toml_manifest.specs.Completing.{complete_by, gives, seen_at, then_found}
 use Rattle.cargo_toml_manifest.specs.Finding.{found_for, stated_by, wanted_by, with_discovered}
 use Rattle.cargo_toml_manifest.specs.Inheriting.{inherited_from, inherited_if_there, inherited_manifest, own_tables}
-use Rattle.cargo_toml_manifest.specs.declared.manifest.Manifest.{Manifest}
-use Rattle.cargo_toml_manifest.specs.Manifests.{ManifestMeaning, manifest_meaning}
+use Rattle.cargo_toml_manifest.specs.Manifests.{ManifestMeaning}
 use Rattle.cargo_toml_package.specs.Inheriting.{any_field_left, filled_field, inherited_package, with_template_if_there}
-use Rattle.cargo_toml_package.specs.declared.package.Package.{Package}
-use Rattle.cargo_toml_package.specs.Packages.{PackageMeaning, package_meaning}
+use Rattle.cargo_toml_package.specs.Packages.{PackageMeaning}
 use Rattle.cargo_toml_package.specs.Templates.{TemplateMeaning}
 use Rattle.cargo_toml_parts.specs.Paths.{workspace_folder}
 use Rattle.cargo_toml_parts.specs.Answers.{◌>>=◌, beside, each}
 use Rattle.cargo_toml_parts.specs.FaultValues.{Fault}
-use Rattle.cargo_toml_parts.specs.Reads.{is_among}
 use Rattle.cargo_toml_parts.specs.Versions.{Parts}
 use Rattle.cargo_toml_parts.specs.declared.inheritable.Inheritable.{Inheritable}
-use Rattle.cargo_toml_parts.specs.declared.inheritable.Inheritable.TheVariants.{Set, Inherited}
-use Rattle.cargo_toml_package.specs.declared.workspace.Workspace.{Workspace}
-use Rattle.cargo_toml_package.specs.Workspaces.{workspace_meaning}
 use Rattle.cargo_toml_package.specs.Sharing.{LintsByTool, Shared, inherited_lints}
-use Rattle.cargo_toml_write.specs.Asked.{EachValue, IfSet, TargetMeets, WorkspaceMeets}
+use Rattle.cargo_toml_write.specs.Asked.{EachValue, IfSet, TargetMeets}
 use Rattle.cargo_toml_write.specs.Requirements.{CanBeRead}
 use Rattle.cargo_toml_write.specs.Reread.{ChoiceIsTold, IsTold, SharedIsTold, reread_dependency, told}
 use Rattle.cargo_toml_write.specs.WrittenDependencies.{DependencyAgain}
@@ -186,20 +179,3 @@ module _ {M : Type 0} where
   completed_told m n (from (Some w)) folder h all is = then_told (Some w.1) folder (inherited_manifest w.0 (workspace_folder w.1) m) (from_told w.0 (workspace_folder w.1) m all h) n is
   completed_told m n lost folder h all is = absurd cc
   completed_told m n unclear_root folder h all is = absurd cc
-
--- what is told doesn't depend on how metadata are seen
-any_metadata : {M : Type 0} (o : Option M) → IfSome o (λ (x : M). Unit {0})
-any_metadata None = tt
-any_metadata (Some x) = tt
-
-module _ {X M N : Type 0} (f : X → M) (g : X → N) where
-  package_as : (x : Option (Package X)) → IfSome (option_map (package_meaning f) x) (λ p. VersionAgain p.version) → IfSome (option_map (package_meaning g) x) (λ p. VersionAgain p.version)
-  package_as None h = tt
-  package_as (Some p) h = h
-
-  workspace_as : (x : Option (Workspace X)) → IfSome (option_map (workspace_meaning f) x) (WorkspaceMeets told) → IfSome (option_map (workspace_meaning g) x) (WorkspaceMeets told)
-  workspace_as None h = tt
-  workspace_as (Some w) h = record { metadata = any_metadata (option_map g w.metadata); template = h.template; dependencies = h.dependencies; lints = h.lints }
-
-  pub told_as : (m : Manifest X) → IsTold (manifest_meaning f m) → IsTold (manifest_meaning g m)
-  told_as m h1 = grind (arith, package_as, workspace_as)

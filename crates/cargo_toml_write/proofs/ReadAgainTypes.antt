@@ -31,7 +31,7 @@ use Rattle.cargo_toml_write.specs.Ways.{number_way, small_way, text_way, texts_w
 use Rattle.cargo_toml_write.specs.Writes.{AreWritten, IsWriting, required_row, IsHeld, put_some, Way, given_row}
 use Rattle.cargo_toml_write.specs.WrittenSettings.{edition_way, resolver_way, is_unrestricted, file_way, publish_way, debug_way, strip_way, is_usual, lto_way, status_way, level_text, level_way, status_text, file_tree, debug_tree, strip_tree, lto_tree}
 use Rattle.cargo_toml_write.specs.WrittenTables.{product_way, product_rows, badge_way, badges_way, badge_rows, badges_rows, has_no_badge, maintenance_way, maintenance_rows, is_level_alone, lint_groups_way, table_lint_way, has_no_profile, lint_rows, lint_way, profile_way, profiles_way, IsApart, AreApart, known_profiles, profile_rows, profiles_rows}
-use Rattle.cargo_toml_write.proofs.ReadAgain.{AgainAs, AllHeld, Any, Again, StandsAt, ReadsAs, StandsFor, again, collected, flagged, free_again, free_maps, map_same, nil, nil_left, read_back, required, same_tree, step, table_again, text_again, texts_again, truth_again, untouched, given, map_as, nothing_asked, whole, inheritable_again, list_again, nil_map, set_stands, version_again}
+use Rattle.cargo_toml_write.proofs.ReadAgain.{AgainAs, AllHeld, Any, Again, StandsAt, ReadsAs, StandsFor, again, collected, flagged, free_again, free_maps, map_same, nil, nil_left, read_back, required, same_tree, step, table_again, text_again, texts_again, truth_again, untouched, given, map_as, nothing_asked, whole, inheritable_again, list_again, nil_map, set_stands, version_again, other_member}
 use Rattle.std.specs.List.Sorted.{IsStrictlySortedBy}
 use Rattle.std.specs.Result.{result_ok}
 use Rattle.std.specs.Cmp.Lexicographic.{slice_cmp}
@@ -52,8 +52,7 @@ use Rattle.cargo_toml_write.specs.WrittenDependencies.{dependency_way, inherited
 use Rattle.cargo_toml_write.specs.WrittenManifests.{all_features, manifest_rows, manifest_way}
 use Rattle.cargo_toml_write.proofs.ReadParts.{Gives, gives_some, bind, skip}
 use Rattle.cargo_toml_write.proofs.Spelled.{spelled_again}
-use Rattle.cargo_toml_write.proofs.Tables.{other_member}
-use Rattle.cargo_toml_write.proofs.Told.{Told, nothing}
+use Rattle.cargo_toml_write.proofs.Rows.{Told, nothing}
 use Rattle.semver.specs.Identifiers.{parts_of}
 use Rattle.cargo_toml_dependencies.specs.Targets.{TargetMeaning, target_of}
 use Rattle.cargo_toml_manifest.specs.declared.manifest.Manifest.{Manifest}

@@ -43,7 +43,7 @@ use Rattle.cargo_toml_write.specs.Writes.{Row, RowsAsk, Way, unless}
 use Rattle.cargo_toml_write.specs.WrittenDependencies.{DetailAgain, DependencyAgain, dependency_way, AreTold, detail_way, known_rows, dependencies_way, target_way}
 use Rattle.cargo_toml_write.specs.WrittenPackages.{IsVersionAgain, TemplateAgain, VersionAgain, package_way, workspace_way}
 use Rattle.cargo_toml_write.specs.WrittenTables.{IsApart, AreApart, is_level_alone, lint_way, profiles_way, profile_way, table_lint_way, has_no_profile, lint_groups_way}
-use Rattle.cargo_toml_write.proofs.Tables.{other_member}
+use Rattle.cargo_toml_write.proofs.ReadAgain.{other_member}
 use Rattle.cargo_toml_parts.specs.declared.inheritable.Inheritable.{Inheritable}
 use Rattle.cargo_toml_write.specs.WrittenManifests.{manifest_way}
 use Rattle.cargo_toml_package.specs.Sharing.{LintsByTool}

@@ -1,5 +1,5 @@
 -- What completion gives of a manifest that is told, from a workspace that is, is told.
-use Rattle.std.proofs.Common.{arith, ◌≡◌, refl, ap, subst, ℕ, List, [], ◌∷◌, Bool, true, false, Option, Some, None, IfSome, option_and_then, Result, Ok, Err, if◌then◌else◌}
+use Rattle.std.proofs.Common.{arith, ◌≡◌, refl, ap, subst, ℕ, List, [], ◌∷◌, Bool, Option, Some, None, IfSome, option_and_then, Result, Ok, Err, if◌then◌else◌}
 use Rattle.std.specs.List.{AllByRecursion}
 use Rattle.std.specs.Str.{bytes_eq}
 use Rattle.std.proofs.lemmas.List.Elements.{All-from_recursion, recursion_from_All}
@@ -49,8 +49,7 @@ yields_err : {A : Type 0} {P : A → Type 0} (e : Fault) → Yields P (Err e)
 yields_err e = record { each_is = λ x is. absurd cc }
 
 then_yields : {A B : Type 0} {Q : A → Type 0} {P : B → Type 0} (r : Result A Fault) (f : A → Result B Fault) → Yields Q r → ((x : A) → Q x → Yields P (f x)) → Yields P (◌>>=◌ r f)
-then_yields (Ok x) f h k = k x (h.each_is x refl)
-then_yields (Err e) f h k = yields_err e
+then_yields r f h1 h2 = grind (arith, yields_err)
 
 -- dependencies
 abbrev Told : DependencyMeaning → Type 0
@@ -60,16 +59,14 @@ abbrev AllTold : Entries → Type 0
 AllTold es = AllByRecursion (λ (e : List ℕ × DependencyMeaning). Told e.1) es
 
 at_key : (b : Bool) (d : DependencyMeaning) (rest : Option DependencyMeaning) → Told d → IfSome rest Told → IfSome (if b then Some d else rest) Told
-at_key true d rest h more = h
-at_key false d rest h more = more
+at_key b d rest h1 h2 = grind arith
 
 entry_told : (key : List ℕ) (es : Entries) → AllTold es → IfSome (entry_at key es) Told
 entry_told key [] h = tt
 entry_told key (e ∷ es) h = at_key (bytes_eq key e.0) e.1 (entry_at key es) h.0 (entry_told key es h.1)
 
 lookup_told : (key : List ℕ) (templates : Option Entries) → IfSome templates AllTold → IfSome (option_and_then (entry_at key) templates) Told
-lookup_told key None h = tt
-lookup_told key (Some es) h = entry_told key es h
+lookup_told key templates h1 = grind (arith, entry_told)
 
 simple_told : (b : Bool) (base : List ℕ) (entry : InheritedMeaning) (r : List Held) → CanBeRead r → Yields Told (if b then Ok (simple r) else Ok (detailed (with_entry base entry (detail_of_requirement r))))
 simple_told b base entry r h1 = grind (arith, All-from_recursion, yields_ok)
@@ -89,8 +86,7 @@ each_yields P Q f h (x ∷ xs) all =
     then_yields {Q = AllByRecursion Q} {P = AllByRecursion Q} (each f xs) _ (each_yields P Q f h xs all.1) (λ ys qs. yields_ok {P = AllByRecursion Q} (y ∷ ys) (q, qs)))
 
 beside_yields : {A : Type 0} (P : A → Type 0) (key : List ℕ) (r : Result A Fault) → Yields P r → Yields (λ (e : List ℕ × A). P e.1) (beside key r)
-beside_yields P key (Ok x) h = yields_ok (key, x) (h.each_is x refl)
-beside_yields P key (Err e) h = yields_err e
+beside_yields P key r h1 = grind (arith, yields_err, yields_ok)
 
 values_yield : {A B : Type 0} (P : A → Type 0) (Q : B → Type 0) (f : List ℕ → A → Result B Fault) → ((key : List ℕ) (x : A) → P x → Yields Q (f key x)) → (es : List (List ℕ × A)) → EachValue P es
     → Yields (EachValue Q) (each (λ e. beside e.0 (f e.0 e.1)) es)
@@ -129,12 +125,10 @@ module _ {M : Type 0} where
   IsVersioned p = VersionAgain p.version
 
   filled_told : (template : Option TemplateMeaning) (base : List ℕ) (p : PackageMeaning M) → IfSome template TemplateAgain → IsVersioned p → IsVersioned (with_template_if_there base template p)
-  filled_told None base p all h = h
-  filled_told (Some t) base p all h = version_told p.version t.version h all
+  filled_told template base p h1 h2 = grind (arith, version_told)
 
   checked_told : (b : Bool) (p : PackageMeaning M) (fault : Fault) → IsVersioned p → Yields IsVersioned (if b then Err fault else Ok p)
-  checked_told true p fault h = yields_err fault
-  checked_told false p fault h = yields_ok {P = IsVersioned} p h
+  checked_told b p fault h1 = grind (arith, yields_err, yields_ok)
 
   package_told : (template : Option TemplateMeaning) (base : List ℕ) (o : Option (PackageMeaning M)) → IfSome template TemplateAgain → IfSome o IsVersioned
       → Yields (λ q. IfSome q IsVersioned) (inherited_if_there template base o)

@@ -1,5 +1,5 @@
 -- Rows, lists and maps that are written one after the other, and features each with what is said of it.
-use Rattle.std.proofs.Common.{◌≡◌, ◌⊎◌, inl, inr, sym, ◌∙◌, refl, subst, false, is_some, option_map, ℕ, IsTrue, List, [], ◌∷◌, ◌++◌, Result, Ok, Err, Option, Some, None, ◌+◌, ◌<◌, map, length, get_or, drop, ap, append-nil, String, Global, string_bytes, Bool, true, cond, Vec, nat_cmp, Ordering, Less, Greater}
+use Rattle.std.proofs.Common.{arith, ◌≡◌, ◌⊎◌, inl, inr, sym, ◌∙◌, refl, subst, false, is_some, option_map, ℕ, IsTrue, List, [], ◌∷◌, ◌++◌, Result, Err, Option, Some, None, ◌+◌, ◌<◌, map, length, get_or, drop, ap, append-nil, String, Global, string_bytes, Bool, cond, Vec, nat_cmp, Ordering, Less, Greater}
 use Rattle.std.proofs.lemmas.Iterator.Adapters.{option_map_id}
 use Rattle.toml.specs.Data.{Data, Members, no_members, string, array, Items, no_items, item, member}
 use Rattle.toml.specs.declared.value.Value.{Value}
@@ -43,22 +43,14 @@ refused_then [] qs e h = h
 refused_then (r ∷ rs) qs e h = inr (refused_then rs qs e h)
 
 first_stops : (rs qs : List Row) (e : Error) → (e ≡ Memory) ⊎ AreRefused rs e → (e ≡ Memory) ⊎ AreRefused (rs ++ qs) e
-first_stops rs qs e (inl memory) = inl memory
-first_stops rs qs e (inr h) = inr (refused_first rs qs e h)
+first_stops rs qs e h1 = grind (arith, refused_first)
 
 then_stops : (rs qs : List Row) (e : Error) → (e ≡ Memory) ⊎ AreRefused qs e → (e ≡ Memory) ⊎ AreRefused (rs ++ qs) e
-then_stops rs qs e (inl memory) = inl memory
-then_stops rs qs e (inr h) = inr (refused_then rs qs e h)
+then_stops rs qs e h1 = grind (arith, refused_then)
 
 pub both : (rs qs : List Row) (a b c : Option Error) (old mid new : Members) → WritesFrom rs a old b mid → WritesFrom qs b mid c new → WritesFrom (rs ++ qs) a old c new
 unfolding WritesFrom
-both rs qs (Some d) None c old mid new first rest = absurd cc
-both rs qs (Some d) (Some e) c old mid new first rest = rest ∙ first
-both rs qs None None None old mid new first rest = are_both rs qs old mid new first rest
-both rs qs None None (Some e) old mid new first rest = then_stops rs qs e rest
-both rs qs None (Some d) None old mid new first rest = absurd cc
-both rs qs None (Some d) (Some e) old mid new first rest =
-    first_stops rs qs e (subst (λ (x : Option Error). WritesFrom rs None old x mid) (sym rest) first)
+both rs qs a b c old mid new h1 h2 = grind (arith, are_both, first_stops, then_stops)
 
 -- the same as a record, of which a chain of rows is made without its arguments
 pub record Steps (rows : List Row) (a : Option Error) (old : Members) (b : Option Error) (new : Members) : Type 0 where
@@ -72,8 +64,7 @@ first then rest = record { goes = both _ _ _ _ _ _ _ _ first rest.goes }
 
 nothing_more : (a : Option Error) (ms : Members) → WritesFrom [] a ms a ms
 unfolding WritesFrom
-nothing_more None ms = refl
-nothing_more (Some e) ms = refl
+nothing_more a ms = grind arith
 
 pub done : {a : Option Error} {ms : Members} → Steps [] a ms a ms
 done = record { goes = nothing_more _ _ }
@@ -97,16 +88,12 @@ no_rows (r ∷ rs) old new e (inr h) (mid, row, rest) = no_rows rs mid new e h r
 
 -- the answer of a writing from its start to its end
 refuses : {X : Type 0} (rows : X → List Row) (x : X) (e : Error) → (e ≡ Memory) ⊎ AreRefused (rows x) e → (e ≡ Memory) ⊎ Refuses (table_way rows) x e
-refuses rows x e (inl memory) = inl memory
-refuses rows x e (inr h) = inr (λ d (ms, is, written). no_rows (rows x) no_members ms e h written, h)
+refuses rows x e h1 = grind (arith, no_rows)
 
 from_start : {X : Type 0} (rows : X → List Row) (x : X) (fault : Option Error) (ms : Members) (answer : Result Value Error)
     → WritesFrom (rows x) None no_members fault ms → WritingEnds fault ms answer → IsWriting (table_way rows) x answer
 unfolding WritesFrom
-from_start rows x None ms (Ok v) goes (no_fault, is) = (ms, is, goes)
-from_start rows x (Some d) ms (Ok v) goes (no_fault, is) = absurd cc
-from_start rows x fault ms (Err e) goes end =
-    refuses rows x e (subst (λ (f : Option Error). WritesFrom (rows x) None no_members f ms) end goes)
+from_start rows x fault ms answer h1 h2 = grind (arith, refuses)
 
 pub ends : {X : Type 0} (rows : X → List Row) (x : X) (answer : Result Value Error) {a b : Option Error} {old new : Members}
     → a ≡ None → old ≡ no_members → Steps (rows x) a old b new → WritingEnds b new answer → IsWriting (table_way rows) x answer
@@ -125,12 +112,10 @@ given_as {X = X} key way x y a b old new same goes = subst (λ (z : X). WritesFr
 
 -- what is told besides holds of the value
 pub refused_too : {X : Type 0} (P : X → Type 0) (way : Way X) (x : X) (e : Error) → IsWriting way x (Err e) → IsWriting (telling P way) x (Err e)
-refused_too P way x e (inl memory) = inl memory
-refused_too P way x e (inr (none, fault)) = inr (λ d (also, tree). none d tree, fault)
+refused_too P way x e h1 = grind arith
 
 pub also_told : {X : Type 0} (P : X → Type 0) (way : Way X) (x : X) (answer : Result Value Error) → P x → IsWriting way x answer → IsWriting (telling P way) x answer
-also_told P way x (Ok v) told tree = (told, tree)
-also_told P way x (Err e) told refused = refused_too P way x e refused
+also_told P way x answer h1 h2 = grind (arith, refused_too)
 
 -- the rows make the new members of the old ones
 pub record Told (rows : List Row) (old new : Members) : Type 0 where
@@ -297,13 +282,11 @@ module _ {X M : Type 0} (way : Way M) (meaning : X → M) where
   gather_end es rest ps so_far nothing = so_far.writes None (members_view ps) (rw nothing refl)
 
   not_held : (x : M) → ((d : Data) → ¬ (way.trees x d)) → (o : Option Data) → ¬ (IsHeld way (Some x) o)
-  not_held x none None h = h
-  not_held x none (Some d) h = none d h
+  not_held x h1 h2 h3 = grind arith
 
   stops : (es rest : List (String Global × X)) (e : String Global × X) (fault : Error) → IsWriting way (meaning e.1) (Err fault)
       → (fault ≡ Memory) ⊎ AreRefused (entry_rows way (meant meaning (e ∷ rest))) fault
-  stops es rest e fault (inl memory) = inl memory
-  stops es rest e fault (inr refused) = inr (inl (not_held (meaning e.1) refused.0, refused.1))
+  stops es rest e fault h1 = grind (arith, not_held)
 
   pub gather_err : (es rest : List (String Global × X)) (ps : List Entry) (e : String Global × X) (fault : Error)
       → Gathers es (e ∷ rest) ps → IsWriting way (meaning e.1) (Err fault) → AreGathered (entry_rows way (meant meaning es)) (Err fault)
@@ -320,8 +303,7 @@ map_err {M = M} way es fault refused =
 
 -- a feature without a detail is written as its list
 pub as_list : (enables : List (List ℕ)) (r : Result Value Error) → IsWriting texts_way enables r → IsWriting feature_way (enables, None) r
-as_list enables (Ok v) written = written
-as_list enables (Err e) fault = fault
+as_list enables r h1 = grind arith
 
 pub features_err : (fs : FeaturesMeaning) (e : Error) → IsWriting (map_way feature_way) (told_features fs) (Err e) → IsWriting features_way fs (Err e)
 features_err fs e (inl memory) = inl memory
@@ -329,8 +311,7 @@ features_err fs e (inr (none, fault)) = inr (λ d (details, tree). none d tree, 
 
 -- what is said of a name, looked up in the map
 choose : (b : Bool) (x : FeatureDetail) (r : Option FeatureDetail) (s : Option Detail) → s ≡ option_map detail_of r → cond b (Some (detail_of x)) s ≡ option_map detail_of (cond b (Some x) r)
-choose true x r s e = refl
-choose false x r s e = e
+choose b x r s h1 = grind arith
 
 in_entries : (name : List ℕ) (es : List (String Global × FeatureDetail))
     → detail_under name (pairs_meaning detail_of es) ≡ option_map detail_of (lookup (is_at (λ k. slice_cmp nat_cmp name (string_bytes k))) es)

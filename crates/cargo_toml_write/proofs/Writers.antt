@@ -18,7 +18,7 @@ pub use Rattle.cargo_toml_write.specs.Writes.{IsWriting, put_member, table_way}
 pub use Rattle.cargo_toml_write.specs.WrittenDependencies.{detail_rows, detail_under, feature_way, features_in, features_way, inherited_rows, target_rows, told_features, told_rows}
 pub use Rattle.cargo_toml_write.specs.WrittenPackages.{package_rows, template_rows, workspace_rows}
 pub use Rattle.cargo_toml_write.specs.WrittenTables.{badge_rows, badges_rows, lint_rows, maintenance_rows, product_rows, profile_rows, profiles_rows}
-pub use Rattle.std.proofs.Common.{◌∙◌, ◌≡◌, Err, Global, List, Option, String, ap, arith, codes, false, is_some, map, option_copied, option_map, refl, rules, string_bytes, subst, sym, true, ℕ}
+pub use Rattle.std.proofs.Common.{◌∙◌, ◌≡◌, Err, Global, List, Option, String, ap, arith, codes, false, is_some, map, option_copied, option_map, refl, rules, string_bytes, subst, sym, ℕ}
 pub use Rattle.std.proofs.lemmas.Result.{err_from_is_err_and}
 pub use Rattle.std.specs.Map.{keys_of}
 pub use Rattle.toml.proofs.Views.{view-Array, view-String, view-Table}

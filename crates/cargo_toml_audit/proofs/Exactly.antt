@@ -14,7 +14,7 @@ use Rattle.cargo_toml_audit.specs.Noted.{Asking, GainsExactly, asking_for, askin
 use Rattle.cargo_toml_audit.specs.contracts.audit.UseOrd.TheImpl as use_order
 use Rattle.cargo_toml_audit.specs.contracts.audit.UseOrd.TheImpl.Laws as laws
 use Rattle.cargo_toml_audit.specs.declared.audit.Use.{Use}
-use Rattle.cargo_toml_audit.proofs.Grown.{flat_flat}
+use Rattle.cargo_toml_tools.proofs.Grown.{flat_flat}
 use Rattle.cargo_toml_audit.proofs.Inserted.{adds, in_either, in_first, in_second, keeps, there}
 
 module _ {X : Type 0} where

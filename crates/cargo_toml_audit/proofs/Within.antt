@@ -1,13 +1,13 @@
 -- A folder that lies in another, by its path.
-use Rattle.std.proofs.Common.{◌≡◌, ◌++◌, ◌&&◌, ◌||◌, ◌∙◌, true, false, [], ◌∷◌, ℕ, codes, drop, length, length-append, nat_eq, refl, sym, ap, append_assoc, append-nil, inl, inr, arith}
-use Rattle.std.specs.Prelude.{◌==◌, bytes_eq, not}
-use Rattle.std.proofs.lemmas.Bool.{and_from, cases_Bool, cond-false, or_cases, or_left}
+use Rattle.std.proofs.Common.{◌≡◌, ◌++◌, ◌&&◌, ◌||◌, ◌∙◌, true, false, [], ◌∷◌, ℕ, codes, drop, length, nat_eq, refl, sym, ap, append_assoc, append-nil, inl, inr, arith}
+use Rattle.std.specs.Prelude.{◌==◌, bytes_eq}
+use Rattle.std.proofs.lemmas.Bool.{cases_Bool, or_cases}
 use Rattle.std.proofs.lemmas.Bool.Decides.{Decides-eqb}
 use Rattle.std.proofs.lemmas.Slice.Eq.{bytes_eq-Decides, starts_is}
 use Rattle.std.specs.List.{starts_with}
 use borrow.Author.Tests.{ne_eqb}
 use Rattle.cargo_toml.specs.Action.{Text}
-use Rattle.cargo_toml_audit.specs.Places.{is_rooted, is_within, leads_out, lies_under}
+use Rattle.cargo_toml_audit.specs.Places.{is_rooted, is_within}
 
 same_number : (n : ℕ) → nat_eq n n ≡ true
 same_number n = (Decides-eqb n n).1 refl
@@ -46,20 +46,3 @@ not_within folder outer apart = elim (cases_Bool (is_within folder outer)) [
   ])
   | inr e ↦ sym e
 ]
-
--- a path lies in itself
-pub lies_in_itself : (path : Text) → lies_under path path ≡ true
-lies_in_itself path = elim (cases_Bool (bytes_eq path (codes "."))) [
-  | inl here ↦ ap (λ p. lies_under p p) ((bytes_eq-Decides path (codes ".")).0 here)
-  | inr apart ↦ cond-false (bytes_eq path (codes ".")) (not (leads_out path)) (is_within path path && not (is_within path (path ++ codes "/.."))) apart
-      ∙ and_from (is_within path path) (not (is_within path (path ++ codes "/..")))
-      (or_left (bytes_eq path path) (starts_with nat_eq path (path ++ codes "/")) ((bytes_eq-Decides path path).1 refl))
-      (ap not (sym (not_within path (path ++ codes "/..") longer)))
-]
-  where
-    longer : (rest : Text) → path ≡ (path ++ codes "/..") ++ rest → ⊥
-    longer rest is =
-        let all = ap length is in
-        let whole = length-append (path ++ codes "/..") rest in
-        let front = length-append path (codes "/..") in
-        omega (arith, all, whole, front)

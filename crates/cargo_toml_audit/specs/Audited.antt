@@ -15,21 +15,7 @@ use Rattle.cargo_toml.specs.InheritedPackages.{field_is_left, is_left_there}
 use Rattle.cargo_toml.specs.Manifests.{ManifestMeaning}
 use Rattle.cargo_toml.specs.Packages.{PackageMeaning}
 use Rattle.cargo_toml.specs.Settings.{Registries, among, edition_text, everywhere}
-use Rattle.cargo_toml_audit.specs.declared.audit.Code.{Code}
-use Rattle.cargo_toml_audit.specs.declared.audit.Code.TheVariants.{Incomplete, ListedTwice}
-use Rattle.cargo_toml_audit.specs.declared.audit.Code.TheVariants.{OtherEdition, OtherLicense}
-use Rattle.cargo_toml_audit.specs.declared.audit.Code.TheVariants.{Outside, SeveralRequirements}
-use Rattle.cargo_toml_audit.specs.declared.audit.Code.TheVariants.{UnusedDependency}
 use Rattle.cargo_toml_audit.specs.declared.audit.Member.{Member}
-
-abbrev pub word_of : Code → Text
-word_of Incomplete = codes "incomplete"
-word_of ListedTwice = codes "listed-twice"
-word_of OtherEdition = codes "other-edition"
-word_of OtherLicense = codes "other-license"
-word_of Outside = codes "outside"
-word_of SeveralRequirements = codes "several-requirements"
-word_of UnusedDependency = codes "unused-dependency"
 
 -- the names of registries, with a comma between each two; none at all is `no`
 abbrev pub names_text : List Text → Text

@@ -1,14 +1,13 @@
 -- The keys that a manifest leaves to its workspace.
 use Rattle.std.specs.Prelude.{◌++◌, Bool, List, [], ◌∷◌, map, codes, filter}
-use Rattle.std.specs.List.{flat_map}
 use Rattle.std.specs.Option.{option_map_or}
 use Rattle.cargo_toml.specs.Action.{Text}
-use Rattle.cargo_toml.specs.InheritedDependencies.{Entries, is_left}
+use Rattle.cargo_toml.specs.InheritedDependencies.{is_left}
 use Rattle.cargo_toml.specs.InheritedPackages.{field_is_left, leavable_rows}
 use Rattle.cargo_toml.specs.Kind.{Kind}
 use Rattle.cargo_toml.specs.Kind.TheVariants.{Build, Dev, Normal}
 use Rattle.cargo_toml.specs.Manifests.{ManifestMeaning}
-use Rattle.cargo_toml_audit.specs.TablesByKind.{all_by_kind}
+use Rattle.cargo_toml_audit.specs.Entries.{Listed, entries_of}
 
 -- the keys of the rows that are left to the workspace
 abbrev pub left_rows : List (Text × Bool) → List Text
@@ -25,13 +24,12 @@ table_name Normal = codes "dependencies"
 table_name Dev = codes "dev-dependencies"
 table_name Build = codes "build-dependencies"
 
--- the dependencies of a table that are left, as `TABLE.KEY`
-abbrev pub left_in : Text → Entries → List Text
-left_in table es = map (λ e. table ++ codes "." ++ e.0) (filter (λ e. is_left e.1) es)
+-- the dependencies that are left, as `TABLE.KEY`
+abbrev pub left_key : Listed → Text
+left_key e = table_name e.0 ++ codes "." ++ e.1.0
 
--- those of several tables, one after the other
-abbrev pub left_in_tables : List (Kind × Entries) → List Text
-left_in_tables ts = flat_map (λ t. left_in (table_name t.0) t.1) ts
+abbrev pub left_dependencies : List Listed → List Text
+left_dependencies es = map left_key (filter (λ e. is_left e.1.1) es)
 
 abbrev pub left_keys : {M : Type 0} → ManifestMeaning M → List Text
-left_keys m = left_fields m ++ left_in_tables (all_by_kind m)
+left_keys m = left_fields m ++ left_dependencies (entries_of m)

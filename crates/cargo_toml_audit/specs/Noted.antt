@@ -6,14 +6,13 @@ use Rattle.std.specs.List.{flat_map}
 use Rattle.std.specs.Option.{option_map_or}
 use Rattle.std.specs.declared.alloc.Global.{Global}
 use Rattle.cargo_toml.specs.Action.{Text}
-use Rattle.cargo_toml.specs.Dependencies.{DependencyMeaning, package_of}
+use Rattle.cargo_toml.specs.Dependencies.{package_of}
 use Rattle.cargo_toml.specs.Error.{Error, Memory}
-use Rattle.cargo_toml.specs.InheritedDependencies.{Entries, is_left}
-use Rattle.cargo_toml.specs.Kind.{Kind}
+use Rattle.cargo_toml.specs.InheritedDependencies.{is_left}
 use Rattle.cargo_toml.specs.Manifests.{ManifestMeaning}
 use Rattle.cargo_toml.specs.Reach.{Among}
-use Rattle.cargo_toml_audit.specs.Required.{required_version}
-use Rattle.cargo_toml_audit.specs.TablesByKind.{all_by_kind}
+use Rattle.cargo_toml_tools.specs.IndexEntries.{required_version}
+use Rattle.cargo_toml_audit.specs.Entries.{Listed, entries_of}
 use Rattle.cargo_toml.specs.Requirements.{requirement_text}
 use Rattle.cargo_toml_audit.specs.declared.audit.Audit.{Audit}
 use Rattle.cargo_toml_audit.specs.declared.audit.Use.{Use}
@@ -24,12 +23,9 @@ GainsExactly {X} these Old New = (x : X) → New x ↔ (Old x ⊎ Among these x)
 
 -- ---- the keys of the workspace that members inherit
 
--- the keys of a table's dependencies that are left to the workspace
-abbrev pub inherited_in : Entries → List Text
-inherited_in es = map (λ e. e.0) (filter (λ e. is_left e.1) es)
-
-abbrev pub inherited_in_all : List (Kind × Entries) → List Text
-inherited_in_all ts = flat_map (λ t. inherited_in t.1) ts
+-- the keys of the dependencies that are left to the workspace
+abbrev pub inherited_in : List Listed → List Text
+inherited_in es = map (λ e. e.1.0) (filter (λ e. is_left e.1.1) es)
 
 -- a set of keys has these more, and no others
 abbrev pub GainsKeys : List Text → BTreeSet (String Global) → BTreeSet (String Global) → Type 0
@@ -50,17 +46,14 @@ asking_for name requirement folder =
     record { name = name; requirement = requirement; folder = folder }
 
 -- what a dependency asks for, under its key. Without a requirement it asks for nothing
-abbrev pub asked_by : Text → Text × DependencyMeaning → List Asking
+abbrev pub asked_by : Text → Listed → List Asking
 asked_by folder e =
     option_map_or
-    (λ r. asking_for (unwrap_or (package_of e.1) e.0) (requirement_text r) folder ∷ [])
-    (required_version e.1) []
+    (λ r. asking_for (unwrap_or (package_of e.1.1) e.1.0) (requirement_text r) folder ∷ [])
+    (required_version e.1.1) []
 
-abbrev pub asked_in : Text → Entries → List Asking
+abbrev pub asked_in : Text → List Listed → List Asking
 asked_in folder es = flat_map (asked_by folder) es
-
-abbrev pub asked_in_all : Text → List (Kind × Entries) → List Asking
-asked_in_all folder ts = flat_map (λ t. asked_in folder t.1) ts
 
 -- a report has noted these uses
 abbrev pub asking_of : Use → Asking
@@ -79,5 +72,5 @@ GainsUses asked old new =
 pub record NotesUses {M : Type 0} (folder : Text) (m : ManifestMeaning M)
     (result : Result (Unit {0}) Error) (old new : Audit) : Type 0 where
   pub inherited : new.inherited ≡ old.inherited
-  pub all : OnOk result (GainsUses (asked_in_all folder (all_by_kind m)) old.uses new.uses)
+  pub all : OnOk result (GainsUses (asked_in folder (entries_of m)) old.uses new.uses)
   pub none : IfErr result (λ e. (e ≡ Memory) ⊎ (new ≡ old))

@@ -1,6 +1,6 @@
 -- Paths of folders: a path is its bytes, and its names stand between slashes.
 use Rattle.std.specs.Prelude.{◌≡◌, ◌++◌, ◌&&◌, ◌||◌, ◌==◌, Bool, true, false}
-use Rattle.std.specs.Prelude.{if◌then◌else◌, not}
+use Rattle.std.specs.Prelude.{if◌then◌else◌, filter, not}
 use Rattle.std.specs.Prelude.{List, [], ◌∷◌, bytes_eq, codes, length, nat_eq}
 use Rattle.std.specs.List.{ends_with, join_with_byte, list_any, slice_split, starts_with}
 use Rattle.cargo_toml.specs.Action.{Text}
@@ -53,37 +53,42 @@ abbrev pub path_below : Text → Text → Text
 path_below folder name =
     folder ++ ((if length folder == 0 || is_closed folder then [] else codes "/") ++ name)
 
--- the path of a folder that is seen from a root, and that of its manifest
-abbrev pub seen_from : Text → Text → Text
-seen_from root folder =
-    if is_nothing folder then root else if is_rooted folder then folder else path_below root folder
+-- a path that is written in a folder: below it, unless it begins with a slash
+abbrev pub path_from : Text → Text → Text
+path_from folder path = if is_rooted path then path else path_below folder path
 
-abbrev pub manifest_path : Text → Text → Text
-manifest_path root folder = path_below (seen_from root folder) (codes "Cargo.toml")
+-- the place to which such a path leads
+abbrev pub place_of : Text → Text → Text
+place_of folder path = normalized (path_from folder path)
+
+abbrev pub manifest_path : Text → Text
+manifest_path folder = path_below folder (codes "Cargo.toml")
 
 -- a path is another, or goes on behind it
 abbrev pub is_within : Text → Text → Bool
 is_within path front =
     bytes_eq path front || starts_with nat_eq path (front ++ codes "/")
 
--- a normalized path that leads out of the folder in which it is seen
-abbrev pub leads_out : Text → Bool
-leads_out path = is_rooted path || is_within path (codes "..")
+-- a place is another, or lies in it
+abbrev pub lies_in : Text → Text → Bool
+lies_in place outer = bytes_eq outer (codes "/") || is_within place outer
 
--- a folder is another, or lies in it, by their normalized paths. In `.` lies what doesn't lead out,
--- and in `..` nothing that goes on with one more `..`
-abbrev pub lies_under : Text → Text → Bool
-lies_under folder outer =
-    if bytes_eq outer (codes ".") then not (leads_out folder)
-    else is_within folder outer && not (is_within folder (outer ++ codes "/.."))
+-- a path as Cargo compares it: with no `.` in it, and with each `..` as it is written
+abbrev pub compared : Text → Text
+compared path =
+    or_dot (root_of path
+    ++ join_with_byte 47 (filter (λ name. not (is_nothing name)) (pieces path)))
 
--- a folder is one of these, as they are written, or lies in one
-abbrev pub lies_in : Text → List Text → Bool
-lies_in folder folders = list_any (λ outer. lies_under folder (normalized outer)) folders
+-- a path is one of these entries of a list in a folder, or lies in one
+abbrev pub lies_in_some : Text → Text → List Text → Bool
+lies_in_some root path entries = list_any (λ e. lies_in path (compared (path_from root e))) entries
 
--- a folder is excluded, and lies in none that `members` names as it is written
-abbrev pub is_excluded : List Text → List Text → Text → Bool
-is_excluded members excluded folder = lies_in folder excluded && not (lies_in folder members)
+-- a workspace excludes a place: its manifest lies in what is excluded, and in no entry of `members`
+-- as that is written
+abbrev pub excludes : Text → List Text → List Text → Text → Bool
+excludes root excluded members place =
+    lies_in_some root (manifest_path place) excluded
+    && not (lies_in_some root (manifest_path place) members)
 
 -- names that are settled already
 abbrev pub is_settled : List Text → Bool

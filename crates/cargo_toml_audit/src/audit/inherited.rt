@@ -7,15 +7,14 @@ ghost use Rattle.cargo_toml.specs.InheritedDependencies.{is_left};
 ghost use Rattle.cargo_toml.specs.InheritedPackages.{is_left_there, leavable_rows};
 ghost use Rattle.cargo_toml.specs.Manifests.{held};
 ghost use Rattle.cargo_toml.specs.Packages.{held_package};
-ghost use Rattle.cargo_toml_dependencies.specs.Replacing.{entries_meaning};
-ghost use Rattle.cargo_toml_audit.specs.Checked.{own_by_kind};
-ghost use Rattle.cargo_toml_audit.specs.TablesByKind.{all_by_kind};
-ghost use Rattle.cargo_toml_audit.specs.LeftKeys.{left_fields, left_in, left_in_tables};
-ghost use Rattle.cargo_toml_audit.specs.LeftKeys.{left_rows};
-ghost use Rattle.cargo_toml_audit.specs.Noted.{GainsKeys, inherited_in, inherited_in_all};
+ghost use Rattle.cargo_toml_audit.specs.Entries.{listed_of};
+ghost use Rattle.cargo_toml_audit.specs.LeftKeys.{left_dependencies, left_fields, left_rows};
+ghost use Rattle.cargo_toml_audit.specs.LeftKeys.{table_name};
+ghost use Rattle.cargo_toml_audit.specs.Noted.{GainsKeys, inherited_in};
 
-use crate::tables::Tables;
-use cargo_toml::{Dependency, DepsSet, Inheritable, Manifest, Package};
+use super::entries::Entry;
+use cargo_toml::features::Kind;
+use cargo_toml::{Dependency, Inheritable, Manifest, Package};
 use std::alloc::{AllocError, Global};
 use std::collections::BTreeSet;
 
@@ -99,89 +98,55 @@ fn add_row(alloc: Global, keys: &mut Vec<String>, row: Row) -> Result<(), AllocE
 
 /// Adds the dependencies that are left to the workspace to the keys of this member, with the table
 /// in front, and to those of all members.
-pub fn add_inherited_dependencies<M>(
-    manifest: &Manifest<M>,
+pub fn add_inherited(
+    entries: &[Entry<'_>],
     keys: &mut Vec<String>,
     all: &mut BTreeSet<String>,
 ) -> Result<(), AllocError>
     ensures keys { OnOk result (map string_bytes keys.new.items
-        ≡ map string_bytes keys.old.items ++ left_in_tables (all_by_kind (held manifest.now))) }
+        ≡ map string_bytes keys.old.items ++ left_dependencies (map listed_of entries.now)) }
     ensures all { OnOk result
-        (GainsKeys (inherited_in_all (all_by_kind (held manifest.now))) all.old all.new) }
+        (GainsKeys (inherited_in (map listed_of entries.now)) all.old all.new) }
 {
-    let own = Tables {
-        normal: &manifest.dependencies,
-        dev: &manifest.dev_dependencies,
-        build: &manifest.build_dependencies,
-    };
-    add_tables(own, keys, all)?;
-    for (_, target) in &manifest.target {
-        let tables = Tables {
-            normal: &target.dependencies,
-            dev: &target.dev_dependencies,
-            build: &target.build_dependencies,
-        };
-        add_tables(tables, keys, all)?;
+    for entry in entries {
+        add_entry(*entry, keys, all)?;
     }
     Ok(())
 }
 
-fn add_tables(
-    tables: Tables<'_>,
+fn add_entry(
+    entry: Entry<'_>,
     keys: &mut Vec<String>,
     all: &mut BTreeSet<String>,
 ) -> Result<(), AllocError>
     ensures keys { OnOk result (map string_bytes keys.new.items
-        ≡ map string_bytes keys.old.items ++ left_in_tables (own_by_kind tables.entry)) }
+        ≡ map string_bytes keys.old.items ++ left_dependencies (listed_of entry.entry ∷ [])) }
     ensures all { OnOk result
-        (GainsKeys (inherited_in_all (own_by_kind tables.entry)) all.old all.new) }
+        (GainsKeys (inherited_in (listed_of entry.entry ∷ [])) all.old all.new) }
 {
-    add_table(tables.normal, "dependencies", keys, all)?;
-    add_table(tables.dev, "dev-dependencies", keys, all)?;
-    add_table(tables.build, "build-dependencies", keys, all)
-}
-
-fn add_table(
-    table: &DepsSet,
-    name: &str,
-    keys: &mut Vec<String>,
-    all: &mut BTreeSet<String>,
-) -> Result<(), AllocError>
-    ensures keys { OnOk result (map string_bytes keys.new.items
-        ≡ map string_bytes keys.old.items ++ left_in name.now (entries_meaning table.now)) }
-    ensures all { OnOk result
-        (GainsKeys (inherited_in (entries_meaning table.now)) all.old all.new) }
-{
-    for (key, dependency) in table {
-        add_dependency(key, dependency, name, keys, all)?;
-    }
-    Ok(())
-}
-
-/// Adds a dependency where it is left to the workspace.
-fn add_dependency(
-    key: &String,
-    dependency: &Dependency,
-    table: &str,
-    keys: &mut Vec<String>,
-    all: &mut BTreeSet<String>,
-) -> Result<(), AllocError>
-    ensures keys { OnOk result (map string_bytes keys.new.items ≡ map string_bytes keys.old.items
-        ++ left_in table.now ((string_bytes key.now, dependency_meaning dependency.now) ∷ [])) }
-    ensures all { OnOk result (GainsKeys
-        (inherited_in ((string_bytes key.now, dependency_meaning dependency.now) ∷ []))
-        all.old all.new) }
-{
-    if !is_left(dependency) {
+    if !is_left(entry.dependency) {
         return Ok(());
     }
     let alloc = *keys.allocator();
+    let key = entry.key;
+    let table = table_name(entry.kind);
     keys.push(format!(in alloc; "{table}.{key}")?)?;
-    all.insert(key.clone()?)?;
+    all.insert(String::from_str(alloc, key)?)?;
     Ok(())
 }
 
-fn is_left(dependency: &Dependency) -> bool
+fn table_name(kind: Kind) -> &'static str
+    ensures { result.now ≡ table_name kind }
+{
+    match kind {
+        Kind::Normal => "dependencies",
+        Kind::Dev => "dev-dependencies",
+        Kind::Build => "build-dependencies",
+    }
+}
+
+/// Whether a dependency is left to the workspace.
+pub fn is_left(dependency: &Dependency) -> bool
     ensures { result ≡ is_left (dependency_meaning dependency.now) }
 {
     matches!(dependency, Dependency::Inherited(_))

@@ -3,7 +3,7 @@ use Rattle.std.proofs.lemmas.Iterator.{YieldsList-from_slice}
 use Rattle.std.proofs.lemmas.Iterator.Search.{all_from_yields_List}
 use Rattle.cargo_toml_audit.specs.Noted.{asking_of}
 use Rattle.cargo_toml_audit.specs.Overall.{has_same_requirement}
-use Rattle.cargo_toml_audit.proofs.Grown.{all_mapped}
+use Rattle.cargo_toml_tools.proofs.Grown.{all_mapped}
 use Rattle.cargo_toml_audit.proofs.Using.{use_lent}
 use Rattle.cargo_toml_audit.proofs.audit.uses.is_single.Goals as goal
 

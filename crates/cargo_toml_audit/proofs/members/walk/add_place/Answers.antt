@@ -1,0 +1,17 @@
+use Rattle.std.proofs.Common.{◌++◌, ◌∷◌, [], ◌∙◌, ap, append-nil, false, if◌then◌else◌, map, string_bytes, sym, true}
+use Rattle.cargo_toml_audit.specs.MemberFolders.{is_folder}
+use Rattle.cargo_toml_audit.specs.Places.{normalized}
+use Rattle.cargo_toml_audit.proofs.Kept.{pushed}
+use Rattle.cargo_toml_audit.proofs.Walked.{adds_if}
+use Rattle.cargo_toml_audit.proofs.members.walk.add_place.Goals as goal
+
+pub returns-then-not-is_folder : goal.returns-then-not-is_folder
+returns-then-not-is_folder g c =
+    adds_if _ _ c.args.path.now _ is_folder false (λ b. map normalized (if b then c.args.path.now ∷ [] else [])) c.args.places.now.items _
+    c.in_ok-look_at.ensures (sym c.is_folder.ensures ∙ c.if-not-is_folder.true) (sym (append-nil (map string_bytes c.args.places.now.items)))
+
+pub returns : goal.returns
+returns g c =
+    adds_if _ _ c.args.path.now _ is_folder true (λ b. map normalized (if b then c.args.path.now ∷ [] else [])) c.args.places.now.items _
+    c.in_ok-look_at.ensures (sym c.is_folder.ensures ∙ c.if-not-is_folder.false)
+    (pushed string_bytes _ c.args.places.now.items _ c.in_ok-push.ensures.items ∙ ap (λ s. map string_bytes c.args.places.now.items ++ s ∷ []) c.in_ok-normalized.ensures)

@@ -9,12 +9,10 @@ pub mod Left
 pub mod Listing
 pub mod Matched
 pub mod Repeated
-pub mod Settled
 pub mod Sorting
 pub mod Summed
 pub mod Taking
 pub mod Using
 pub mod Walked
 pub mod Walking
-pub mod Within
-pub mod Yielded
+pub mod Joined

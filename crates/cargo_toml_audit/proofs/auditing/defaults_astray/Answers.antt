@@ -6,7 +6,7 @@ use Rattle.cargo_toml_audit.specs.AuditedFiles.{any_astray, base_of, is_excluded
 use Rattle.cargo_toml_audit.specs.MemberFolders.{places_if_right}
 use Rattle.cargo_toml_tools.proofs.Grown.{left_next}
 use Rattle.cargo_toml_audit.proofs.Kept.{picked_end, picked_on, picked_past, pushed}
-use Rattle.cargo_toml_audit.proofs.files.auditing.defaults_astray.Goals as goal
+use Rattle.cargo_toml_audit.proofs.auditing.defaults_astray.Goals as goal
 
 pub loop-entry-init : goal.loop-entry-init
 loop-entry-init g c = λ d h. (

@@ -3,7 +3,7 @@ use Rattle.std.specs.Prelude.{filter}
 use Rattle.cargo_toml_audit.specs.AuditSteps.{known_of}
 use Rattle.cargo_toml_audit.specs.AuditedFiles.{base_of, is_excluded, leads_astray}
 use Rattle.cargo_toml_audit.specs.MemberFolders.{Agrees, Disk, places_if_right}
-use Rattle.cargo_toml_audit.proofs.files.auditing.defaults_astray.Given as goal
+use Rattle.cargo_toml_audit.proofs.auditing.defaults_astray.Given as goal
 
 abbrev pub invariant-loop-entry : goal.invariant-loop-entry
 invariant-loop-entry g l =

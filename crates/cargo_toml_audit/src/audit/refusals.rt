@@ -34,7 +34,7 @@ pub fn refusal_rows<M>(
     let is_named = named.is_some();
     let lacks_lints = root.workspace.lints.is_empty();
     let leaves_lints = !written.lints.is_set();
-    let is_within = place != root.place;
+    let is_apart = place != root.place;
     let not_inherited = has_false(alloc, written)?;
     Ok([
         (Code::Features, has_errors),
@@ -43,7 +43,7 @@ pub fn refusal_rows<M>(
         (Code::OtherWorkspace, is_elsewhere & !has_own),
         (Code::Outside, !is_own & !is_named),
         (Code::TwoWorkspaces, is_named & has_own),
-        (Code::WorkspaceWithin, has_own & is_within),
+        (Code::WorkspaceWithin, has_own & is_apart),
     ])
 }
 

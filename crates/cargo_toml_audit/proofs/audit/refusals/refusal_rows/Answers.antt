@@ -1,4 +1,4 @@
-use Rattle.std.proofs.Common.{◌≡◌, ◌&&◌, ◌∙◌, ◌∷◌, [], Bor, List, Option, None, Some, ap, bytes_eq, is_some, not, option_map, refl, rules, sym}
+use Rattle.std.proofs.Common.{◌≡◌, ◌&&◌, ◌∙◌, ◌∷◌, [], Bor, List, Option, None, Some, ap, is_some, not, option_map, refl, rules, sym}
 use Rattle.std.proofs.lemmas.Bool.Decides.{same_from_decides, Decides-eqb}
 use Rattle.std.specs.BTreeMap.{btree_map_len}
 use Rattle.cargo_toml.specs.Action.{Text}
@@ -25,4 +25,4 @@ returns g c =
     let elsewhere = c.in_ok-is_elsewhere.ensures ∙ ap (leads_elsewhere place root) c.named_by-named.ensures in
     λ i. (Features, c.args.has_errors) ∷ (NoLints, lacks i && lints i) ∷ (NotInherited, c.in_ok-not_inherited.ensures i)
     ∷ (OtherWorkspace, elsewhere i && not (own i)) ∷ (Outside, not c.args.at.1 && not (named i)) ∷ (TwoWorkspaces, named i && own i)
-    ∷ (WorkspaceWithin, own i && not (bytes_eq place root)) ∷ []
+    ∷ (WorkspaceWithin, own i && c.ne-is_apart.ensures i) ∷ []

@@ -1,12 +1,10 @@
 pub mod Inserted
+pub mod Joined
 pub mod Kept
 pub mod KeysInOrder
 pub mod Matched
 pub mod Repeated
-pub mod Settled
 pub mod Taking
 pub mod Walked
 pub mod Walking
 pub mod Walks
-pub mod Within
-pub mod Yielded

@@ -4,7 +4,7 @@ use Rattle.std.specs.Prelude.{List, [], ◌∷◌, Option, Some, IsTrue, bytes_e
 use Rattle.std.specs.Prelude.{if◌then◌else◌, is_none, map, not, option_map, string_bytes}
 use Rattle.std.specs.BTreeMap.{btree_map_len, get_by_text}
 use Rattle.std.specs.IoError.{error_kind}
-use Rattle.std.specs.List.{AllByRecursion, flat_map, list_any}
+use Rattle.std.specs.List.{flat_map, list_any}
 use Rattle.std.specs.Option.{option_map_or}
 use Rattle.toml.specs.declared.value.Value.{Value}
 use Rattle.cargo_toml.specs.Action.{Text}
@@ -17,7 +17,7 @@ use Rattle.cargo_toml.specs.Faults.{IsOther}
 use Rattle.cargo_toml.specs.InheritedDependencies.{is_left}
 use Rattle.cargo_toml.specs.Manifest.{Manifest}
 use Rattle.cargo_toml.specs.Manifests.{held}
-use Rattle.cargo_toml.specs.Reach.{Among, IsOnce}
+use Rattle.cargo_toml.specs.Reach.{Among}
 use Rattle.cargo_toml.specs.Reads.{map_meaning}
 use Rattle.cargo_toml.specs.RealFiles.{IsCompletionFault, is_absent, real_folders}
 use Rattle.cargo_toml.specs.RealFiles.{real_roots}
@@ -106,13 +106,6 @@ has_error xs = list_any (λ x. is_error (code_level x.code)) xs
 abbrev pub HasErrors : Manifest Value → Bool → Type 0
 HasErrors m errors =
     (xs : List Finding) × (AreFindingsOf (held m) xs × (errors ≡ has_error xs))
-
--- the places that are looked at: the first ones, and what manifests that were read lead to
-pub data Reached (needs : Reading → List Text) (first : List Text) (readings : List Reading)
-    : Text → Type 0 where
-  entered : {p : Text} → Among first p → Reached needs first readings p
-  needed : (r : Reading) {p : Text} → Reached needs first readings r.place → Among readings r
-      → Among (needs r) p → Reached needs first readings p
 
 abbrev pub places_read : List Reading → List Text
 places_read readings = map (λ r. r.place) readings
@@ -264,15 +257,22 @@ module _ (base : Base) where
   IsContent is_listed place (belongs own errors m made) =
       IsMemberAt is_listed place own errors m made
 
-  abbrev pub needs_read : Reading → List Text
-  needs_read r = needs_of r.place r.content
+  -- what is read of the places that wait, the last one first: of each that was neither read before
+  -- nor is excluded. What it leads to waits behind the others.
+  pub data Reads (first : List Text) : List Text → List Reading → List Reading → Type 0 where
+    ended : (read : List Reading) → Reads first [] read read
+    passed : (p : Text) (waiting : List Text) (read all : List Reading)
+        → (is_in (places_read read) p || is_excluded p) ≡ true
+        → Reads first waiting read all → Reads first (waiting ++ p ∷ []) read all
+    looked : (p : Text) (content : Content) (waiting : List Text) (read all : List Reading)
+        → (is_in (places_read read) p || is_excluded p) ≡ false
+        → IsContent (is_in first p) p content
+        → Reads first (waiting ++ needs_of p content)
+        (read ++ record { place = p; content = content } ∷ []) all
+        → Reads first (waiting ++ p ∷ []) read all
 
-  -- all that is looked at from these places on, each once, and no more: what was read there
-  pub record AreRead (first : List Text) (readings : List Reading) : Type 0 where
-    pub each : AllByRecursion (λ r. IsContent (is_in first r.place) r.place r.content) readings
-    pub once : IsOnce (places_read readings)
-    pub exact : (p : Text) → Among (places_read readings) p
-        ↔ (Reached needs_read first readings p × (is_excluded p ≡ false))
+  abbrev pub AreRead : List Text → List Reading → Type 0
+  AreRead first readings = Reads first first [] readings
 
   -- ---- the report
   module _ (disk : Disk) where

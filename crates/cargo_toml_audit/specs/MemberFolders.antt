@@ -14,12 +14,11 @@ use Rattle.std.specs.declared.fs.attrs.Metadata.{Metadata}
 use Rattle.std.specs.declared.io.Error.{Error as IoError}
 use Rattle.cargo_toml.specs.Action.{Text}
 use Rattle.cargo_toml.specs.RealFiles.{is_absent}
-use Rattle.cargo_toml_audit.specs.Patterns.{Part, is_deep, is_pattern, just, many, matches}
-use Rattle.cargo_toml_audit.specs.Patterns.{one, parts_of, within, without}
+use Rattle.cargo_toml_audit.specs.Patterns.{Part, begins_with_dot, is_deep, is_pattern}
+use Rattle.cargo_toml_audit.specs.Patterns.{matches, parts_of}
 use Rattle.cargo_toml_audit.specs.Places.{is_rooted, normalized, path_below, pieces, place_of}
 use Rattle.cargo_toml_audit.specs.declared.members.walk.Listing.{Listing}
 use Rattle.cargo_toml_audit.specs.declared.members.walk.Looks.{Looks}
-use Rattle.cargo_toml_audit.specs.declared.members.walk.Step.{Step}
 use Rattle.cargo_toml_audit.specs.declared.members.walk.There.{There}
 use Rattle.cargo_toml_audit.specs.declared.members.walk.There.TheVariants.{Folder, Nothing, Other}
 use Rattle.cargo_toml_audit.specs.declared.members.walk.There.TheVariants.{Unseen}
@@ -45,11 +44,12 @@ is_folder Other = false
 is_folder Nothing = false
 is_folder Unseen = false
 
-abbrev pub is_there : There → Bool
-is_there Folder = true
-is_there Other = true
-is_there Nothing = false
-is_there Unseen = true
+-- something lies there, or a folder where one is wanted
+abbrev pub is_there : Bool → There → Bool
+is_there wanted Folder = true
+is_there wanted Other = not wanted
+is_there wanted Nothing = false
+is_there wanted Unseen = not wanted
 
 -- ---- where an entry leads
 
@@ -58,89 +58,83 @@ abbrev pub named_so : Text → List Part → List Text → List Text
 named_so folder pattern names =
     map (path_below folder) (filter (λ name. matches pattern (chars name)) names)
 
--- a pattern that begins with a dot stands for `.` and `..` too, but not right behind `**`
-abbrev pub is_dot : Part → Bool
-is_dot (just c) = c == 46
-is_dot many = false
-is_dot one = false
-is_dot (within content) = false
-is_dot (without content) = false
-
-abbrev pub begins_with_dot : List Part → Bool
-begins_with_dot [] = false
-begins_with_dot (part ∷ pattern) = is_dot part
+abbrev pub with_dots : Bool → List Text → List Text
+with_dots wanted names = names ++ (if wanted then codes "." ∷ codes ".." ∷ [] else [])
 
 -- where the names of an entry begin
 abbrev pub begins_at : Text → Text → Text
 begins_at root entry = if is_rooted entry then codes "/" else root
 
--- a name that stands for itself; and one that leads no further, but is `**` or the empty one right
+-- a name that stands for itself; and one that leads no further: `**`, or the empty one right
 -- behind that
-abbrev pub is_plain : Text → Bool → Bool
-is_plain name behind_deep = not behind_deep && not (is_pattern name)
+abbrev pub is_plain : Bool → Text → Bool
+is_plain behind_deep name = not behind_deep && not (is_pattern name)
 
-abbrev pub skips : Text → Bool → Bool
-skips name behind_deep = is_deep name || (behind_deep && (length name == 0))
+abbrev pub skips : Bool → Text → Bool
+skips behind_deep name = is_deep name || (behind_deep && (length name == 0))
 
-abbrev pub dots_if : Bool → List Text
-dots_if wanted = if wanted then codes "." ∷ codes ".." ∷ [] else []
+-- the place of an entry that stands for itself
+abbrev pub own_if : Bool → Text → Text → List Text
+own_if holds root entry = if holds then place_of root entry ∷ [] else []
 
 module _ (d : Disk) where
-  abbrev pub folder_if : Text → List Text
-  folder_if path = if is_folder (d.there path) then path ∷ [] else []
+  abbrev pub path_if : Bool → Text → List Text
+  path_if wanted path = if is_there wanted (d.there path) then path ∷ [] else []
 
   -- the folders that lie right in one
   abbrev pub subfolders : Text → List Text
   subfolders folder =
       if is_folder (d.there folder)
-      then flat_map (λ name. folder_if (path_below folder name)) (d.names folder) else []
+      then flat_map (path_if true) (map (path_below folder) (d.names folder)) else []
 
-  -- folders, and those below them, so many levels of them
-  abbrev pub levels : ℕ → List Text → List Text
-  levels zero folders = []
-  levels (suc n) folders = folders ++ levels n (flat_map subfolders folders)
+  -- a folder, and those below it, so many levels of them
+  abbrev pub below : ℕ → Text → List Text
+  below zero folder = []
+  below (suc n) folder = folder ∷ flat_map (below n) (subfolders folder)
 
-  unfoldable pub with_below : List Text → List Text
-  with_below folders = levels 2048 folders
+  unfoldable pub all_below : Text → List Text
+  all_below folder = below 2048 folder
 
-  abbrev pub all_from : Bool → List Text → List Text
-  all_from behind_deep folders = if behind_deep then with_below folders else folders
-
+  -- a pattern that begins with a dot stands for `.` and `..` too, but not right behind `**`
   abbrev pub matched : Bool → List Part → Text → List Text
   matched behind_deep pattern folder =
       if is_folder (d.there folder) then named_so folder pattern
-      (d.names folder ++ dots_if (not behind_deep && begins_with_dot pattern)) else []
+      (with_dots (not behind_deep && begins_with_dot pattern) (d.names folder)) else []
 
-  abbrev pub path_if : Text → List Text
-  path_if path = if is_there (d.there path) then path ∷ [] else []
-
-  -- what a name leads to from a folder: itself, where something is there, or what its pattern
-  -- matches
-  abbrev pub further : Bool → Text → Text → List Text
-  further behind_deep name folder =
-      if is_plain name behind_deep then path_if (path_below folder name)
+  -- what a name leads to in a folder: itself, where something is there, or what its pattern matches
+  abbrev pub further_in : Bool → Text → Text → List Text
+  further_in behind_deep name folder =
+      if is_plain behind_deep name then path_if false (path_below folder name)
       else option_map_or (λ pattern. matched behind_deep pattern folder) (parts_of (chars name)) []
 
-  -- what names lead to from folders, one after the other; `**` leads to them and all below, and at
-  -- the end just to those below
-  abbrev pub led : Bool → List Text → List Text → List Text
-  led behind_deep folders [] =
-      if behind_deep then with_below (flat_map subfolders folders) else folders
-  led behind_deep folders (name ∷ names) =
-      if skips name behind_deep then led true folders names
-      else led false (flat_map (further behind_deep name) (all_from behind_deep folders)) names
+  -- right behind `**` from the folder and all below it
+  abbrev pub further : Bool → Text → Text → List Text
+  further behind_deep name folder =
+      if behind_deep then flat_map (further_in true name) (all_below folder)
+      else further_in false name folder
+
+  -- where names end: right behind `**` at all below the folder
+  abbrev pub ended : Bool → Text → List Text
+  ended behind_deep folder =
+      if behind_deep then flat_map all_below (subfolders folder) else folder ∷ []
+
+  -- what names lead to from a folder, one after the other
+  abbrev pub led : Bool → List Text → Text → List Text
+  led behind_deep [] folder = ended behind_deep folder
+  led behind_deep (name ∷ names) folder =
+      if skips behind_deep name then led true names folder
+      else flat_map (led false names) (further behind_deep name folder)
 
   abbrev pub led_to : Text → Text → List Text
-  led_to root entry = led false (begins_at root entry ∷ []) (pieces entry)
+  led_to root entry = led false (pieces entry) (begins_at root entry)
 
   abbrev pub place_if : Text → List Text
-  place_if path = map normalized (folder_if path)
+  place_if path = if is_folder (d.there path) then normalized path ∷ [] else []
 
   -- the folders among that, or the entry itself where nothing lies there
   abbrev pub places_of : Text → Text → List Text
   places_of root entry =
-      if length (led_to root entry) == 0 then place_of root entry ∷ []
-      else flat_map place_if (led_to root entry)
+      own_if (length (led_to root entry) == 0) root entry ++ flat_map place_if (led_to root entry)
 
 -- ---- what was asked and answered
 
@@ -168,14 +162,6 @@ abbrev pub Adds : (Disk → List Text) → Looks → Looks → List (String Glob
 Adds found old new before after =
     (d : Disk) → Agrees d new
     → Agrees d old × (map string_bytes after ≡ map string_bytes before ++ found d)
-
--- or one name less has to be followed
-abbrev pub Leads : Text → Looks → Looks → Step → Step → Type 0
-Leads name old new before after =
-    (d : Disk) → Agrees d new
-    → Agrees d old × ((names : List Text)
-    → led d before.is_deep (map string_bytes before.paths.items) (name ∷ names)
-    ≡ led d after.is_deep (map string_bytes after.paths.items) names)
 
 -- ---- entries that are no patterns, and what stands twice
 

@@ -27,6 +27,17 @@ part_of (Just c) = just c
 part_of (Within content) = within content.items
 part_of (Without content) = without content.items
 
+abbrev pub is_dot : Part → Bool
+is_dot (just c) = c == 46
+is_dot many = false
+is_dot one = false
+is_dot (within content) = false
+is_dot (without content) = false
+
+abbrev pub begins_with_dot : List Part → Bool
+begins_with_dot [] = false
+begins_with_dot (part ∷ pattern) = is_dot part
+
 -- ---- what a pattern matches
 
 -- what stands in brackets has a character: one by one, and `-` (45) between two makes a range
@@ -37,6 +48,12 @@ is_among (first ∷ next ∷ []) c = nat_eq first c || (nat_eq next c || false)
 is_among (first ∷ next ∷ last ∷ others) c =
     if nat_eq next 45 then (nat_le first c && nat_le c last) || is_among others c
     else nat_eq first c || is_among (next ∷ last ∷ others) c
+
+abbrev pub is_range : List ℕ → Bool
+is_range [] = false
+is_range (first ∷ []) = false
+is_range (first ∷ next ∷ []) = false
+is_range (first ∷ next ∷ last ∷ others) = nat_eq next 45
 
 abbrev pub accepts : Part → ℕ → Bool
 accepts many c = true

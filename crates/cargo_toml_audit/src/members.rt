@@ -1,7 +1,7 @@
 //! The members of a workspace, as Cargo finds them by its lists and by paths of dependencies.
 ghost use Rattle.std.specs.Prelude.{◌≡◌, ◌++◌, IfOk, OnOk, filter, map, not, string_bytes};
 ghost use Rattle.std.specs.List.{flat_map};
-ghost use Rattle.cargo_toml_audit.specs.MemberFolders.{Tells, is_unseen, is_wrong};
+ghost use Rattle.cargo_toml_audit.specs.MemberFolders.{Tells, is_wrong};
 ghost use Rattle.cargo_toml_audit.specs.MemberFolders.{is_wrong_name, places_if_right, repeats};
 ghost use Rattle.cargo_toml_audit.specs.MemberFolders.{unread_in, unseen, unseen_in};
 ghost use Rattle.cargo_toml_audit.specs.Places.{excludes};
@@ -77,16 +77,13 @@ fn is_wrong_name(alloc: Global, name: &str) -> Result<bool, AllocError>
 /// The entries that Cargo can't read.
 pub fn wrong_entries(alloc: Global, entries: &[String]) -> Result<Vec<String>, AllocError>
     ensures { IfOk result
-        (λ all. map string_bytes all.items
-        ≡ map string_bytes (filter (λ e. is_wrong (string_bytes e)) entries.now)) }
+        (λ all. map string_bytes all.items ≡ filter is_wrong (map string_bytes entries.now)) }
 {
     let mut all = Vec::new(alloc);
     for entry in entries {
-        let entry = entry.as_str();
-        if !is_wrong(alloc, entry)? {
-            continue;
+        if is_wrong(alloc, entry.as_str())? {
+            all.push(entry.clone()?)?;
         }
-        all.push(String::from_str(alloc, entry)?)?;
     }
     Ok(all)
 }
@@ -98,17 +95,14 @@ pub fn included(
     places: &[String],
 ) -> Result<Vec<String>, AllocError>
     ensures { IfOk result (λ all. map string_bytes all.items
-        ≡ map string_bytes (filter (λ p. not (excludes limits.entry.root.now
-        (map string_bytes limits.entry.exclude.now) (map string_bytes limits.entry.members.now)
-        (string_bytes p))) places.now)) }
+        ≡ filter (λ p. not (excludes limits.entry.root.now (map string_bytes limits.entry.exclude.now)
+        (map string_bytes limits.entry.members.now) p)) (map string_bytes places.now)) }
 {
     let mut all = Vec::new(alloc);
     for place in places {
-        let place = place.as_str();
-        if excludes(alloc, limits, place)? {
-            continue;
+        if !excludes(alloc, limits, place.as_str())? {
+            all.push(place.clone()?)?;
         }
-        all.push(String::from_str(alloc, place)?)?;
     }
     Ok(all)
 }
@@ -150,18 +144,11 @@ fn add_unseen(
         ≡ map string_bytes all.old.items ++ unseen_in known.now.entries) }
 {
     for (path, there) in known {
-        if !is_unseen(*there) {
-            continue;
+        if *there == There::Unseen {
+            all.push(path.clone()?)?;
         }
-        all.push(String::from_str(alloc, path.as_str())?)?;
     }
     Ok(())
-}
-
-fn is_unseen(there: There) -> bool
-    ensures { result ≡ is_unseen there }
-{
-    matches!(there, There::Unseen)
 }
 
 fn add_unread(
@@ -173,16 +160,9 @@ fn add_unread(
         ≡ map string_bytes all.old.items ++ unread_in known.now.entries) }
 {
     for (path, listing) in known {
-        if !is_unread(listing) {
-            continue;
+        if !listing.is_whole {
+            all.push(path.clone()?)?;
         }
-        all.push(String::from_str(alloc, path.as_str())?)?;
     }
     Ok(())
-}
-
-fn is_unread(listing: &Listing) -> bool
-    ensures { result ≡ not listing.now.is_whole }
-{
-    !listing.is_whole
 }

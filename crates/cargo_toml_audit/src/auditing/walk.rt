@@ -3,8 +3,8 @@
 ghost use Rattle.std.specs.Prelude.{◌≡◌, ◌&&◌, ◌||◌, ℕ, IfErr, IfOk, List, OnOk, bytes_eq, map};
 ghost use Rattle.std.specs.Prelude.{string_bytes};
 ghost use Rattle.std.specs.BTreeSet.{contains_text};
-ghost use Rattle.cargo_toml_audit.specs.AuditSteps.{Visits, Walks};
 ghost use Rattle.cargo_toml_audit.specs.AuditedFiles.{IsAuditFault, base_of, is_in};
+ghost use Rattle.cargo_toml_audit.specs.Walks.{Visits, Walks};
 ghost use Rattle.cargo_toml_tools.specs.FromFiles.{IsUnreadable};
 
 use super::place::add_place;
@@ -20,7 +20,7 @@ use std::rt::Files;
 /// How far places were followed.
 #[derive(Drop)]
 pub struct Walk {
-    /// All places so far, some of them twice.
+    /// Those that are still to be looked at, some of them twice.
     pub waiting: Vec<String>,
     /// Those that were looked at.
     pub seen: BTreeSet<String>,
@@ -51,12 +51,11 @@ pub fn add_members<R: Files + Eprint + RandomSource + AllocGlobal>(
         members,
     };
     for done in 0..usize::MAX {
-        if done >= walk.waiting.len() {
-            show_progress(rt, shows, done, true)?;
+        let next = walk.waiting.pop();
+        show_progress(rt, shows, done, next.is_none())?;
+        let Some(place) = next else {
             return Ok(walk.members);
-        }
-        show_progress(rt, shows, done, false)?;
-        let place = walk.waiting[done].clone()?;
+        };
         let is_listed = listed.contains(place.as_str());
         visit(rt, root, (place.as_str(), is_listed), &mut walk, audit)?;
     }

@@ -1,11 +1,12 @@
 //! Patterns of names, as Cargo's globs have them: `*` is any text, `?` any one character, `[ab]`,
 //! `[a-c]` and `[!a]` one of some characters. `**` is none of these: it stands for any folders.
-ghost use Rattle.std.specs.Prelude.{◌≡◌, ◌∷◌, IfOk, OnOk, false, get_or, map, option_map};
+ghost use Rattle.std.specs.Prelude.{◌≡◌, ◌&&◌, ◌∷◌, IfOk, OnOk, false, get_or, map, nat_le};
+ghost use Rattle.std.specs.Prelude.{option_map};
 ghost use Rattle.std.specs.Str.{chars};
 ghost use Rattle.cargo_toml_audit.specs.Patterns.{accepts, bracketed, is_among, is_deep, is_many};
-ghost use Rattle.cargo_toml_audit.specs.Patterns.{is_pattern, is_sign, matches, part_of, parts_of};
+ghost use Rattle.cargo_toml_audit.specs.Patterns.{is_pattern, is_range, is_sign, matches, part_of};
 ghost use Rattle.cargo_toml_audit.specs.Patterns.{read_all, read_in_brackets, read_more, read_of, read_plain};
-ghost use Rattle.cargo_toml_audit.specs.Patterns.{whole_parts};
+ghost use Rattle.cargo_toml_audit.specs.Patterns.{parts_of, whole_parts};
 ghost use Rattle.cargo_toml_audit.specs.Rows.{next, scan, shift};
 
 use std::alloc::{AllocError, Global};
@@ -274,9 +275,24 @@ fn accepts(wanted: &Token, c: char) -> bool
 fn is_among(content: &[char], c: char) -> bool
     ensures { result ≡ is_among content.now c }
 {
-    match content {
-        [] => false,
-        [first, '-', last, others @ ..] => (*first <= c && c <= *last) || is_among(others, c),
-        [first, others @ ..] => *first == c || is_among(others, c),
+    if content.is_empty() {
+        return false;
     }
+    if is_range(content) {
+        return lies_between(c, content[0], content[2]) || is_among(&content[3..], c);
+    }
+    content[0] == c || is_among(&content[1..], c)
+}
+
+/// Whether a range comes first.
+fn is_range(content: &[char]) -> bool
+    ensures { result ≡ is_range content.now }
+{
+    matches!(content, [_, '-', _, ..])
+}
+
+fn lies_between(c: char, first: char, last: char) -> bool
+    ensures { result ≡ (nat_le first c && nat_le c last) }
+{
+    first <= c && c <= last
 }

@@ -1,24 +1,11 @@
 //! Places of folders: absolute paths with no `.` and no `..` in them.
-ghost use Rattle.std.specs.Prelude.{◌≡◌, ◌++◌, ◌&&◌, ◌∷◌, [], IfOk, OnOk, filter, map, not};
-ghost use Rattle.std.specs.Prelude.{string_bytes, true};
-ghost use Rattle.std.specs.List.{join_with_byte};
-ghost use Rattle.cargo_toml_audit.specs.Places.{GoesOn, compared, ends_in_name, excludes};
-ghost use Rattle.cargo_toml_audit.specs.Places.{is_nothing, is_rooted, is_settled, is_up, is_within};
-ghost use Rattle.cargo_toml_audit.specs.Places.{lies_in, lies_in_some, manifest_path, normalized};
-ghost use Rattle.cargo_toml_audit.specs.Places.{or_dot, path_below, path_from, pieces, place_of};
-ghost use Rattle.cargo_toml_audit.specs.Places.{root_of, settled};
+ghost use Rattle.std.specs.Prelude.{◌≡◌, IfOk, OnOk, map, string_bytes};
+ghost use Rattle.cargo_toml_audit.specs.Places.{compared, ends_in_name, excludes, is_nothing};
+ghost use Rattle.cargo_toml_audit.specs.Places.{is_rooted, lies_in, lies_in_some, manifest_path};
+ghost use Rattle.cargo_toml_audit.specs.Places.{normalized, one_further, or_dot, path_below};
+ghost use Rattle.cargo_toml_audit.specs.Places.{path_from, pieces, place_of, root_of, with_names};
 
 use std::alloc::{AllocError, Global};
-
-/// Whether a path is `outer`, or goes on behind it.
-pub fn is_within(folder: &str, outer: &str) -> bool
-    ensures { result ≡ is_within folder.now outer.now }
-{
-    match folder.strip_prefix(outer) {
-        Some(rest) => rest.is_empty() || is_rooted(rest),
-        None => false,
-    }
-}
 
 fn is_rooted(path: &str) -> bool
     ensures { result ≡ is_rooted path.now }
@@ -33,32 +20,6 @@ fn root_of(path: &str) -> &'static str
     if is_rooted(path) { "/" } else { "" }
 }
 
-/// The path with no `.` in it, and with `..` at its front alone. The folder itself is `.`.
-pub fn normalized(alloc: Global, path: &str) -> Result<String, AllocError>
-    ensures { IfOk result (λ text. string_bytes text ≡ normalized path.now) }
-{
-    let names = settled(alloc, path)?;
-    or_dot(alloc, joined(alloc, root_of(path), names.as_slice())?)
-}
-
-/// The path as Cargo compares it: with no `.` in it, and with each `..` as it is written.
-fn compared(alloc: Global, path: &str) -> Result<String, AllocError>
-    ensures { IfOk result (λ text. string_bytes text ≡ compared path.now) }
-{
-    let names = some_names(alloc, path)?;
-    or_dot(alloc, joined(alloc, root_of(path), names.as_slice())?)
-}
-
-/// The path, or `.` where there is none.
-fn or_dot(alloc: Global, path: String) -> Result<String, AllocError>
-    ensures { IfOk result (λ text. string_bytes text ≡ or_dot (string_bytes path)) }
-{
-    if path.is_empty() {
-        return String::from_str(alloc, ".");
-    }
-    Ok(path)
-}
-
 /// What stands between the slashes of a path.
 pub fn pieces<'a>(alloc: Global, path: &'a str) -> Result<Vec<&'a str>, AllocError>
     ensures { IfOk result (λ names. map (λ t. t.now) names.items ≡ pieces path.now) }
@@ -66,60 +27,26 @@ pub fn pieces<'a>(alloc: Global, path: &'a str) -> Result<Vec<&'a str>, AllocErr
     path.split('/').collect(alloc)
 }
 
-/// The names of a path, but for those that lead nowhere.
-fn some_names<'a>(alloc: Global, path: &'a str) -> Result<Vec<&'a str>, AllocError>
-    ensures { IfOk result (λ names. map (λ t. t.now) names.items
-        ≡ filter (λ name. not (is_nothing name)) (pieces path.now)) }
-{
-    let all = pieces(alloc, path)?;
-    let mut names = Vec::new(alloc);
-    for name in all.as_slice() {
-        if is_nothing(*name) {
-            continue;
-        }
-        names.push(*name)?;
-    }
-    Ok(names)
-}
-
-/// The names of a path that nothing takes back.
-fn settled<'a>(alloc: Global, path: &'a str) -> Result<Vec<&'a str>, AllocError>
-    ensures { IfOk result (λ names. map (λ t. t.now) names.items ≡ settled (pieces path.now)) }
+/// The path with no `.` in it, and with `..` at its front alone. The folder itself is `.`.
+pub fn normalized(alloc: Global, path: &str) -> Result<String, AllocError>
+    ensures { IfOk result (λ text. string_bytes text ≡ normalized path.now) }
 {
     let mut names = Vec::new(alloc);
-    for name in path.split('/') {
-        step(&mut names, name)?;
+    for name in pieces(alloc, path)?.as_slice() {
+        step(&mut names, *name)?;
     }
-    Ok(names)
-}
-
-/// The names with slashes between them, behind what a path begins with.
-fn joined(alloc: Global, first: &str, names: &[&str]) -> Result<String, AllocError>
-    ensures { IfOk result (λ text. string_bytes text
-        ≡ first.now ++ join_with_byte 47 (map (λ t. t.now) names.now)) }
-{
-    let mut whole = String::from_str(alloc, first)?;
-    let Some((name, others)) = names.split_first() else {
-        return Ok(whole);
-    };
-    whole.push_str(*name)?;
-    for other in others {
-        whole.push_str("/")?;
-        whole.push_str(*other)?;
-    }
-    Ok(whole)
+    with_names(alloc, path, names.as_slice())
 }
 
 /// Goes one name further.
 fn step<'a>(names: &mut Vec<&'a str>, name: &'a str) -> Result<(), AllocError>
-    ensures { OnOk result (is_settled (map (λ t. t.now) names.old.items) ≡ true
-        → GoesOn (map (λ t. t.now) names.old.items) name.now
-        (map (λ t. t.now) names.new.items)) }
+    ensures { OnOk result (map (λ t. t.now) names.new.items
+        ≡ one_further (map (λ t. t.now) names.old.items) name.now) }
 {
     if is_nothing(name) {
         return Ok(());
     }
-    if goes_back(names.as_slice(), name) {
+    if name == ".." && can_go_back(names.as_slice()) {
         names.pop();
         return Ok(());
     }
@@ -134,20 +61,45 @@ fn is_nothing(name: &str) -> bool
     name.is_empty() || name == "."
 }
 
-/// Whether a name takes back the last of these.
-fn goes_back(names: &[&str], name: &str) -> bool
-    ensures { result ≡ (is_up name.now && ends_in_name (map (λ t. t.now) names.now)) }
-{
-    name == ".." && can_go_back(names)
-}
-
+/// Whether the last name can be taken back.
 fn can_go_back(names: &[&str]) -> bool
     ensures { result ≡ ends_in_name (map (λ t. t.now) names.now) }
 {
-    match names.split_last() {
-        Some((last, _)) => *last != "..",
-        None => false,
+    !names.is_empty() && names[names.len() - 1] != ".."
+}
+
+/// The path as Cargo compares it: with no `.` in it, and with each `..` as it is written.
+fn compared(alloc: Global, path: &str) -> Result<String, AllocError>
+    ensures { IfOk result (λ text. string_bytes text ≡ compared path.now) }
+{
+    let mut names = Vec::new(alloc);
+    for name in pieces(alloc, path)?.as_slice() {
+        if !is_nothing(*name) {
+            names.push(*name)?;
+        }
     }
+    with_names(alloc, path, names.as_slice())
+}
+
+/// The path that begins as this one and has these names, or `.` where that is nothing.
+fn with_names(alloc: Global, path: &str, names: &[&str]) -> Result<String, AllocError>
+    ensures { IfOk result
+        (λ text. string_bytes text ≡ with_names path.now (map (λ t. t.now) names.now)) }
+{
+    let mut whole = String::from_str(alloc, root_of(path))?;
+    let joined = names.join(alloc, "/")?;
+    whole.push_str(joined.as_str())?;
+    or_dot(alloc, whole)
+}
+
+/// The path, or `.` where there is none.
+fn or_dot(alloc: Global, path: String) -> Result<String, AllocError>
+    ensures { IfOk result (λ text. string_bytes text ≡ or_dot (string_bytes path)) }
+{
+    if path.is_empty() {
+        return String::from_str(alloc, ".");
+    }
+    Ok(path)
 }
 
 /// The path of what lies in a folder. The empty path is the folder in which all others are seen.
@@ -188,10 +140,14 @@ pub fn manifest_path(alloc: Global, folder: &str) -> Result<String, AllocError>
 }
 
 /// Whether a place is another, or lies in it.
-pub fn lies_in(place: &str, outer: &str) -> bool
-    ensures { result ≡ lies_in place.now outer.now }
+pub fn lies_in(alloc: Global, place: &str, outer: &str) -> Result<bool, AllocError>
+    ensures { IfOk result (λ b. b ≡ lies_in place.now outer.now) }
 {
-    outer == "/" || is_within(place, outer)
+    if place == outer {
+        return Ok(true);
+    }
+    let front = path_below(alloc, outer, "")?;
+    Ok(place.as_bytes().starts_with(front.as_str().as_bytes()))
 }
 
 /// Whether what lies at a path is this one of the entries of a list in `root`, or lies in it.
@@ -200,7 +156,7 @@ fn lies_in_entry(alloc: Global, root: &str, path: &str, entry: &str) -> Result<b
 {
     let whole = path_from(alloc, root, entry)?;
     let outer = compared(alloc, whole.as_str())?;
-    Ok(lies_in(path, outer.as_str()))
+    lies_in(alloc, path, outer.as_str())
 }
 
 fn lies_in_some(

@@ -2,20 +2,16 @@
 //!
 //! What the system answers is kept, and it is asked once of each path. So a clause speaks of any disk
 //! that answers so.
-ghost use Rattle.std.specs.Prelude.{◌≡◌, ◌++◌, ◌&&◌, ◌∷◌, [], IfOk, OnOk, false, map};
+ghost use Rattle.std.specs.Prelude.{◌≡◌, ◌++◌, ◌&&◌, ◌∷◌, [], IfOk, OnOk, if◌then◌else◌, map};
 ghost use Rattle.std.specs.Prelude.{not, string_bytes};
 ghost use Rattle.std.specs.BTreeMap.{IsEmpty};
-ghost use Rattle.std.specs.List.{flat_map};
 ghost use Rattle.cargo_toml.specs.RealFiles.{is_absent};
-ghost use Rattle.cargo_toml_audit.specs.MemberFolders.{Adds, Leads, Tells, all_from, begins_at};
-ghost use Rattle.cargo_toml_audit.specs.MemberFolders.{begins_with_dot, by_found, by_link, dots_if};
-ghost use Rattle.cargo_toml_audit.specs.MemberFolders.{folder_if, further, is_folder, is_plain};
-ghost use Rattle.cargo_toml_audit.specs.MemberFolders.{is_there, led, levels};
-ghost use Rattle.cargo_toml_audit.specs.MemberFolders.{led_to, matched, named_so};
-ghost use Rattle.cargo_toml_audit.specs.MemberFolders.{path_if, place_if, places_of, skips, subfolders};
-ghost use Rattle.cargo_toml_audit.specs.MemberFolders.{with_below};
-ghost use Rattle.cargo_toml_audit.specs.Patterns.{part_of};
-ghost use Rattle.cargo_toml_audit.specs.Places.{place_of};
+ghost use Rattle.cargo_toml_audit.specs.MemberFolders.{Adds, Tells, all_below, begins_at, below};
+ghost use Rattle.cargo_toml_audit.specs.MemberFolders.{by_found, by_link, ended, further, further_in};
+ghost use Rattle.cargo_toml_audit.specs.MemberFolders.{is_plain, is_there, led, led_to, matched};
+ghost use Rattle.cargo_toml_audit.specs.MemberFolders.{named_so, own_if, path_if, place_if, places_of};
+ghost use Rattle.cargo_toml_audit.specs.MemberFolders.{skips, subfolders, with_dots};
+ghost use Rattle.cargo_toml_audit.specs.Patterns.{begins_with_dot, part_of};
 
 use super::patterns::{Token, is_deep, is_pattern, matches, tokens_of};
 use super::places::{normalized, path_below, pieces, place_of};
@@ -170,13 +166,6 @@ fn copied(alloc: Global, texts: &[String]) -> Result<Vec<String>, AllocError>
     Ok(all)
 }
 
-/// How far an entry was followed: the paths that it led to, and whether `**` stood last.
-#[derive(Drop)]
-struct Step {
-    paths: Vec<String>,
-    is_deep: bool,
-}
-
 /// The places that an entry of a list in `root` leads to: folders that its names stand for. Where
 /// nothing lies there, it stands for itself.
 pub fn places_of<R: Files + AllocGlobal>(
@@ -189,34 +178,21 @@ pub fn places_of<R: Files + AllocGlobal>(
         looks.old looks.new (map string_bytes places.items)) }
 {
     let found = led_to(rt, looks, root, entry)?;
-    if found.as_slice().is_empty() {
-        return itself(rt.alloc(), root, entry);
+    let mut places = own_if(rt.alloc(), found.is_empty(), root, entry)?;
+    for path in found.as_slice() {
+        add_place(rt, looks, path.as_str(), &mut places)?;
     }
-    folders_among(rt, looks, found.as_slice())
-}
-
-/// The place of an entry that stands for itself.
-fn itself(alloc: Global, root: &str, entry: &str) -> Result<Vec<String>, AllocError>
-    ensures { IfOk result
-        (λ places. map string_bytes places.items ≡ place_of root.now entry.now ∷ []) }
-{
-    let mut places = Vec::new(alloc);
-    places.push(place_of(alloc, root, entry)?)?;
     Ok(places)
 }
 
-/// The places of those paths where a folder lies.
-fn folders_among<R: Files + AllocGlobal>(
-    rt: &R,
-    looks: &mut Looks,
-    paths: &[String],
-) -> Result<Vec<String>, AllocError>
-    ensures { IfOk result (λ places. Tells (λ d. flat_map (place_if d) (map string_bytes paths.now))
-        looks.old looks.new (map string_bytes places.items)) }
+/// The place of an entry that stands for itself.
+fn own_if(alloc: Global, holds: bool, root: &str, entry: &str) -> Result<Vec<String>, AllocError>
+    ensures { IfOk result
+        (λ places. map string_bytes places.items ≡ own_if holds root.now entry.now) }
 {
-    let mut places = Vec::new(rt.alloc());
-    for path in paths {
-        add_place(rt, looks, path.as_str(), &mut places)?;
+    let mut places = Vec::new(alloc);
+    if holds {
+        places.push(place_of(alloc, root, entry)?)?;
     }
     Ok(places)
 }
@@ -231,23 +207,11 @@ fn add_place<R: Files + AllocGlobal>(
     ensures { OnOk result (Adds (λ d. place_if d path.now)
         looks.old looks.new places.old.items places.new.items) }
 {
-    if !is_folder(look_at(rt, looks, path)?) {
+    if look_at(rt, looks, path)? != There::Folder {
         return Ok(());
     }
     places.push(normalized(rt.alloc(), path)?)?;
     Ok(())
-}
-
-fn is_folder(there: There) -> bool
-    ensures { result ≡ is_folder there }
-{
-    matches!(there, There::Folder)
-}
-
-fn is_there(there: There) -> bool
-    ensures { result ≡ is_there there }
-{
-    !matches!(there, There::Nothing)
 }
 
 /// What lies where the names of an entry lead.
@@ -261,103 +225,96 @@ fn led_to<R: Files + AllocGlobal>(
         looks.old looks.new (map string_bytes paths.items)) }
 {
     let names = pieces(rt.alloc(), entry)?;
-    let mut step = begun(rt.alloc(), root, entry)?;
-    for name in names.as_slice() {
-        step = one_further(rt, looks, step, *name)?;
-    }
-    ended(rt, looks, step)
-}
-
-/// Where the names of an entry led at last.
-fn ended<R: Files + AllocGlobal>(
-    rt: &R,
-    looks: &mut Looks,
-    step: Step,
-) -> Result<Vec<String>, AllocError>
-    ensures { IfOk result
-        (λ paths. Tells (λ d. led d step.is_deep (map string_bytes step.paths.items) [])
-        looks.old looks.new (map string_bytes paths.items)) }
-{
-    let Step {
-        paths,
-        is_deep: is_behind,
-    } = step;
-    if !is_behind {
-        return Ok(paths);
-    }
-    let below = subfolders(rt, looks, paths.as_slice())?;
-    with_below(rt, looks, below)
+    let start = begins_at(root, entry);
+    let mut all = Vec::new(rt.alloc());
+    add_led(rt, looks, (start, false), names.as_slice(), &mut all)?;
+    Ok(all)
 }
 
 /// Where an entry begins: in the root, or where all paths begin.
-fn begun(alloc: Global, root: &str, entry: &str) -> Result<Step, AllocError>
-    ensures { IfOk result (λ s. (map string_bytes s.paths.items ≡ begins_at root.now entry.now ∷ [])
-        × (s.is_deep ≡ false)) }
+fn begins_at<'a>(root: &'a str, entry: &str) -> &'a str
+    ensures { result.now ≡ begins_at root.now entry.now }
 {
-    let mut paths = Vec::new(alloc);
-    let start = if entry.starts_with('/') { "/" } else { root };
-    paths.push(String::from_str(alloc, start)?)?;
-    Ok(Step {
-        paths,
-        is_deep: false,
-    })
+    if entry.starts_with('/') { "/" } else { root }
 }
 
-/// Goes one name of an entry further.
-fn one_further<R: Files + AllocGlobal>(
+/// Adds what names lead to from a path, at times right behind `**`.
+fn add_led<R: Files + AllocGlobal>(
     rt: &R,
     looks: &mut Looks,
-    step: Step,
-    name: &str,
-) -> Result<Step, AllocError>
-    ensures { IfOk result (λ next. Leads name.now
-        looks.old looks.new step next) }
+    from: (&str, bool),
+    names: &[&str],
+    all: &mut Vec<String>,
+) -> Result<(), AllocError>
+    ensures { OnOk result (Adds
+        (λ d. led d from.entry.1 (map (λ t. t.now) names.now) from.entry.0.now)
+        looks.old looks.new all.old.items all.new.items) }
 {
-    let Step {
-        paths,
-        is_deep: is_behind,
-    } = step;
-    if skips(name, is_behind) {
-        return Ok(Step {
-            paths,
-            is_deep: true,
-        });
+    let Some((name, others)) = names.split_first() else {
+        return add_end(rt, looks, from, all);
+    };
+    if skips(*name, from.1) {
+        return add_led(rt, looks, (from.0, true), others, all);
     }
-    let from = all_from(rt, looks, paths, is_behind)?;
-    let mut all = Vec::new(rt.alloc());
-    for folder in from.as_slice() {
-        add_further(rt, looks, (folder.as_str(), is_behind), name, &mut all)?;
+    let next = further(rt, looks, from, *name)?;
+    for path in next.as_slice() {
+        add_led(rt, looks, (path.as_str(), false), others, all)?;
     }
-    Ok(Step {
-        paths: all,
-        is_deep: false,
-    })
+    Ok(())
 }
 
 /// Whether a name is `**`, or the empty one behind a slash right behind that.
 fn skips(name: &str, is_behind: bool) -> bool
-    ensures { result ≡ skips name.now is_behind }
+    ensures { result ≡ skips is_behind name.now }
 {
     is_deep(name) || (is_behind && name.is_empty())
 }
 
-/// These folders, and right behind `**` all below them.
-fn all_from<R: Files + AllocGlobal>(
+/// Adds where names end: at the path itself, or behind `**` at each folder below it.
+fn add_end<R: Files + AllocGlobal>(
     rt: &R,
     looks: &mut Looks,
-    paths: Vec<String>,
-    is_behind: bool,
-) -> Result<Vec<String>, AllocError>
-    ensures { IfOk result (λ all. Tells (λ d. all_from d is_behind (map string_bytes paths.items))
-        looks.old looks.new (map string_bytes all.items)) }
+    from: (&str, bool),
+    all: &mut Vec<String>,
+) -> Result<(), AllocError>
+    ensures { OnOk result (Adds (λ d. ended d from.entry.1 from.entry.0.now)
+        looks.old looks.new all.old.items all.new.items) }
 {
-    if !is_behind {
-        return Ok(paths);
+    if !from.1 {
+        all.push(String::from_str(rt.alloc(), from.0)?)?;
+        return Ok(());
     }
-    with_below(rt, looks, paths)
+    let folders = subfolders(rt, looks, from.0)?;
+    for folder in folders.as_slice() {
+        add_all_below(rt, looks, folder.as_str(), all)?;
+    }
+    Ok(())
 }
 
-/// Adds what a name leads to from a folder, at times right behind `**`.
+/// What a name leads to from a path: right behind `**`, from that and from each folder below it.
+fn further<R: Files + AllocGlobal>(
+    rt: &R,
+    looks: &mut Looks,
+    from: (&str, bool),
+    name: &str,
+) -> Result<Vec<String>, AllocError>
+    ensures { IfOk result (λ all. Tells (λ d. further d from.entry.1 name.now from.entry.0.now)
+        looks.old looks.new (map string_bytes all.items)) }
+{
+    let mut all = Vec::new(rt.alloc());
+    if !from.1 {
+        add_further(rt, looks, from, name, &mut all)?;
+        return Ok(all);
+    }
+    let mut folders = Vec::new(rt.alloc());
+    add_all_below(rt, looks, from.0, &mut folders)?;
+    for folder in folders.as_slice() {
+        add_further(rt, looks, (folder.as_str(), true), name, &mut all)?;
+    }
+    Ok(all)
+}
+
+/// Adds what a name leads to in a folder, at times right behind `**`.
 fn add_further<R: Files + AllocGlobal>(
     rt: &R,
     looks: &mut Looks,
@@ -365,11 +322,11 @@ fn add_further<R: Files + AllocGlobal>(
     name: &str,
     all: &mut Vec<String>,
 ) -> Result<(), AllocError>
-    ensures { OnOk result (Adds (λ d. further d from.entry.1 name.now from.entry.0.now)
+    ensures { OnOk result (Adds (λ d. further_in d from.entry.1 name.now from.entry.0.now)
         looks.old looks.new all.old.items all.new.items) }
 {
     if is_plain(name, from.1) {
-        return add_if_there(rt, looks, path_below(rt.alloc(), from.0, name)?, all);
+        return add_if(rt, looks, path_below(rt.alloc(), from.0, name)?, false, all);
     }
     let Some(pattern) = tokens_of(rt.alloc(), name)? else {
         return Ok(());
@@ -379,26 +336,37 @@ fn add_further<R: Files + AllocGlobal>(
 
 /// Whether a name stands for itself.
 fn is_plain(name: &str, is_behind: bool) -> bool
-    ensures { result ≡ is_plain name.now is_behind }
+    ensures { result ≡ is_plain is_behind name.now }
 {
     !is_behind && !is_pattern(name)
 }
 
-/// Adds a path where something lies.
-fn add_if_there<R: Files + AllocGlobal>(
+/// Adds a path where something lies, or where a folder lies.
+fn add_if<R: Files + AllocGlobal>(
     rt: &R,
     looks: &mut Looks,
     path: String,
+    is_folder: bool,
     all: &mut Vec<String>,
 ) -> Result<(), AllocError>
-    ensures { OnOk result (Adds (λ d. path_if d (string_bytes path))
+    ensures { OnOk result (Adds (λ d. path_if d is_folder (string_bytes path))
         looks.old looks.new all.old.items all.new.items) }
 {
-    if !is_there(look_at(rt, looks, path.as_str())?) {
+    if !is_there(look_at(rt, looks, path.as_str())?, is_folder) {
         return Ok(());
     }
     all.push(path)?;
     Ok(())
+}
+
+fn is_there(there: There, is_folder: bool) -> bool
+    ensures { result ≡ is_there is_folder there }
+{
+    match there {
+        There::Folder => true,
+        There::Other | There::Unseen => !is_folder,
+        There::Nothing => false,
+    }
 }
 
 /// Adds what lies in a folder and has a name that the pattern matches.
@@ -409,10 +377,11 @@ fn add_matched<R: Files + AllocGlobal>(
     pattern: &[Token],
     all: &mut Vec<String>,
 ) -> Result<(), AllocError>
-    ensures { OnOk result (Adds (λ d. matched d from.entry.1 (map part_of pattern.now) from.entry.0.now)
+    ensures { OnOk result (Adds
+        (λ d. matched d from.entry.1 (map part_of pattern.now) from.entry.0.now)
         looks.old looks.new all.old.items all.new.items) }
 {
-    if !is_folder(look_at(rt, looks, from.0)?) {
+    if look_at(rt, looks, from.0)? != There::Folder {
         return Ok(());
     }
     let names = names_in(rt, looks, from.0)?;
@@ -422,8 +391,8 @@ fn add_matched<R: Files + AllocGlobal>(
 
 /// The names, with `.` and `..` where these are wanted.
 fn with_dots(alloc: Global, names: Vec<String>, wants_dots: bool) -> Result<Vec<String>, AllocError>
-    ensures { IfOk result (λ all. map string_bytes all.items
-        ≡ map string_bytes names.items ++ dots_if wants_dots) }
+    ensures { IfOk result
+        (λ all. map string_bytes all.items ≡ with_dots wants_dots (map string_bytes names.items)) }
 {
     let mut names = names;
     if !wants_dots {
@@ -454,98 +423,68 @@ fn add_named(
 {
     for name in names {
         let name = name.as_str();
-        if !matches(alloc, pattern, name)? {
-            continue;
+        if matches(alloc, pattern, name)? {
+            all.push(path_below(alloc, folder, name)?)?;
         }
-        all.push(path_below(alloc, folder, name)?)?;
     }
     Ok(())
 }
 
-/// How many folders deep `**` looks. The system takes no path that goes deeper.
-const MAX_DEPTH: usize = 2048;
-
-/// Folders, and all below them.
-fn with_below<R: Files + AllocGlobal>(
-    rt: &R,
-    looks: &mut Looks,
-    folders: Vec<String>,
-) -> Result<Vec<String>, AllocError>
-    ensures { IfOk result (λ all. Tells (λ d. with_below d (map string_bytes folders.items))
-        looks.old looks.new (map string_bytes all.items)) }
-{
-    below(rt, looks, folders, MAX_DEPTH)
-}
-
-/// So many levels of folders, from these on.
-fn below<R: Files + AllocGlobal>(
-    rt: &R,
-    looks: &mut Looks,
-    folders: Vec<String>,
-    depths: usize,
-) -> Result<Vec<String>, AllocError>
-    ensures { IfOk result (λ all. Tells (λ d. levels d depths (map string_bytes folders.items))
-        looks.old looks.new (map string_bytes all.items)) }
-{
-    let mut level = folders;
-    let mut all = Vec::new(rt.alloc());
-    for depth in 0..depths {
-        let next = subfolders(rt, looks, level.as_slice())?;
-        all.append(&mut level)?;
-        level = next;
-    }
-    Ok(all)
-}
-
-/// The folders that lie right in these.
-fn subfolders<R: Files + AllocGlobal>(
-    rt: &R,
-    looks: &mut Looks,
-    folders: &[String],
-) -> Result<Vec<String>, AllocError>
-    ensures { IfOk result (λ all. Tells (λ d. flat_map (subfolders d) (map string_bytes folders.now))
-        looks.old looks.new (map string_bytes all.items)) }
-{
-    let mut all = Vec::new(rt.alloc());
-    for folder in folders {
-        add_subfolders(rt, looks, folder.as_str(), &mut all)?;
-    }
-    Ok(all)
-}
-
-fn add_subfolders<R: Files + AllocGlobal>(
+/// Adds a folder and all below it.
+fn add_all_below<R: Files + AllocGlobal>(
     rt: &R,
     looks: &mut Looks,
     folder: &str,
     all: &mut Vec<String>,
 ) -> Result<(), AllocError>
-    ensures { OnOk result (Adds (λ d. subfolders d folder.now)
+    ensures { OnOk result (Adds (λ d. all_below d folder.now)
         looks.old looks.new all.old.items all.new.items) }
 {
-    if !is_folder(look_at(rt, looks, folder)?) {
+    add_below(rt, looks, folder, MAX_DEPTH, all)
+}
+
+/// How many folders deep `**` looks. The system takes no path that goes deeper.
+const MAX_DEPTH: usize = 2048;
+
+/// Adds a folder and all below it, so many levels of them.
+fn add_below<R: Files + AllocGlobal>(
+    rt: &R,
+    looks: &mut Looks,
+    folder: &str,
+    levels: usize,
+    all: &mut Vec<String>,
+) -> Result<(), AllocError>
+    ensures { OnOk result (Adds (λ d. below d levels folder.now)
+        looks.old looks.new all.old.items all.new.items) }
+{
+    if levels == 0 {
         return Ok(());
     }
-    let names = names_in(rt, looks, folder)?;
-    for name in names.as_slice() {
-        let path = path_below(rt.alloc(), folder, name.as_str())?;
-        add_folder(rt, looks, path, all)?;
+    all.push(String::from_str(rt.alloc(), folder)?)?;
+    let folders = subfolders(rt, looks, folder)?;
+    for next in folders.as_slice() {
+        add_below(rt, looks, next.as_str(), levels - 1, all)?;
     }
     Ok(())
 }
 
-/// Adds a path where a folder lies.
-fn add_folder<R: Files + AllocGlobal>(
+/// The folders that lie right in one.
+fn subfolders<R: Files + AllocGlobal>(
     rt: &R,
     looks: &mut Looks,
-    path: String,
-    all: &mut Vec<String>,
-) -> Result<(), AllocError>
-    ensures { OnOk result (Adds (λ d. folder_if d (string_bytes path))
-        looks.old looks.new all.old.items all.new.items) }
+    folder: &str,
+) -> Result<Vec<String>, AllocError>
+    ensures { IfOk result (λ all. Tells (λ d. subfolders d folder.now)
+        looks.old looks.new (map string_bytes all.items)) }
 {
-    if !is_folder(look_at(rt, looks, path.as_str())?) {
-        return Ok(());
+    let mut all = Vec::new(rt.alloc());
+    if look_at(rt, looks, folder)? != There::Folder {
+        return Ok(all);
     }
-    all.push(path)?;
-    Ok(())
+    let names = names_in(rt, looks, folder)?;
+    for name in names.as_slice() {
+        let path = path_below(rt.alloc(), folder, name.as_str())?;
+        add_if(rt, looks, path, true, &mut all)?;
+    }
+    Ok(all)
 }

@@ -6,7 +6,5 @@ use Rattle.cargo_toml_audit.proofs.members.included.Given as goal
 abbrev pub invariant-loop-place : goal.invariant-loop-place
 invariant-loop-place l =
     map string_bytes l.all.items
-    ++ map string_bytes (filter (λ p. not (excludes l.limits.root.now (map string_bytes l.limits.exclude.now) (map string_bytes l.limits.members.now) (string_bytes p)))
-    (drop l.place-index l.places))
-    ≡ map string_bytes (filter (λ p. not (excludes l.limits.root.now (map string_bytes l.limits.exclude.now) (map string_bytes l.limits.members.now) (string_bytes p)))
-    l.places)
+    ++ filter (λ p. not (excludes l.limits.root.now (map string_bytes l.limits.exclude.now) (map string_bytes l.limits.members.now) p)) (map string_bytes (drop l.place-index l.places))
+    ≡ filter (λ p. not (excludes l.limits.root.now (map string_bytes l.limits.exclude.now) (map string_bytes l.limits.members.now) p)) (map string_bytes l.places)

@@ -4,7 +4,7 @@ use Rattle.std.specs.BTreeSet.{contains_text}
 use Rattle.std.specs.Prelude.{bytes_eq}
 use Rattle.cargo_toml_audit.proofs.Kept.{cond_or}
 use Rattle.cargo_toml_audit.proofs.Walking.{or_false}
-use Rattle.cargo_toml_audit.proofs.files.auditing.walk.note.Goals as goal
+use Rattle.cargo_toml_audit.proofs.auditing.walk.note.Goals as goal
 
 pub returns-then-not-is_one : goal.returns-then-not-is_one
 returns-then-not-is_one c = λ t.

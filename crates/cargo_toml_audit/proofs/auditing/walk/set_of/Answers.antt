@@ -9,7 +9,7 @@ use Rattle.std.specs.Prelude.{bytes_eq}
 use Rattle.cargo_toml_audit.specs.AuditedFiles.{is_in}
 use Rattle.cargo_toml_tools.proofs.Grown.{left_next}
 use Rattle.cargo_toml_audit.proofs.Walking.{or_assoc, or_false, swapped}
-use Rattle.cargo_toml_audit.proofs.files.auditing.walk.set_of.Goals as goal
+use Rattle.cargo_toml_audit.proofs.auditing.walk.set_of.Goals as goal
 
 pub loop-text-init : goal.loop-text-init
 loop-text-init c = λ t.

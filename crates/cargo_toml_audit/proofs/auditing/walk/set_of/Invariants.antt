@@ -2,7 +2,7 @@ use Rattle.std.proofs.Common.{◌≡◌, ◌||◌, drop, map, string_bytes}
 use Rattle.std.specs.BTreeSet.{contains_text}
 use Rattle.cargo_toml.specs.Action.{Text}
 use Rattle.cargo_toml_audit.specs.AuditedFiles.{is_in}
-use Rattle.cargo_toml_audit.proofs.files.auditing.walk.set_of.Given as goal
+use Rattle.cargo_toml_audit.proofs.auditing.walk.set_of.Given as goal
 
 abbrev pub invariant-loop-text : goal.invariant-loop-text
 invariant-loop-text l =

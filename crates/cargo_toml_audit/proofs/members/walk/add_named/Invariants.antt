@@ -1,9 +1,6 @@
 use Rattle.std.proofs.Common.{◌≡◌, ◌++◌, drop, map, string_bytes}
-use Rattle.std.specs.Prelude.{filter}
-use Rattle.std.specs.Str.{chars}
 use Rattle.cargo_toml_audit.specs.MemberFolders.{named_so}
-use Rattle.cargo_toml_audit.specs.Patterns.{matches, part_of}
-use Rattle.cargo_toml_audit.specs.Places.{path_below}
+use Rattle.cargo_toml_audit.specs.Patterns.{part_of}
 use Rattle.cargo_toml_audit.proofs.members.walk.add_named.Given as goal
 
 abbrev pub invariant-loop-name : goal.invariant-loop-name

@@ -3,10 +3,8 @@ use Rattle.std.specs.Prelude.{◌≡◌, ◌≢◌, ◌⊎◌, ◌↔◌, ◌++�
 use Rattle.std.specs.Prelude.{List, [], ◌∷◌, Option, Some, IsTrue, bytes_eq, codes, filter}
 use Rattle.std.specs.Prelude.{if◌then◌else◌, is_none, map, not, option_map, string_bytes}
 use Rattle.std.specs.BTreeMap.{btree_map_len, get_by_text}
-use Rattle.std.specs.BTreeSet.{contains_text}
 use Rattle.std.specs.IoError.{error_kind}
 use Rattle.std.specs.List.{flat_map, list_any}
-use Rattle.std.specs.List.Sorted.{IsStrictlySortedBy}
 use Rattle.std.specs.Option.{option_map_or}
 use Rattle.toml.specs.declared.value.Value.{Value}
 use Rattle.cargo_toml.specs.Action.{Text}
@@ -29,21 +27,19 @@ use Rattle.cargo_toml.specs.Workspace.{Workspace}
 use Rattle.cargo_toml_parts.specs.declared.error.Error.TheOpen.{Error-F}
 use Rattle.cargo_toml_lint.specs.declared.finding.Finding.{Finding}
 use Rattle.cargo_toml_lint.specs.Findings.{code_level}
-use Rattle.cargo_toml_audit.specs.Audited.{IsMemberOf, IsUntold}
-use Rattle.cargo_toml_audit.specs.Entries.{Listed, entries_of}
 use Rattle.cargo_toml_tools.specs.FromFiles.{IsManifestIn, IsUnreadable}
 use Rattle.cargo_toml_tools.specs.Indexed.{is_error}
-use Rattle.cargo_toml_audit.specs.LeftKeys.{left_keys}
 use Rattle.cargo_toml_tools.specs.Linted.{AreFindingsOf}
+use Rattle.cargo_toml_audit.specs.Audited.{IsMemberOf, is_untold}
+use Rattle.cargo_toml_audit.specs.Entries.{Listed, asked_in, asking_of, entries_of, inherited_in}
+use Rattle.cargo_toml_audit.specs.Entries.{left_keys}
 use Rattle.cargo_toml_audit.specs.MemberFolders.{Disk, disk_of, is_wrong, places_if_right, repeats}
 use Rattle.cargo_toml_audit.specs.MemberFolders.{unseen}
-use Rattle.cargo_toml_audit.specs.Noted.{Asking, GainsKeys, GainsUses, asked_in, askings_of}
-use Rattle.cargo_toml_audit.specs.Noted.{inherited_in}
-use Rattle.cargo_toml_audit.specs.Oddities.{Finds, Oddity, member_differences, oddities_of}
-use Rattle.cargo_toml_audit.specs.Oddities.{oddity_with}
-use Rattle.cargo_toml_audit.specs.Overall.{asking_cmp, overall_oddities}
+use Rattle.cargo_toml_audit.specs.Oddities.{Gain, Oddity, both, differences, found_each, found_if}
+pub use Rattle.cargo_toml_audit.specs.Oddities.{is_in}
+use Rattle.cargo_toml_audit.specs.Oddities.{found_in, has_no_target, oddities_of, only_found}
+use Rattle.cargo_toml_audit.specs.Oddities.{overall_oddities, refusals}
 use Rattle.cargo_toml_audit.specs.Places.{excludes, lies_in, manifest_path, place_of}
-use Rattle.cargo_toml_audit.specs.Refusals.{Stands, has_no_target, refusals}
 use Rattle.cargo_toml_audit.specs.declared.audit.Audit.{Audit}
 use Rattle.cargo_toml_audit.specs.declared.audit.Code.{Code}
 use Rattle.cargo_toml_audit.specs.declared.audit.Code.TheVariants.{Absent, BadPattern}
@@ -57,10 +53,10 @@ use Rattle.cargo_toml_audit.specs.declared.members.walk.Looks.{Looks}
 -- ---- a place
 
 -- what is made of a member's manifest: nothing, for a fault of completion; a manifest of which no
--- member can be told, for a fault; or a manifest and a member
+-- member can be told; or a manifest and a member
 pub data Made : Type 0 where
   incomplete : Error → Made
-  untold : Manifest Value → Error → Made
+  untold : Manifest Value → Made
   told : Manifest Value → Member → Made
 
 -- What was read at a place: nothing, for a fault; a manifest that is none of the workspace's, with
@@ -84,7 +80,7 @@ refusal_code e = elim (out-Error e) as (λ _. Code) [
 ]
 
 abbrev pub refusal : Text → Error → List Oddity
-refusal place e = oddity_with (refusal_code e) place ∷ []
+refusal place e = found_if (refusal_code e) true place
 
 -- whether it is the place of a member, or of what is refused as one
 abbrev pub is_member : Content → Bool
@@ -92,36 +88,6 @@ is_member (unread e) = true
 is_member (foreign fault) = false
 is_member (rootless m) = true
 is_member (belongs own errors m made) = true
-
--- the member that is told of
-abbrev pub made_members : Made → List Member
-made_members (incomplete e) = []
-made_members (untold new e) = []
-made_members (told new member) = member ∷ []
-
-abbrev pub members_of : Content → List Member
-members_of (unread e) = []
-members_of (foreign fault) = []
-members_of (rootless m) = []
-members_of (belongs own errors m made) = made_members made
-
--- the keys that it inherits, and what it asks for
-abbrev pub inherited_of : Content → List Text
-inherited_of (unread e) = []
-inherited_of (foreign fault) = []
-inherited_of (rootless m) = []
-inherited_of (belongs own errors m made) = inherited_in (entries_of (held m))
-
-abbrev pub asked_made : Text → Made → List Asking
-asked_made place (incomplete e) = []
-asked_made place (untold new e) = []
-asked_made place (told new member) = asked_in place (entries_of (held new))
-
-abbrev pub asked_of : Text → Content → List Asking
-asked_of place (unread e) = []
-asked_of place (foreign fault) = []
-asked_of place (rootless m) = []
-asked_of place (belongs own errors m made) = asked_made place made
 
 -- the places of what a dependency leads to by its path, which stands in a folder
 abbrev pub need_at : Text → DependencyMeaning → List Text
@@ -148,43 +114,34 @@ places_read readings = map (λ r. r.place) readings
 abbrev pub member_places : List Reading → List Text
 member_places readings = places_read (filter (λ r. is_member r.content) readings)
 
-abbrev pub is_in : List Text → Text → Bool
-is_in texts text = list_any (bytes_eq text) texts
-
 -- ---- default members
 
--- whether a place is listed, and whether it is that of a member
+-- whether a place is listed, whether it is then entered, as it isn't excluded, and whether it is that
+-- of a member
 pub record Knows : Type 0 where
   pub listed : Text → Bool
+  pub entered : Text → Bool
   pub members : Text → Bool
 
-abbrev pub knows : List Text → List Text → Knows
-knows listed members = record { listed = is_in listed; members = is_in members }
-
--- it is no member's, nor listed and excluded
-abbrev pub is_astray : Knows → (Text → Bool) → Text → Bool
-is_astray k excluded p = not (k.members p) && not (k.listed p && excluded p)
-
-abbrev pub any_astray : Knows → (Text → Bool) → List Text → Bool
-any_astray k excluded ps = list_any (is_astray k excluded) ps
-
--- an entry leads to such a place
-abbrev pub leads_astray : Knows → (Text → Bool) → (Text → List Text) → Text → Bool
-leads_astray k excluded places entry = any_astray k excluded (places entry)
+abbrev pub is_astray : Knows → Text → Bool
+is_astray k p = not (k.members p) && not (k.listed p && not (k.entered p))
 
 -- ---- what a report takes, behind what it had
-pub record Gain : Type 0 where
-  pub members : List Member
-  pub found : List Oddity
-  pub inherited : List Text
-  pub asked : List Asking
+abbrev pub held_in : Audit → Gain
+held_in a = record {
+  members = a.members.items;
+  found = oddities_of a.findings;
+  inherited = map string_bytes a.inherited.items;
+  asked = map asking_of a.uses.items;
+}
 
 pub record Takes (g : Gain) (old new : Audit) : Type 0 where
   pub root : new.root ≡ old.root
   pub members : new.members.items ≡ old.members.items ++ g.members
-  pub found : Finds g.found old.findings new.findings
-  pub inherited : GainsKeys g.inherited old.inherited new.inherited
-  pub uses : GainsUses g.asked old.uses new.uses
+  pub found : oddities_of new.findings ≡ oddities_of old.findings ++ g.found
+  pub inherited : map string_bytes new.inherited.items
+      ≡ map string_bytes old.inherited.items ++ g.inherited
+  pub asked : map asking_of new.uses.items ≡ map asking_of old.uses.items ++ g.asked
 
 -- ---- a workspace: its place, the path of its manifest, that manifest, and its table there
 pub record Base : Type 0 where
@@ -225,50 +182,42 @@ module _ (base : Base) where
   needs_of place (rootless m) = flat_map (need_by place) (entries_of (held m))
   needs_of place (belongs own errors m made) = flat_map (need_by place) (entries_of (held m))
 
-  -- what is found of a place
-  abbrev pub stands : Text → Bool → Bool → Stands
-  stands place own errors = record {
-    place = place;
-    root = base.place;
-    is_own = own;
-    has_errors = errors;
-    lacks_lints = btree_map_len base.workspace.lints == 0;
-  }
+  -- what a report takes of a place, and of several
+  abbrev pub refusals_at : Text → Bool → Bool → Manifest Value → List Oddity
+  refusals_at place own errors m =
+      found_in place
+      (refusals place base.place (btree_map_len base.workspace.lints == 0) own errors (held m))
 
   abbrev pub targets_found : Text → Manifest Value → List Oddity
-  targets_found place new = if has_no_target (held new) then oddity_with NoTarget place ∷ [] else []
+  targets_found place new = found_if NoTarget (has_no_target (held new)) place
 
-  abbrev pub found_made : Text → Made → List Oddity
-  found_made place (incomplete e) = refusal place e
-  found_made place (untold new e) = targets_found place new ++ refusal place e
-  found_made place (told new member) =
-      targets_found place new
-      ++ member_differences place (option_map template_meaning base.workspace.«package») (held new)
-
-  abbrev pub found_of : Text → Content → List Oddity
-  found_of place (unread e) = refusal place e
-  found_of place (foreign fault) = option_map_or (refusal place) fault []
-  found_of place (rootless m) = []
-  found_of place (belongs own errors m made) =
-      map (λ code. oddity_with code place) (refusals (stands place own errors) (held m))
-      ++ found_made place made
-
-  -- what a report takes of a place, and of several
-  abbrev pub gain_of : Text → Content → Gain
-  gain_of place content = record {
-    members = members_of content;
-    found = found_of place content;
-    inherited = inherited_of content;
-    asked = asked_of place content;
+  abbrev pub gain_made : Text → Made → Gain
+  gain_made place (incomplete e) = only_found (refusal place e)
+  gain_made place (untold new) =
+      only_found (targets_found place new ++ found_if Incomplete true place)
+  gain_made place (told new member) = record {
+    members = member ∷ [];
+    found = targets_found place new
+        ++ differences (option_map template_meaning base.workspace.«package») member;
+    inherited = [];
+    asked = asked_in (entries_of (held new));
   }
+
+  abbrev pub gain_of : Text → Content → Gain
+  gain_of place (unread e) = only_found (refusal place e)
+  gain_of place (foreign fault) = only_found (option_map_or (refusal place) fault [])
+  gain_of place (rootless m) = only_found []
+  gain_of place (belongs own errors m made) =
+      both (record {
+        members = [];
+        found = refusals_at place own errors m;
+        inherited = inherited_in (entries_of (held m));
+        asked = [];
+      }) (gain_made place made)
 
   abbrev pub gain_of_all : List Reading → Gain
-  gain_of_all rs = record {
-    members = flat_map (λ r. members_of r.content) rs;
-    found = flat_map (λ r. found_of r.place r.content) rs;
-    inherited = flat_map (λ r. inherited_of r.content) rs;
-    asked = flat_map (λ r. asked_of r.place r.content) rs;
-  }
+  gain_of_all [] = only_found []
+  gain_of_all (r ∷ rs) = both (gain_of r.place r.content) (gain_of_all rs)
 
   -- ---- what was read at a place is this
 
@@ -285,12 +234,9 @@ module _ (base : Base) where
   IsMade place m (incomplete e) =
       (e ≢ Memory) × IsCompletionFault (manifest_path place) (held m)
       (Some (shared_of base.manifest.workspace, base.path)) e
-  IsMade place m (untold new e) =
-      (e ≢ Memory) × (IsCompletedThere m new × IsUntold (held new) e)
+  IsMade place m (untold new) = IsCompletedThere m new × IsTrue (is_untold (held new))
   IsMade place m (told new member) =
-      IsCompletedThere m new × (IsMemberOf (held new) member
-      × ((string_bytes member.folder ≡ place)
-      × (map string_bytes member.inherits.items ≡ left_keys (held m))))
+      IsCompletedThere m new × IsMemberOf place (left_keys (held m)) (held new) member
 
   -- a manifest that some text reads as. It counts as the workspace's own where its place lies in
   -- the folder of that. Where it doesn't, a list has to lead to it
@@ -343,34 +289,45 @@ module _ (base : Base) where
     abbrev pub first_places : List Text
     first_places = entered_places ++ base.place ∷ []
 
-  abbrev pub all_found : Looks → List Reading → Text → Audit → List Oddity
-  all_found looks readings asked audit =
-      map (oddity_with ListedTwice) (repeats (entered_places (disk_of looks)))
-      ++ (map (oddity_with BadPattern) (filter is_wrong member_entries)
-      ++ (map (oddity_with BadPattern)
-      (filter is_wrong (map string_bytes base.workspace.default_members.items))
-      ++ (flat_map (λ r. found_of r.place r.content) readings
-      ++ (map (oddity_with Unlisted)
-      (filter (λ p. not (is_in (member_places readings) p)) (asked ∷ []))
-      ++ (map (oddity_with DefaultMember)
-      (filter (leads_astray (knows (listed_places (disk_of looks)) (member_places readings))
-      is_excluded (places_if_right (disk_of looks) base.place))
-      (map string_bytes base.workspace.default_members.items))
-      ++ (map (oddity_with Unseen) (unseen looks)
-      ++ overall_oddities (map_meaning dependency_meaning base.workspace.dependencies) audit))))))
+    -- an entry of `default-members` leads to a place that is no member's, nor listed and excluded
+    abbrev pub astray : Knows → Text → List Oddity
+    astray k entry =
+        found_if DefaultMember (list_any (is_astray k) (places_if_right disk base.place entry)) entry
+
+  abbrev pub default_entries : List Text
+  default_entries = map string_bytes base.workspace.default_members.items
+
+  -- what is found of the lists
+  abbrev pub found_in_lists : List Text → List Oddity
+  found_in_lists places =
+      found_each ListedTwice (repeats places)
+      ++ (found_each BadPattern (filter is_wrong member_entries)
+      ++ found_each BadPattern (filter is_wrong default_entries))
+
+  abbrev pub knows : Disk → List Reading → Knows
+  knows disk readings = record {
+    listed = is_in (listed_places disk);
+    entered = is_in (entered_places disk);
+    members = is_in (member_places readings);
+  }
+
+  abbrev pub all_found : Looks → List Reading → Text → List Oddity
+  all_found looks readings asked =
+      found_in_lists (entered_places (disk_of looks))
+      ++ ((gain_of_all readings).found
+      ++ (found_if Unlisted (not (is_in (member_places readings) asked)) asked
+      ++ (flat_map (astray (disk_of looks) (knows (disk_of looks) readings)) default_entries
+      ++ (found_each Unseen (unseen looks)
+      ++ overall_oddities (map_meaning dependency_meaning base.workspace.dependencies)
+      (gain_of_all readings)))))
 
   -- by what the system answered, and by what was read of all that is looked at
   pub record IsReport (asked : Text) (audit : Audit) : Type 0 where
     pub looks : Looks
     pub readings : List Reading
     pub read : AreRead (first_places (disk_of looks)) readings
-    pub members : audit.members.items ≡ flat_map (λ r. members_of r.content) readings
-    pub found : oddities_of audit.findings ≡ all_found looks readings asked audit
-    pub inherited : (key : Text) → IsTrue (contains_text audit.inherited key)
-        ↔ Among (flat_map (λ r. inherited_of r.content) readings) key
-    pub uses : (x : Asking) → Among (askings_of audit.uses) x
-        ↔ Among (flat_map (λ r. asked_of r.place r.content) readings) x
-    pub in_order : IsStrictlySortedBy asking_cmp (askings_of audit.uses)
+    pub members : audit.members.items ≡ (gain_of_all readings).members
+    pub found : oddities_of audit.findings ≡ all_found looks readings asked
 
 -- the report on a workspace that some text reads as
 pub record IsAudited (audit : Audit) : Type 0 where

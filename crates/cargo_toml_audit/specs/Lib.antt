@@ -2,12 +2,7 @@
 pub mod AuditedFiles
 pub mod Audited
 pub mod Oddities
-pub mod Refusals
-pub mod Overall
-pub mod LeftKeys
-pub mod Noted
 pub mod Entries
-pub mod Neighbours
 pub mod MemberFolders
 pub mod Places
 pub mod Patterns

@@ -1,17 +1,16 @@
 //! The report on a workspace: what each member is, and what is odd.
-ghost use Rattle.std.specs.Prelude.{◌≡◌, ◌↔◌, [], ◌∷◌, IfErr, IfOk, IsErrAnd, None, OnErr, OnOk};
-ghost use Rattle.std.specs.Prelude.{if◌then◌else◌, map, option_map, string_bytes};
-ghost use Rattle.std.specs.BTreeSet.{IsEmpty};
+ghost use Rattle.std.specs.Prelude.{◌≡◌, [], ◌∷◌, IfOk, OnOk, map, option_map, string_bytes};
+ghost use Rattle.cargo_toml.specs.Dependencies.{dependency_meaning};
 ghost use Rattle.cargo_toml.specs.Manifests.{held};
+ghost use Rattle.cargo_toml.specs.Reads.{map_meaning};
 ghost use Rattle.cargo_toml.specs.Templates.{template_meaning};
-ghost use Rattle.cargo_toml_audit.specs.Audited.{AddsMember, IsNoPackage, IsUntold};
-ghost use Rattle.cargo_toml_audit.specs.Entries.{entries_of};
-ghost use Rattle.cargo_toml_audit.specs.LeftKeys.{left_keys};
-ghost use Rattle.cargo_toml_audit.specs.Noted.{GainsKeys, NotesUses, inherited_in};
-ghost use Rattle.cargo_toml_audit.specs.Oddities.{Finds, member_differences, oddity_with};
+ghost use Rattle.cargo_toml_audit.specs.AuditedFiles.{Takes, held_in};
+ghost use Rattle.cargo_toml_audit.specs.Entries.{asked_in, entries_of, inherited_in, left_keys};
+ghost use Rattle.cargo_toml_audit.specs.Oddities.{differences, only_found, overall_oddities};
 
 mod differences;
 pub mod entries;
+pub mod findings;
 mod inherited;
 mod refusals;
 mod report;
@@ -19,16 +18,19 @@ mod root;
 mod summary;
 mod uses;
 
-use cargo_toml::{Error, Manifest, Workspace};
+use crate::auditing::set_of;
+use crate::members::repeats;
+use cargo_toml::{Manifest, Workspace};
+use differences::{add_differences, add_shared, names};
 use entries::entries;
+use findings::find_all;
 use inherited::{add_inherited, inherited_keys};
-pub use refusals::{Standing, has_no_target, refusal_codes};
+pub use refusals::{has_no_target, refusal_rows};
 pub use report::{json, lines};
 pub use root::{Root, needs};
 use std::alloc::{AllocError, Global};
-use std::collections::BTreeSet;
-use summary::summarize;
-use uses::add_uses;
+pub use summary::{summarize, untold_words};
+use uses::{add_uses, further};
 
 /// What a member is. What isn't there is `None`.
 #[derive(Debug, Drop)]
@@ -99,31 +101,54 @@ pub enum Code {
 }
 
 impl Code {
+    /// The word that stands for it in a report, and what it says of each subject, where it says one
+    /// thing.
+    fn told(self) -> (&'static str, &'static str) {
+        match self {
+            Code::Absent => ("absent", "there is no manifest"),
+            Code::BadPattern => ("bad-pattern", "Cargo takes it for no pattern"),
+            Code::DefaultMember => ("default-member", "it leads to no member"),
+            Code::Features => ("features", "`lint` finds errors in its features"),
+            Code::Incomplete => ("incomplete", ""),
+            Code::ListedTwice => ("listed-twice", "two entries of members lead to it"),
+            Code::NoLints => ("no-lints", "it inherits lints, and the workspace has none"),
+            Code::NoTarget => ("no-target", "it has no target"),
+            Code::NotInherited => ("not-inherited", "a dependency has `workspace = false`"),
+            Code::OptionalShared => (
+                "optional-shared",
+                "a dependency of the workspace can't be optional",
+            ),
+            Code::OtherEdition => ("other-edition", ""),
+            Code::OtherLicense => ("other-license", ""),
+            Code::OtherWorkspace => (
+                "other-workspace",
+                "its `package.workspace` leads to another workspace",
+            ),
+            Code::Outside => (
+                "outside",
+                "it lies outside the workspace's folder, and doesn't name the workspace",
+            ),
+            Code::SameName => ("same-name", "two members have this name"),
+            Code::SeveralRequirements => ("several-requirements", ""),
+            Code::TwoWorkspaces => (
+                "two-workspaces",
+                "it has `package.workspace` and `[workspace]`",
+            ),
+            Code::Unlisted => ("unlisted", "it lies in the workspace, and is no member"),
+            Code::Unseen => ("unseen", "it can't be looked at, or not to its end"),
+            Code::UnusedDependency => ("unused-dependency", "no member inherits it"),
+            Code::WorkspaceWithin => ("workspace-within", "it has a workspace of its own"),
+        }
+    }
+
     /// The word that stands for it in a report.
     pub fn word(self) -> &'static str {
-        match self {
-            Code::Absent => "absent",
-            Code::BadPattern => "bad-pattern",
-            Code::DefaultMember => "default-member",
-            Code::Features => "features",
-            Code::Incomplete => "incomplete",
-            Code::ListedTwice => "listed-twice",
-            Code::NoLints => "no-lints",
-            Code::NoTarget => "no-target",
-            Code::NotInherited => "not-inherited",
-            Code::OptionalShared => "optional-shared",
-            Code::OtherEdition => "other-edition",
-            Code::OtherLicense => "other-license",
-            Code::OtherWorkspace => "other-workspace",
-            Code::Outside => "outside",
-            Code::SameName => "same-name",
-            Code::SeveralRequirements => "several-requirements",
-            Code::TwoWorkspaces => "two-workspaces",
-            Code::Unlisted => "unlisted",
-            Code::Unseen => "unseen",
-            Code::UnusedDependency => "unused-dependency",
-            Code::WorkspaceWithin => "workspace-within",
-        }
+        self.told().0
+    }
+
+    /// What it says of each subject, where it says one thing.
+    pub fn words(self) -> &'static str {
+        self.told().1
     }
 
     /// Whether it is about a place.
@@ -137,31 +162,6 @@ impl Code {
                 | Code::SeveralRequirements
                 | Code::UnusedDependency
         )
-    }
-
-    /// What it says of each subject, where it says one thing.
-    pub fn words(self) -> &'static str {
-        match self {
-            Code::Absent => "there is no manifest",
-            Code::BadPattern => "Cargo takes it for no pattern",
-            Code::DefaultMember => "it leads to no member",
-            Code::Features => "`lint` finds errors in its features",
-            Code::ListedTwice => "two entries of members lead to it",
-            Code::NoLints => "it inherits lints, and the workspace has none",
-            Code::NoTarget => "it has no target",
-            Code::NotInherited => "a dependency has `workspace = false`",
-            Code::OptionalShared => "a dependency of the workspace can't be optional",
-            Code::OtherWorkspace => "its `package.workspace` leads to another workspace",
-            Code::Outside =>
-                "it lies outside the workspace's folder, and doesn't name the workspace",
-            Code::SameName => "two members have this name",
-            Code::TwoWorkspaces => "it has `package.workspace` and `[workspace]`",
-            Code::Unlisted => "it lies in the workspace, and is no member",
-            Code::Unseen => "it can't be looked at, or not to its end",
-            Code::UnusedDependency => "no member inherits it",
-            Code::WorkspaceWithin => "it has a workspace of its own",
-            _ => "",
-        }
     }
 }
 
@@ -177,7 +177,7 @@ pub struct Finding {
 }
 
 /// A crate that a member asks for.
-#[derive(Debug, PartialEq, Eq, PartialOrd, Ord, Drop)]
+#[derive(Debug, Drop)]
 pub struct Use {
     /// The name of the crate.
     pub name: String,
@@ -197,89 +197,25 @@ pub struct Audit {
     /// What is odd.
     pub findings: Vec<Finding>,
     /// What the members ask for by a requirement.
-    pub uses: BTreeSet<Use>,
-    /// The keys of the workspace's dependencies that some member inherits.
-    pub inherited: BTreeSet<String>,
+    pub uses: Vec<Use>,
+    /// The keys of the workspace's dependencies that members inherit.
+    pub inherited: Vec<String>,
 }
 
 impl Audit {
     /// The report on no member of the workspace that lies at this place.
     pub fn new(root: String) -> Audit
         ensures root { result.root ≡ root }
-        ensures members { result.members.items ≡ [] }
-        ensures findings { result.findings.items ≡ [] }
-        ensures uses { IsEmpty result.uses }
-        ensures inherited { IsEmpty result.inherited }
+        ensures empty { held_in result ≡ only_found [] }
     {
         let alloc = *root.allocator();
         Audit {
             root,
             members: Vec::new(alloc),
             findings: Vec::new(alloc),
-            uses: BTreeSet::new(alloc),
-            inherited: BTreeSet::new(alloc),
+            uses: Vec::new(alloc),
+            inherited: Vec::new(alloc),
         }
-    }
-
-    /// Finds this of a subject, in these words.
-    pub fn find(&mut self, code: Code, subject: &str, words: String) -> Result<(), AllocError>
-        ensures rest { self.new ≡ record self.old { findings = self.new.findings } }
-        ensures found { OnOk result
-            (Finds (oddity_with code subject.now ∷ []) self.old.findings self.new.findings) }
-    {
-        let subject = String::from_str(*self.root.allocator(), subject)?;
-        self.findings.push(Finding {
-            code,
-            subject,
-            words,
-        })?;
-        Ok(())
-    }
-
-    /// Finds the same of each of these subjects.
-    pub fn find_all(&mut self, code: Code, subjects: &[String]) -> Result<(), AllocError>
-        ensures rest { self.new ≡ record self.old { findings = self.new.findings } }
-        ensures found { OnOk result (Finds (map (oddity_with code) (map string_bytes subjects.now))
-            self.old.findings self.new.findings) }
-    {
-        for subject in subjects {
-            self.find_one(code, subject.as_str())?;
-        }
-        Ok(())
-    }
-
-    /// Finds what a code says of a subject.
-    pub fn find_one(&mut self, code: Code, subject: &str) -> Result<(), AllocError>
-        ensures rest { self.new ≡ record self.old { findings = self.new.findings } }
-        ensures found { OnOk result
-            (Finds (oddity_with code subject.now ∷ []) self.old.findings self.new.findings) }
-    {
-        let words = String::from_str(*self.root.allocator(), code.words())?;
-        self.find(code, subject, words)
-    }
-
-    /// Finds what a code says of a subject, where that holds.
-    pub fn find_if(&mut self, code: Code, holds: bool, subject: &str) -> Result<(), AllocError>
-        ensures rest { self.new ≡ record self.old { findings = self.new.findings } }
-        ensures found { OnOk result (Finds (if holds then oddity_with code subject.now ∷ [] else [])
-            self.old.findings self.new.findings) }
-    {
-        if !holds {
-            return Ok(());
-        }
-        self.find_one(code, subject)
-    }
-
-    /// Finds each of these codes of one member.
-    pub fn find_each(&mut self, codes: &[Code], place: &str) -> Result<(), AllocError>
-        ensures rest { self.new ≡ record self.old { findings = self.new.findings } }
-        ensures found { OnOk result (Finds (map (λ code. oddity_with code place.now) codes.now)
-            self.old.findings self.new.findings) }
-    {
-        for code in codes {
-            self.find_one(*code, place)?;
-        }
-        Ok(())
     }
 
     /// Takes in a member's manifest as it is written: notes which dependencies of the workspace it
@@ -287,9 +223,9 @@ impl Audit {
     pub fn add_written<M>(&mut self, manifest: &Manifest<M>) -> Result<Vec<String>, AllocError>
         ensures keys { IfOk result
             (λ keys. map string_bytes keys.items ≡ left_keys (held manifest.now)) }
-        ensures rest { self.new ≡ record self.old { inherited = self.new.inherited } }
-        ensures inherited { OnOk result (GainsKeys (inherited_in (entries_of (held manifest.now)))
-            self.old.inherited self.new.inherited) }
+        ensures takes { OnOk result (Takes (record { members = []; found = [];
+            inherited = inherited_in (entries_of (held manifest.now)); asked = [] })
+            self.old self.new) }
     {
         let alloc = *self.root.allocator();
         let entries = entries(alloc, manifest)?;
@@ -298,31 +234,42 @@ impl Audit {
         Ok(keys)
     }
 
-    /// Adds a member whose manifest is completed, and notes what it asks for.
-    pub fn add_completed<M>(
+    /// Adds a member, and notes what its completed manifest asks for.
+    pub fn add_member<M>(
         &mut self,
-        place: &str,
+        member: Member,
         manifest: &Manifest<M>,
-        inherits: Vec<String>,
         workspace: &Workspace<M>,
-    ) -> Result<(), Error>
-        ensures added { OnOk result (AddsMember place.now (held manifest.now) inherits
-            self.old.members.items self.new.members.items) }
-        ensures kept { OnErr result (self.new.members.items ≡ self.old.members.items) }
-        ensures no_package { IsErrAnd result IsNoPackage ↔ (manifest.now.«package» ≡ None) }
-        ensures refused { IfErr result (IsUntold (held manifest.now)) }
-        ensures found { OnOk result (Finds (member_differences place.now
-            (option_map template_meaning workspace.now.«package») (held manifest.now))
-            self.old.findings self.new.findings) }
-        ensures noted { NotesUses place.now (held manifest.now) result self.old self.new }
-        ensures root { self.new.root ≡ self.old.root }
+    ) -> Result<(), AllocError>
+        ensures { OnOk result (Takes (record { members = member ∷ [];
+            found = differences (option_map template_meaning workspace.now.«package») member;
+            inherited = []; asked = asked_in (entries_of (held manifest.now)) })
+            self.old self.new) }
     {
         let alloc = *self.root.allocator();
-        let member = summarize(alloc, place, manifest, inherits)?;
         let entries = entries(alloc, manifest)?;
-        add_uses(alloc, place, entries.as_slice(), &mut self.uses)?;
-        self.compare(alloc, &member, workspace)?;
+        add_uses(member.folder.as_str(), entries.as_slice(), &mut self.uses)?;
+        add_differences(&member, workspace, &mut self.findings)?;
         self.members.push(member)?;
+        Ok(())
+    }
+
+    /// Adds what shows once all members were added: dependencies of the workspace that none
+    /// inherits or that are optional, names that several members have, and crates that are asked
+    /// for by several requirements.
+    pub fn finish<M>(&mut self, workspace: &Workspace<M>) -> Result<(), AllocError>
+        ensures { OnOk result (Takes (only_found (overall_oddities
+            (map_meaning dependency_meaning workspace.now.dependencies) (held_in self.old)))
+            self.old self.new) }
+    {
+        let alloc = *self.root.allocator();
+        let inherited = set_of(alloc, self.inherited.as_slice())?;
+        let names = names(alloc, self.members.as_slice())?;
+        let same = repeats(alloc, names.as_slice())?;
+        let mut further = further(alloc, self.root.as_str(), self.uses.as_slice())?;
+        add_shared(&workspace.dependencies, &inherited, &mut self.findings)?;
+        find_all(&mut self.findings, Code::SameName, same.as_slice())?;
+        self.findings.append(&mut further)?;
         Ok(())
     }
 }

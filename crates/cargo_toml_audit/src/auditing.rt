@@ -1,19 +1,21 @@
 //! The report on a workspace.
-ghost use Rattle.std.specs.Prelude.{◌≡◌, IfErr, IfOk, filter, map, string_bytes};
+ghost use Rattle.std.specs.Prelude.{◌≡◌, ◌++◌, IfErr, IfOk, OnOk, map, string_bytes};
+ghost use Rattle.std.specs.List.{flat_map, list_any};
 ghost use Rattle.cargo_toml_audit.specs.AuditSteps.{known_of};
-ghost use Rattle.cargo_toml_audit.specs.AuditedFiles.{IsAuditFault, IsAudited, IsReport, any_astray};
-ghost use Rattle.cargo_toml_audit.specs.AuditedFiles.{base_of, is_astray, is_excluded};
-ghost use Rattle.cargo_toml_audit.specs.AuditedFiles.{leads_astray};
-ghost use Rattle.cargo_toml_audit.specs.MemberFolders.{Tells, places_if_right};
+ghost use Rattle.cargo_toml_audit.specs.AuditedFiles.{IsAuditFault, IsAudited, IsReport, astray};
+ghost use Rattle.cargo_toml_audit.specs.AuditedFiles.{base_of, default_entries, found_in_lists};
+ghost use Rattle.cargo_toml_audit.specs.AuditedFiles.{is_astray};
+ghost use Rattle.cargo_toml_audit.specs.MemberFolders.{Agrees, Disk};
+ghost use Rattle.cargo_toml_audit.specs.Oddities.{oddities_of};
 
 mod above;
 mod place;
 mod walk;
 
-use crate::audit::{Audit, Code, Root, json, lines};
+use crate::audit::findings::{find_all, find_if};
+use crate::audit::{Audit, Code, Finding, Root, json, lines};
 use crate::members::{
-    Looks, excludes, included, listed, manifest_path, places_of_entry, repeats, unseen,
-    wrong_entries,
+    Looks, included, listed, manifest_path, places_of_entry, repeats, unseen, wrong_entries,
 };
 use above::{absolute, workspace_of};
 use cargo_toml::Error;
@@ -22,7 +24,8 @@ use std::alloc::{AllocError, Global};
 use std::collections::BTreeSet;
 use std::random::RandomSource;
 use std::rt::Files;
-use walk::{add_members, set_of};
+use walk::add_members;
+pub use walk::{note, set_of};
 
 /// The report on the workspace around a folder. Where `shows` is set, a long one tells on standard
 /// error how far it is.
@@ -71,97 +74,93 @@ fn report_on<R: Files + Eprint + RandomSource + AllocGlobal>(
     let alloc = rt.alloc();
     let mut looks = Looks::new(alloc);
     let mut audit = Audit::new(String::from_str(alloc, root.place)?);
-    let entries = root.workspace.members.as_slice();
-    let listed = listed(rt, &mut looks, root.place, entries)?;
-    let mut first = included(alloc, root.limits(), listed.as_slice())?;
-    let twice = repeats(alloc, first.as_slice())?;
-    audit.find_all(Code::ListedTwice, twice.as_slice())?;
-    let wrong = wrong_entries(alloc, entries)?;
-    audit.find_all(Code::BadPattern, wrong.as_slice())?;
-    let wrong = wrong_entries(alloc, root.workspace.default_members.as_slice())?;
-    audit.find_all(Code::BadPattern, wrong.as_slice())?;
+    let all = listed(rt, &mut looks, root.place, root.workspace.members.as_slice())?;
+    let mut first = included(alloc, root.limits(), all.as_slice())?;
+    find_in_lists(alloc, root, first.as_slice(), &mut audit.findings)?;
+    let listed = set_of(alloc, all.as_slice())?;
+    let entered = set_of(alloc, first.as_slice())?;
     first.push(String::from_str(alloc, root.place)?)?;
     let members = add_members(rt, root, first, &mut audit, shows)?;
-    audit.find_if(Code::Unlisted, !members.contains(asked), asked)?;
-    let listed = set_of(alloc, listed.as_slice())?;
     let known = Known {
-        listed: &listed,
-        members: &members,
+        listed,
+        entered,
+        members,
     };
-    let astray = defaults_astray(rt, &mut looks, root, known)?;
-    audit.find_all(Code::DefaultMember, astray.as_slice())?;
+    find_if(&mut audit.findings, Code::Unlisted, !known.members.contains(asked), asked)?;
+    find_astray(rt, &mut looks, root, &known, &mut audit.findings)?;
     let unseen = unseen(alloc, &looks)?;
-    audit.find_all(Code::Unseen, unseen.as_slice())?;
+    find_all(&mut audit.findings, Code::Unseen, unseen.as_slice())?;
     audit.finish(root.workspace)?;
     Ok(audit)
 }
 
-/// The places that entries of `members` lead to, and those of members.
-#[derive(Clone, Copy)]
-struct Known<'a> {
-    listed: &'a BTreeSet<String>,
-    members: &'a BTreeSet<String>,
+/// Finds what is listed twice, by the places that are entered, and entries that are no patterns.
+fn find_in_lists(
+    alloc: Global,
+    root: Root<'_>,
+    entered: &[String],
+    findings: &mut Vec<Finding>,
+) -> Result<(), AllocError>
+    ensures { OnOk result (oddities_of findings.new ≡ oddities_of findings.old
+        ++ found_in_lists (base_of root.entry) (map string_bytes entered.now)) }
+{
+    let twice = repeats(alloc, entered)?;
+    let wrong = wrong_entries(alloc, root.workspace.members.as_slice())?;
+    let wrong_defaults = wrong_entries(alloc, root.workspace.default_members.as_slice())?;
+    find_all(findings, Code::ListedTwice, twice.as_slice())?;
+    find_all(findings, Code::BadPattern, wrong.as_slice())?;
+    find_all(findings, Code::BadPattern, wrong_defaults.as_slice())
 }
 
-/// The entries of `default-members` that don't lead to members alone, or to what is listed and
+/// The places that entries of `members` lead to, those of them that aren't excluded, and those of
+/// members.
+#[derive(Drop)]
+struct Known {
+    listed: BTreeSet<String>,
+    entered: BTreeSet<String>,
+    members: BTreeSet<String>,
+}
+
+/// Finds the entries of `default-members` that don't lead to members alone, or to what is listed and
 /// excluded.
-fn defaults_astray<R: Files + AllocGlobal>(
+fn find_astray<R: Files + AllocGlobal>(
     rt: &R,
     looks: &mut Looks,
     root: Root<'_>,
-    known: Known<'_>,
-) -> Result<Vec<String>, AllocError>
-    ensures { IfOk result (λ all. Tells (λ d. filter
-        (leads_astray (known_of known.entry) (is_excluded (base_of root.entry))
-        (places_if_right d root.entry.place.now))
-        (map string_bytes root.entry.workspace.now.default_members.items))
-        looks.old looks.new (map string_bytes all.items)) }
+    known: &Known,
+    findings: &mut Vec<Finding>,
+) -> Result<(), AllocError>
+    ensures { OnOk result ((d : Disk) → Agrees d looks.new → Agrees d looks.old
+        × (oddities_of findings.new ≡ oddities_of findings.old
+        ++ flat_map (astray (base_of root.entry) d (known_of known.now))
+        (default_entries (base_of root.entry)))) }
 {
-    let mut all = Vec::new(rt.alloc());
     for entry in root.workspace.default_members.as_slice() {
-        let places = places_of_entry(rt, looks, root.place, entry.as_str())?;
-        if !any_astray(rt.alloc(), root, known, places.as_slice())? {
-            continue;
-        }
-        all.push(entry.clone()?)?;
+        let entry = entry.as_str();
+        let places = places_of_entry(rt, looks, root.place, entry)?;
+        let is_astray = any_astray(known, places.as_slice());
+        find_if(findings, Code::DefaultMember, is_astray, entry)?;
     }
-    Ok(all)
+    Ok(())
 }
 
 /// Whether one of these places is none of a member, nor listed and excluded.
-fn any_astray(
-    alloc: Global,
-    root: Root<'_>,
-    known: Known<'_>,
-    places: &[String],
-) -> Result<bool, AllocError>
-    ensures { IfOk result (λ b. b ≡ any_astray (known_of known.entry)
-        (is_excluded (base_of root.entry)) (map string_bytes places.now)) }
+fn any_astray(known: &Known, places: &[String]) -> bool
+    ensures { result ≡ list_any (is_astray (known_of known.now)) (map string_bytes places.now) }
 {
     for place in places {
-        if is_astray(alloc, root, known, place.as_str())? {
-            return Ok(true);
+        if is_astray(known, place.as_str()) {
+            return true;
         }
     }
-    Ok(false)
+    false
 }
 
-fn is_astray(
-    alloc: Global,
-    root: Root<'_>,
-    known: Known<'_>,
-    place: &str,
-) -> Result<bool, AllocError>
-    ensures { IfOk result (λ b. b ≡ is_astray (known_of known.entry)
-        (is_excluded (base_of root.entry)) place.now) }
+fn is_astray(known: &Known, place: &str) -> bool
+    ensures { result ≡ is_astray (known_of known.now) place.now }
 {
-    if known.members.contains(place) {
-        return Ok(false);
-    }
-    if !known.listed.contains(place) {
-        return Ok(true);
-    }
-    Ok(!excludes(alloc, root.limits(), place)?)
+    !known.members.contains(place)
+        && !(known.listed.contains(place) && !known.entered.contains(place))
 }
 
 /// The report as text, and whether something is odd: JSON where `as_json` is set, and else lines.

@@ -2,11 +2,14 @@
 ghost use Rattle.std.specs.Prelude.{◌≡◌, ◌++◌, IfOk, OnOk, map};
 ghost use Rattle.std.specs.List.{flat_map};
 ghost use Rattle.cargo_toml.specs.Manifests.{held};
+ghost use Rattle.cargo_toml.specs.Reads.{map_meaning};
+ghost use Rattle.cargo_toml.specs.Targets.{target_meaning};
 ghost use Rattle.cargo_toml_dependencies.specs.Replacing.{entries_meaning};
-ghost use Rattle.cargo_toml_audit.specs.Entries.{entries_of, listed_of, own_by_kind, with_kind};
+ghost use Rattle.cargo_toml_audit.specs.Entries.{entries_of, in_target, listed_of, own_by_kind};
+ghost use Rattle.cargo_toml_audit.specs.Entries.{with_kind};
 
 use cargo_toml::features::Kind;
-use cargo_toml::{Dependency, DepsSet, Manifest};
+use cargo_toml::{Dependency, DepsSet, Manifest, TargetDepsSet};
 use std::alloc::{AllocError, Global};
 
 /// A dependency: which table lists it, its key, and what stands there.
@@ -39,15 +42,27 @@ pub fn entries<M>(alloc: Global, manifest: &Manifest<M>) -> Result<Vec<Entry<'_>
         build: &manifest.build_dependencies,
     };
     add_tables(own, &mut all)?;
-    for (_, target) in &manifest.target {
+    add_targets(&manifest.target, &mut all)?;
+    Ok(all)
+}
+
+#[tactic(auto, using(crate::proofs::Walks::left_next, crate::proofs::Walks::left_none))]
+fn add_targets<'a>(
+    targets: &'a TargetDepsSet,
+    all: &mut Vec<Entry<'a>>,
+) -> Result<(), AllocError>
+    ensures { OnOk result (map listed_of all.new.items ≡ map listed_of all.old.items
+        ++ flat_map in_target (map_meaning target_meaning targets.now)) }
+{
+    for (_, target) in targets {
         let tables = Tables {
             normal: &target.dependencies,
             dev: &target.dev_dependencies,
             build: &target.build_dependencies,
         };
-        add_tables(tables, &mut all)?;
+        add_tables(tables, all)?;
     }
-    Ok(all)
+    Ok(())
 }
 
 fn add_tables<'a>(tables: Tables<'a>, all: &mut Vec<Entry<'a>>) -> Result<(), AllocError>

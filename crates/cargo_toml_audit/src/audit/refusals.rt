@@ -1,105 +1,77 @@
 //! What Cargo refuses of a member's manifest where it stands.
-ghost use Rattle.std.specs.Prelude.{◌≡◌, ◌++◌, IfOk, OnOk, map, option_map};
+ghost use Rattle.std.specs.Prelude.{◌≡◌, ◌==◌, IfOk, map, option_map};
+ghost use Rattle.std.specs.BTreeMap.{btree_map_len};
 ghost use Rattle.cargo_toml.specs.Dependencies.{dependency_meaning};
 ghost use Rattle.cargo_toml.specs.Manifests.{held};
 ghost use Rattle.cargo_toml.specs.Packages.{held_package};
 ghost use Rattle.cargo_toml_audit.specs.Entries.{entries_of, listed_of};
-ghost use Rattle.cargo_toml_audit.specs.Refusals.{code_if, has_lints_left, has_no_target, is_false};
-ghost use Rattle.cargo_toml_audit.specs.Refusals.{is_not_inherited, leads_elsewhere};
-ghost use Rattle.cargo_toml_audit.specs.Refusals.{names_workspace, refusals, stands_of};
+ghost use Rattle.cargo_toml_audit.specs.Oddities.{has_no_target, is_false, is_not_inherited};
+ghost use Rattle.cargo_toml_audit.specs.Oddities.{leads_elsewhere, named_by, refusals};
 
-use super::Code;
 use super::entries::{Entry, entries};
+use super::{Code, Root};
 use crate::members::place_of;
 use cargo_toml::{Dependency, Manifest, Package};
 use std::alloc::{AllocError, Global};
 
-/// Where a member's manifest stands.
-#[derive(Clone, Copy)]
-pub struct Standing<'a> {
-    /// The place of its folder.
-    pub place: &'a str,
-    /// The place of the workspace.
-    pub root: &'a str,
-    /// Whether it lies in the workspace's folder, or leads to that.
-    pub is_own: bool,
-    /// Whether `lint` finds errors in its features.
-    pub has_errors: bool,
-    /// Whether the workspace gives no lints.
-    pub lacks_lints: bool,
-}
-
-/// What Cargo refuses of a manifest as it is written.
-pub fn refusal_codes<M>(
+/// What Cargo refuses of a manifest as it is written, by its place, whether that lies in the
+/// workspace's folder or leads there, and whether `lint` finds errors in its features.
+pub fn refusal_rows<M>(
     alloc: Global,
-    standing: Standing<'_>,
+    root: Root<'_>,
+    at: (&str, bool),
+    has_errors: bool,
     written: &Manifest<M>,
-) -> Result<Vec<Code>, AllocError>
-    ensures { IfOk result
-        (λ codes. codes.items ≡ refusals (stands_of standing.entry) (held written.now)) }
+) -> Result<[(Code, bool); 7], AllocError>
+    ensures { IfOk result (λ rows. rows ≡ refusals at.entry.0.now root.entry.place.now
+        (btree_map_len root.entry.workspace.now.lints == 0) at.entry.1 has_errors
+        (held written.now)) }
 {
-    let mut codes = Vec::new(alloc);
-    let is_root = standing.place == standing.root;
+    let (place, is_own) = at;
     let has_own = written.workspace.is_some();
-    let named = names_workspace(&written.package);
-    let elsewhere = leads_elsewhere(alloc, standing, &written.package)?;
-    let not_inherited = has_no_source(alloc, written)?;
-    push_if(&mut codes, standing.has_errors, Code::Features)?;
-    push_if(
-        &mut codes,
-        has_lints_left(written, standing.lacks_lints),
-        Code::NoLints,
-    )?;
-    push_if(&mut codes, not_inherited, Code::NotInherited)?;
-    push_if(&mut codes, elsewhere && !has_own, Code::OtherWorkspace)?;
-    push_if(&mut codes, !standing.is_own && !named, Code::Outside)?;
-    push_if(&mut codes, named && has_own, Code::TwoWorkspaces)?;
-    push_if(&mut codes, has_own && !is_root, Code::WorkspaceWithin)?;
-    Ok(codes)
+    let named = named_by(&written.package);
+    let is_elsewhere = leads_elsewhere(alloc, place, root.place, named)?;
+    let is_named = named.is_some();
+    let lacks_lints = root.workspace.lints.is_empty();
+    let leaves_lints = !written.lints.is_set();
+    let is_apart = place != root.place;
+    let not_inherited = has_false(alloc, written)?;
+    Ok([
+        (Code::Features, has_errors),
+        (Code::NoLints, lacks_lints & leaves_lints),
+        (Code::NotInherited, not_inherited),
+        (Code::OtherWorkspace, is_elsewhere & !has_own),
+        (Code::Outside, !is_own & !is_named),
+        (Code::TwoWorkspaces, is_named & has_own),
+        (Code::WorkspaceWithin, has_own & is_apart),
+    ])
 }
 
-fn push_if(codes: &mut Vec<Code>, holds: bool, code: Code) -> Result<(), AllocError>
-    ensures { OnOk result (codes.new.items ≡ codes.old.items ++ code_if holds code) }
-{
-    if holds {
-        codes.push(code)?;
-    }
-    Ok(())
-}
-
-fn has_lints_left<M>(manifest: &Manifest<M>, lacks_lints: bool) -> bool
-    ensures { result ≡ has_lints_left (held manifest.now) lacks_lints }
-{
-    lacks_lints && !manifest.lints.is_set()
-}
-
-/// Whether a package names its workspace.
-fn names_workspace<M>(package: &Option<Package<M>>) -> bool
-    ensures { result ≡ names_workspace (option_map held_package «package».now) }
+/// The workspace that a package names.
+fn named_by<M>(package: &Option<Package<M>>) -> Option<&str>
+    ensures { option_map (λ t. t.now) result ≡ named_by (option_map held_package «package».now) }
 {
     match package {
-        Some(package) => package.workspace.is_some(),
-        None => false,
+        Some(package) => package.workspace.as_deref(),
+        None => None,
     }
 }
 
-/// Whether it names another.
-fn leads_elsewhere<M>(
+/// Whether a path that a package at a place names leads to another workspace than the root's.
+fn leads_elsewhere(
     alloc: Global,
-    standing: Standing<'_>,
-    package: &Option<Package<M>>,
+    place: &str,
+    root: &str,
+    named: Option<&str>,
 ) -> Result<bool, AllocError>
-    ensures { IfOk result (λ b. b ≡ leads_elsewhere standing.entry.place.now
-        standing.entry.root.now (option_map held_package «package».now)) }
+    ensures { IfOk result
+        (λ b. b ≡ leads_elsewhere place.now root.now (option_map (λ t. t.now) named.entry)) }
 {
-    let Some(package) = package else {
+    let Some(path) = named else {
         return Ok(false);
     };
-    let Some(path) = &package.workspace else {
-        return Ok(false);
-    };
-    let place = place_of(alloc, standing.place, path.as_str())?;
-    Ok(place.as_str() != standing.root)
+    let named = place_of(alloc, place, path)?;
+    Ok(named.as_str() != root)
 }
 
 /// Whether a manifest that is completed has nothing to build.
@@ -115,7 +87,7 @@ pub fn has_no_target<M>(manifest: &Manifest<M>) -> bool
 }
 
 /// Whether some dependency has `workspace = false`.
-fn has_no_source<M>(alloc: Global, manifest: &Manifest<M>) -> Result<bool, AllocError>
+fn has_false<M>(alloc: Global, manifest: &Manifest<M>) -> Result<bool, AllocError>
     ensures { IfOk result (λ b. b ≡ is_not_inherited (entries_of (held manifest.now))) }
 {
     let entries = entries(alloc, manifest)?;

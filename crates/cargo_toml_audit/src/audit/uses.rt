@@ -1,56 +1,52 @@
 //! What members ask for, and which crates they ask for by several requirements.
-ghost use Rattle.std.specs.Prelude.{◌≡◌, IfOk, OnOk, map};
-ghost use Rattle.std.specs.List.{list_all};
-ghost use Rattle.std.specs.List.Sorted.{IsStrictlySortedBy};
-ghost use Rattle.cargo_toml_audit.specs.Entries.{listed_of};
-ghost use Rattle.cargo_toml_audit.specs.Noted.{GainsUses, asked_by, asked_in};
-ghost use Rattle.cargo_toml_audit.specs.Noted.{asking_of, askings_of};
-ghost use Rattle.cargo_toml_audit.specs.Oddities.{Finds};
-ghost use Rattle.cargo_toml_audit.specs.Overall.{asking_cmp, has_same_requirement};
-ghost use Rattle.cargo_toml_audit.specs.Overall.{several_among, several_of};
+ghost use Rattle.std.specs.Prelude.{◌≡◌, ◌++◌, ◌||◌, ℕ, IfOk, List, OnOk, bytes_eq, false, map};
+ghost use Rattle.std.specs.Prelude.{string_bytes};
+ghost use Rattle.std.specs.BTreeSet.{contains_text};
+ghost use Rattle.cargo_toml_audit.specs.Entries.{asked_by, asked_in, asking_of, listed_of};
+ghost use Rattle.cargo_toml_audit.specs.Oddities.{asking_key, found_if, further_from, further_of};
+ghost use Rattle.cargo_toml_audit.specs.Oddities.{oddity_of};
+ghost use Rattle.cargo_toml_audit.specs.declared.audit.Code.TheVariants.{SeveralRequirements};
 
 use super::entries::Entry;
+use super::findings::find;
 use super::{Code, Finding, Use};
+use crate::auditing::note;
 use crate::members::seen_from;
 use cargo_toml_tools::requirement::required_version;
 use cargo_toml_write::write::requirement::requirement_text;
 use std::alloc::{AllocError, Global};
-use std::collections::BTreeSet;
+use std::collections::{BTreeMap, BTreeSet};
 
 /// Adds what a member asks for by a requirement.
+#[tactic(auto, using(crate::proofs::Walks::mapped_next))]
 pub fn add_uses(
-    alloc: Global,
     folder: &str,
     entries: &[Entry<'_>],
-    uses: &mut BTreeSet<Use>,
+    uses: &mut Vec<Use>,
 ) -> Result<(), AllocError>
-    ensures { OnOk result
-        (GainsUses (asked_in folder.now (map listed_of entries.now)) uses.old uses.new) }
+    ensures { OnOk result (map asking_of uses.new.items
+        ≡ map asking_of uses.old.items ++ asked_in (map listed_of entries.now)) }
 {
     for entry in entries {
-        add_use(alloc, folder, *entry, uses)?;
+        add_use(folder, *entry, uses)?;
     }
     Ok(())
 }
 
 /// Adds what a dependency asks for, where it has a requirement.
-fn add_use(
-    alloc: Global,
-    folder: &str,
-    entry: Entry<'_>,
-    uses: &mut BTreeSet<Use>,
-) -> Result<(), AllocError>
-    ensures { OnOk result
-        (GainsUses (asked_by folder.now (listed_of entry.entry)) uses.old uses.new) }
+fn add_use(folder: &str, entry: Entry<'_>, uses: &mut Vec<Use>) -> Result<(), AllocError>
+    ensures { OnOk result (map asking_of uses.new.items
+        ≡ map asking_of uses.old.items ++ asked_by (listed_of entry.entry)) }
 {
     let Some(requirement) = required_version(entry.dependency) else {
         return Ok(());
     };
+    let alloc = *uses.allocator();
     let name = entry.dependency.package().unwrap_or(entry.key);
     let name = String::from_str(alloc, name)?;
     let requirement = requirement_text(alloc, requirement)?;
     let folder = String::from_str(alloc, folder)?;
-    uses.insert(Use {
+    uses.push(Use {
         name,
         requirement,
         folder,
@@ -58,100 +54,97 @@ fn add_use(
     Ok(())
 }
 
-/// A use that is lent.
-#[derive(Clone, Copy)]
-struct Lent<'a>(&'a Use);
-
-/// Adds the crates that are asked for by several requirements. What asks for one crate stands
-/// together, and in it what asks by one requirement.
-pub fn add_requirements(
-    root: &str,
-    uses: &BTreeSet<Use>,
-    findings: &mut Vec<Finding>,
-) -> Result<(), AllocError>
-    ensures found { OnOk result
-        (Finds (several_among (askings_of uses.now)) findings.old findings.new) }
-    ensures ordered { OnOk result (IsStrictlySortedBy asking_cmp (askings_of uses.now)) }
-{
-    let uses = in_order(*findings.allocator(), uses)?;
-    for own in uses.chunk_by(|a, b| a.0.name == b.0.name) {
-        add_crate(root, own, findings)?;
-    }
-    Ok(())
+/// What was asked for so far.
+#[derive(Drop)]
+struct Asked {
+    /// The names of crates.
+    names: BTreeSet<String>,
+    /// By a name, how it was asked for last.
+    last: BTreeMap<String, String>,
+    /// A requirement and the name, in one text.
+    keys: BTreeSet<String>,
 }
 
-/// The uses side by side, in order.
-fn in_order(alloc: Global, uses: &BTreeSet<Use>) -> Result<Vec<Lent<'_>>, AllocError>
-    ensures all { IfOk result
-        (λ all. map (λ u. asking_of u.0.now) all.items ≡ askings_of uses.now) }
-    ensures ordered { OnOk result (IsStrictlySortedBy asking_cmp (askings_of uses.now)) }
+/// What asks for a crate that was asked for before, and by a requirement that is new.
+pub fn further(alloc: Global, root: &str, uses: &[Use]) -> Result<Vec<Finding>, AllocError>
+    ensures { IfOk result (λ all. map oddity_of all.items
+        ≡ further_from (λ t. false) (λ t. false) (map asking_of uses.now)) }
 {
     let mut all = Vec::new(alloc);
+    let mut asked = Asked {
+        names: BTreeSet::new(alloc),
+        last: BTreeMap::new(alloc),
+        keys: BTreeSet::new(alloc),
+    };
     for one in uses {
-        all.push(Lent(one))?;
+        add_further(root, one, &mut asked, &mut all)?;
     }
     Ok(all)
 }
 
-/// Adds a crate where it is asked for by several requirements, by all that asks for it.
-fn add_crate(root: &str, uses: &[Lent<'_>], findings: &mut Vec<Finding>) -> Result<(), AllocError>
-    ensures { OnOk result (Finds (several_of (map (λ u. asking_of u.0.now) uses.now))
-        findings.old findings.new) }
+fn add_further(
+    root: &str,
+    one: &Use,
+    asked: &mut Asked,
+    all: &mut Vec<Finding>,
+) -> Result<(), AllocError>
+    ensures found { OnOk result (map oddity_of all.new.items ≡ map oddity_of all.old.items
+        ++ further_of (contains_text asked.old.names) (contains_text asked.old.keys)
+        (asking_of one.now)) }
+    ensures names { OnOk result ((t : List ℕ) → contains_text asked.new.names t
+        ≡ (contains_text asked.old.names t || bytes_eq (asking_of one.now).name t)) }
+    ensures keys { OnOk result ((t : List ℕ) → contains_text asked.new.keys t
+        ≡ (contains_text asked.old.keys t || bytes_eq (asking_key (asking_of one.now)) t)) }
 {
-    let Some((first, others)) = uses.split_first() else {
-        return Ok(());
-    };
-    if is_single(first.0, others) {
-        return Ok(());
-    }
-    let alloc = *findings.allocator();
-    let words = several_words(alloc, root, uses)?;
-    let subject = String::from_str(alloc, first.0.name.as_str())?;
-    findings.push(Finding {
-        code: Code::SeveralRequirements,
-        subject,
-        words,
-    })?;
-    Ok(())
+    let alloc = *all.allocator();
+    let name = one.name.as_str();
+    let key = asking_key(alloc, one)?;
+    let words = how_asked(alloc, root, one)?;
+    let is_further = asked.names.contains(name) && !asked.keys.contains(key.as_str());
+    find_further(name, words.as_str(), &asked.last, is_further, all)?;
+    asked.last.insert(one.name.clone()?, words)?;
+    note(alloc, &mut asked.names, name, true)?;
+    note(alloc, &mut asked.keys, key.as_str(), true)
 }
 
-/// Whether the others have the requirement of the first.
-fn is_single(first: &Use, others: &[Lent<'_>]) -> bool
-    ensures { result ≡ list_all (λ b. has_same_requirement b (asking_of first.now))
-        (map (λ u. asking_of u.0.now) others.now) }
+fn find_further(
+    name: &str,
+    words: &str,
+    last: &BTreeMap<String, String>,
+    is_further: bool,
+    all: &mut Vec<Finding>,
+) -> Result<(), AllocError>
+    ensures { OnOk result (map oddity_of all.new.items ≡ map oddity_of all.old.items
+        ++ found_if SeveralRequirements is_further name.now) }
 {
-    others
-        .iter()
-        .all(|other| other.0.requirement == first.requirement)
-}
-
-/// The requirements by which a crate is asked for, each with the folders.
-fn several_words(alloc: Global, root: &str, uses: &[Lent<'_>]) -> Result<String, AllocError> {
-    let mut words = String::new(alloc);
-    let mut all = uses.chunk_by(|a, b| a.0.requirement == b.0.requirement);
-    let Some(first) = all.next() else {
-        return Ok(words);
-    };
-    push_requirement(&mut words, root, first)?;
-    for own in all {
-        words.push_str("; ")?;
-        push_requirement(&mut words, root, own)?;
-    }
-    Ok(words)
-}
-
-/// Writes a requirement, and the folders of what asks by it.
-fn push_requirement(words: &mut String, root: &str, uses: &[Lent<'_>]) -> Result<(), AllocError> {
-    let alloc = *words.allocator();
-    let Some((first, others)) = uses.split_first() else {
+    if !is_further {
         return Ok(());
-    };
-    words.push_str(first.0.requirement.as_str())?;
-    words.push_str(" in ")?;
-    words.push_str(seen_from(alloc, root, first.0.folder.as_str())?.as_str())?;
-    for other in others {
-        words.push_str(", ")?;
-        words.push_str(seen_from(alloc, root, other.0.folder.as_str())?.as_str())?;
     }
-    Ok(())
+    let last = last_words(last, name);
+    let words = format!(in *all.allocator(); "{words}, and {last}")?;
+    find(all, Code::SeveralRequirements, name, words)
+}
+
+fn last_words<'a>(last: &'a BTreeMap<String, String>, name: &str) -> &'a str {
+    match last.get(name) {
+        Some(words) => words.as_str(),
+        None => "",
+    }
+}
+
+/// A requirement, in which there is no `|`, and the name of the crate.
+fn asking_key(alloc: Global, one: &Use) -> Result<String, AllocError>
+    ensures { IfOk result (λ key. string_bytes key ≡ asking_key (asking_of one.now)) }
+{
+    let requirement = one.requirement.as_str();
+    let name = one.name.as_str();
+    let key = format!(in alloc; "{requirement}|{name}")?;
+    Ok(key)
+}
+
+/// The requirement, and the folder of what asks by it.
+fn how_asked(alloc: Global, root: &str, one: &Use) -> Result<String, AllocError> {
+    let requirement = one.requirement.as_str();
+    let folder = seen_from(alloc, root, one.folder.as_str())?;
+    format!(in alloc; "{requirement} in {folder}")
 }

@@ -1,21 +1,23 @@
 //! What a report takes of one place: a member, or that it was refused.
-ghost use Rattle.std.specs.Prelude.{◌≡◌, ◌≢◌, [], Bool, IfErr, IfOk, OnOk, map, true};
-ghost use Rattle.cargo_toml.specs.Error.{Memory};
-ghost use Rattle.cargo_toml.specs.Manifests.{held};
+ghost use Rattle.std.specs.Prelude.{◌≡◌, ◌≢◌, ◌++◌, [], IfErr, IfOk, OnOk, Option, map, string_bytes};
+ghost use Rattle.std.specs.Option.{option_map_or};
+ghost use Rattle.cargo_toml.specs.Error.{Error, Memory};
 ghost use Rattle.cargo_toml.specs.RealFiles.{is_absent};
-ghost use Rattle.cargo_toml_audit.specs.AuditSteps.{AddsForeign, AddsMade, AddsMemberAt, AddsPlace};
-ghost use Rattle.cargo_toml_audit.specs.AuditedFiles.{HasErrors, base_of, has_error, is_rootless};
-ghost use Rattle.cargo_toml_audit.specs.AuditedFiles.{refusal, refusal_code, stands};
 ghost use Rattle.cargo_toml_tools.specs.FromFiles.{IsUnreadable};
-ghost use Rattle.cargo_toml_audit.specs.Oddities.{Finds, oddity_with};
-ghost use Rattle.cargo_toml_audit.specs.Refusals.{refusals};
+ghost use Rattle.cargo_toml_audit.specs.AuditSteps.{AddsCompleted, AddsMade, AddsMemberAt, AddsPlace};
+ghost use Rattle.cargo_toml_audit.specs.AuditedFiles.{HasErrors, base_of, has_error, is_rootless};
+ghost use Rattle.cargo_toml_audit.specs.AuditedFiles.{refusal, refusal_code};
+ghost use Rattle.cargo_toml_audit.specs.Oddities.{oddities_of};
 
 use super::above::is_of;
-use crate::audit::{Audit, Code, Root, Standing, has_no_target, needs, refusal_codes};
+use crate::audit::findings::{find, find_if, find_in};
+use crate::audit::{
+    Audit, Code, Finding, Root, has_no_target, needs, refusal_rows, summarize, untold_words,
+};
 use crate::members::manifest_path;
 use cargo_toml::{Error, Manifest};
 use cargo_toml_held::HeldManifest;
-use cargo_toml_lint::{Finding, Level};
+use cargo_toml_lint::{Finding as Fault, Level};
 use cargo_toml_tools::files::{findings_of, manifest_in};
 use std::alloc::{AllocError, Global};
 use std::io;
@@ -48,27 +50,35 @@ pub fn add_place<R: Files + RandomSource + AllocGlobal>(
     let path = manifest_path(alloc, place)?;
     let held = match manifest_in(rt, path.as_str()) {
         Ok(held) => held,
-        Err(fault) => return refused(alloc, place, fault, audit),
+        Err(fault) => {
+            refuse(place, fault, &mut audit.findings)?;
+            return Ok(looked(true, Vec::new(alloc)));
+        }
     };
     let is_own = match is_of(rt, place, root.place) {
         Ok(is_own) => is_own,
-        Err(fault) => return refused(alloc, place, fault, audit),
+        Err(fault) => {
+            refuse(place, fault, &mut audit.findings)?;
+            return Ok(looked(true, Vec::new(alloc)));
+        }
     };
     if !is_listed && !is_own {
-        return add_foreign(rt, place, held, audit);
+        add_foreign(rt, (place, path.as_str()), held, &mut audit.findings)?;
+        return Ok(looked(false, Vec::new(alloc)));
     }
     let needs = needs(alloc, root, place, &*held.manifest)?;
     if is_rootless(root, place, &*held.manifest) {
-        return Ok(Seen {
-            is_member: true,
-            needs,
-        });
+        return Ok(looked(true, needs));
     }
     add_member(rt, root, (place, is_own), held, audit)?;
-    Ok(Seen {
-        is_member: true,
-        needs,
-    })
+    Ok(looked(true, needs))
+}
+
+fn looked(is_member: bool, needs: Vec<String>) -> Seen
+    ensures is_member { result.is_member ≡ is_member }
+    ensures needs { result.needs ≡ needs }
+{
+    Seen { is_member, needs }
 }
 
 /// Whether it is the root's own manifest, without a package.
@@ -78,62 +88,39 @@ fn is_rootless(root: Root<'_>, place: &str, manifest: &Manifest) -> bool
     place == root.place && manifest.package.is_none()
 }
 
-/// Adds that what lies at a place can't be read.
-fn refused(alloc: Global, place: &str, fault: Error, audit: &mut Audit) -> Result<Seen, Error>
-    ensures seen { IfOk result (λ seen. (seen.is_member ≡ true) × (seen.needs.items ≡ [])) }
-    ensures memory { OnOk result (fault ≢ Memory) }
-    ensures rest { audit.new ≡ record audit.old { findings = audit.new.findings } }
-    ensures found { OnOk result
-        (Finds (refusal place.now fault) audit.old.findings audit.new.findings) }
-    ensures refused { IfErr result IsUnreadable }
-{
-    refuse(alloc, place, fault, audit)?;
-    Ok(Seen {
-        is_member: true,
-        needs: Vec::new(alloc),
-    })
-}
-
 /// Looks at what is none of the workspace's. It has to complete all the same.
 fn add_foreign<R: Files + AllocGlobal>(
     rt: &R,
-    place: &str,
+    at: (&str, &str),
     held: HeldManifest,
-    audit: &mut Audit,
-) -> Result<Seen, Error>
-    ensures added { IfOk result (λ seen. AddsForeign place.now seen audit.old audit.new) }
+    findings: &mut Vec<Finding>,
+) -> Result<(), Error>
+    ensures found { OnOk result ((fault : Option Error) × (oddities_of findings.new
+        ≡ oddities_of findings.old ++ option_map_or (refusal at.entry.0.now) fault [])) }
     ensures refused { IfErr result IsUnreadable }
 {
-    let alloc = rt.alloc();
+    let (place, path) = at;
     let mut held = held;
-    let path = manifest_path(alloc, place)?;
-    if let Err(fault) = held.manifest.complete_from_path(rt, alloc, path.as_str()) {
-        refuse(alloc, place, fault, audit)?;
-        return Ok(Seen {
-            is_member: false,
-            needs: Vec::new(alloc),
-        });
+    match held.manifest.complete_from_path(rt, rt.alloc(), path) {
+        Ok(()) => Ok(()),
+        Err(fault) => refuse(place, fault, findings),
     }
-    Ok(Seen {
-        is_member: false,
-        needs: Vec::new(alloc),
-    })
 }
 
 /// Adds that a place was refused. Only want of memory ends the report.
-fn refuse(alloc: Global, place: &str, fault: Error, audit: &mut Audit) -> Result<(), Error>
+fn refuse(place: &str, fault: Error, findings: &mut Vec<Finding>) -> Result<(), Error>
     ensures memory { OnOk result (fault ≢ Memory) }
-    ensures rest { audit.new ≡ record audit.old { findings = audit.new.findings } }
-    ensures found { OnOk result
-        (Finds (refusal place.now fault) audit.old.findings audit.new.findings) }
+    ensures found { OnOk result (oddities_of findings.new
+        ≡ oddities_of findings.old ++ refusal place.now fault) }
     ensures refused { IfErr result IsUnreadable }
 {
     match fault {
         Error::Memory => Err(Error::Memory),
         fault => {
             let code = refusal_code(&fault);
-            let words = refusal_words(alloc, code, &fault)?;
-            Ok(audit.find(code, place, words)?)
+            let words = refusal_words(*findings.allocator(), code, &fault)?;
+            find(findings, code, place, words)?;
+            Ok(())
         }
     }
 }
@@ -178,38 +165,12 @@ fn add_member<R: Files + RandomSource + AllocGlobal>(
         held.manifest.value audit.old audit.new) }
     ensures refused { IfErr result IsUnreadable }
 {
-    let (place, is_own) = at;
-    add_refusals(rt, root, at, &*held.manifest, audit)?;
+    let (place, _) = at;
+    let has_errors = has_errors(rt, &*held.manifest)?;
+    let rows = refusal_rows(rt.alloc(), root, at, has_errors, &*held.manifest)?;
+    find_in(&mut audit.findings, place, &rows)?;
     let inherits = audit.add_written(&*held.manifest)?;
     add_made(rt, root, place, (held, inherits), audit)
-}
-
-/// Adds what Cargo refuses of a member's manifest as it is written.
-fn add_refusals<R: RandomSource + AllocGlobal>(
-    rt: &R,
-    root: Root<'_>,
-    at: (&str, bool),
-    written: &Manifest,
-    audit: &mut Audit,
-) -> Result<(), Error>
-    ensures rest { audit.new ≡ record audit.old { findings = audit.new.findings } }
-    ensures found { OnOk result ((errors : Bool) × (HasErrors written.now errors
-        × Finds (map (λ code. oddity_with code at.entry.0.now)
-        (refusals (stands (base_of root.entry) at.entry.0.now at.entry.1 errors)
-        (held written.now))) audit.old.findings audit.new.findings)) }
-    ensures refused { IfErr result IsUnreadable }
-{
-    let (place, is_own) = at;
-    let standing = Standing {
-        place,
-        root: root.place,
-        is_own,
-        has_errors: has_errors(rt, written)?,
-        lacks_lints: root.workspace.lints.is_empty(),
-    };
-    let codes = refusal_codes(rt.alloc(), standing, written)?;
-    audit.find_each(codes.as_slice(), place)?;
-    Ok(())
 }
 
 /// Whether `lint` finds errors in the features of a manifest.
@@ -221,7 +182,7 @@ fn has_errors<R: RandomSource + AllocGlobal>(rt: &R, manifest: &Manifest) -> Res
     Ok(any_error(findings.as_slice()))
 }
 
-fn any_error(findings: &[Finding<'_>]) -> bool
+fn any_error(findings: &[Fault<'_>]) -> bool
     ensures { result ≡ has_error findings.now }
 {
     for found in findings {
@@ -252,11 +213,30 @@ fn add_made<R: Files + AllocGlobal>(
         .manifest
         .complete_from_path_and_workspace(rt, alloc, path.as_str(), handed);
     if let Err(fault) = done {
-        return refuse(alloc, place, fault, audit);
+        return refuse(place, fault, &mut audit.findings);
     }
-    audit.find_if(Code::NoTarget, has_no_target(&*held.manifest), place)?;
-    match audit.add_completed(place, &*held.manifest, inherits, root.workspace) {
-        Ok(()) => Ok(()),
-        Err(fault) => refuse(alloc, place, fault, audit),
+    add_completed(root, place, &*held.manifest, inherits, audit)?;
+    Ok(())
+}
+
+/// Adds what a member is whose manifest is completed, or that nothing can be told of it.
+fn add_completed(
+    root: Root<'_>,
+    place: &str,
+    manifest: &Manifest,
+    inherits: Vec<String>,
+    audit: &mut Audit,
+) -> Result<(), AllocError>
+    ensures { OnOk result (AddsCompleted (base_of root.entry) place.now manifest.now
+        (map string_bytes inherits.items) audit.old audit.new) }
+{
+    let alloc = *audit.root.allocator();
+    find_if(&mut audit.findings, Code::NoTarget, has_no_target(manifest), place)?;
+    match summarize(alloc, place, manifest, inherits)? {
+        Some(member) => audit.add_member(member, manifest, root.workspace),
+        None => {
+            let words = String::from_str(alloc, untold_words(manifest))?;
+            find(&mut audit.findings, Code::Incomplete, place, words)
+        }
     }
 }

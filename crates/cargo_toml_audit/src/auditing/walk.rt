@@ -90,7 +90,7 @@ fn visit<R: Files + RandomSource + AllocGlobal>(
 }
 
 /// Puts a text into a set, where it is one.
-fn note(
+pub fn note(
     alloc: Global,
     set: &mut BTreeSet<String>,
     text: &str,

@@ -1,6 +1,6 @@
 use Rattle.std.proofs.Common.{◌≡◌, drop, map}
 use Rattle.cargo_toml_audit.specs.Entries.{listed_of}
-use Rattle.cargo_toml_audit.specs.Refusals.{is_not_inherited}
+use Rattle.cargo_toml_audit.specs.Oddities.{is_not_inherited}
 use Rattle.cargo_toml_audit.proofs.audit.refusals.is_not_inherited.Given as goal
 
 abbrev pub invariant-loop-entry : goal.invariant-loop-entry

@@ -1,11 +1,6 @@
-use Rattle.std.proofs.Common.{drop, map}
-use Rattle.cargo_toml.specs.Reach.{Among}
-use Rattle.cargo_toml_audit.specs.Entries.{listed_of}
-use Rattle.cargo_toml_audit.specs.Noted.{asked_in, askings_of}
-use Rattle.cargo_toml_audit.proofs.Exactly.{Gaining}
+use Rattle.std.proofs.Common.{◌≡◌, ◌++◌, map, take}
+use Rattle.cargo_toml_audit.specs.Entries.{asked_in, asking_of, listed_of}
 use Rattle.cargo_toml_audit.proofs.audit.uses.add_uses.Given as goal
 
 abbrev pub invariant-loop-entry : goal.invariant-loop-entry
-invariant-loop-entry l =
-    Gaining (asked_in l.folder (map listed_of (drop l.entry-index l.entries))) (asked_in l.folder (map listed_of l.entries))
-    (Among (askings_of l.fn.uses)) (Among (askings_of l.uses))
+invariant-loop-entry l = map asking_of l.uses.items ≡ map asking_of l.fn.uses.items ++ asked_in (map listed_of (take l.entry-index l.entries))

@@ -1,9 +1,6 @@
-pub mod Inserted
 pub mod Joined
-pub mod Kept
-pub mod KeysInOrder
 pub mod Matched
-pub mod Repeated
+pub mod Sets
 pub mod Taking
 pub mod Walked
 pub mod Walking

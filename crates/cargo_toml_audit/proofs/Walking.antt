@@ -1,22 +1,20 @@
 -- The places that are looked at, while some are waiting.
-use Rattle.std.proofs.Common.{◌≡◌, ◌++◌, ◌||◌, ◌&&◌, ◌∙◌, Bool, true, false, List, [], ◌∷◌, ap, inl, inr, append-nil, cond, map, map-append, string_bytes, subst, sym}
+use Rattle.std.proofs.Common.{◌≡◌, ◌++◌, ◌||◌, ◌&&◌, ◌∙◌, Bool, true, false, List, [], ◌∷◌, ap, inl, inr, append-nil, cond, map, string_bytes, subst, sym}
 use Rattle.std.proofs.Math.Bool.{or-false}
+use Rattle.std.proofs.lemmas.List.{map-append}
 use Rattle.std.proofs.lemmas.List.Elements.{filter-append}
-use Rattle.std.proofs.lemmas.List.Folds.{list_any-append}
 use Rattle.std.specs.BTreeSet.{contains_text}
 use Rattle.std.specs.Prelude.{bytes_eq, filter}
 use Rattle.cargo_toml.specs.Action.{Text}
-use Rattle.cargo_toml_graph.proofs.Texts.{bytes_eq_sym}
-use Rattle.cargo_toml_audit.specs.AuditedFiles.{Base, Reading, Reads, Takes, gain_of_all, is_excluded, is_in, is_member, looked, member_places, passed, places_read}
+use Rattle.cargo_toml_audit.specs.AuditedFiles.{Base, Reading, Reads, Takes, gain_of_all, is_excluded, is_member, looked, member_places, passed, places_read}
+use Rattle.cargo_toml_audit.specs.Places.{is_in}
 use Rattle.cargo_toml_audit.specs.Walks.{Visits}
 use Rattle.cargo_toml_audit.specs.declared.audit.Audit.{Audit}
 use Rattle.cargo_toml_audit.specs.declared.auditing.walk.Walk.{Walk}
+use Rattle.cargo_toml_audit.proofs.Sets.{one_more_in}
 use Rattle.cargo_toml_audit.proofs.Taking.{one_more_gain, takes_both, takes_nothing, takes_these}
 
 -- one place more
-pub one_more_in : (ts : List Text) (x t : Text) → is_in (ts ++ x ∷ []) t ≡ (is_in ts t || bytes_eq x t)
-one_more_in ts x t = list_any-append (bytes_eq t) ts (x ∷ []) ∙ ap (λ b. is_in ts t || b) (or-false (bytes_eq t x) ∙ bytes_eq_sym t x)
-
 one_more_place : (rs : List Reading) (r : Reading) (t : Text) → is_in (places_read (rs ++ r ∷ [])) t ≡ (is_in (places_read rs) t || bytes_eq r.place t)
 one_more_place rs r t = ap (λ ts. is_in ts t) (map-append (λ (q : Reading). q.place) rs (r ∷ [])) ∙ one_more_in (places_read rs) r.place t
 

@@ -36,10 +36,9 @@ use Rattle.cargo_toml_audit.specs.Entries.{left_keys}
 use Rattle.cargo_toml_audit.specs.MemberFolders.{Disk, disk_of, is_wrong, places_if_right, repeats}
 use Rattle.cargo_toml_audit.specs.MemberFolders.{unseen}
 use Rattle.cargo_toml_audit.specs.Oddities.{Gain, Oddity, both, differences, found_each, found_if}
-pub use Rattle.cargo_toml_audit.specs.Oddities.{is_in}
 use Rattle.cargo_toml_audit.specs.Oddities.{found_in, has_no_target, oddities_of, only_found}
 use Rattle.cargo_toml_audit.specs.Oddities.{overall_oddities, refusals}
-use Rattle.cargo_toml_audit.specs.Places.{excludes, lies_in, manifest_path, place_of}
+use Rattle.cargo_toml_audit.specs.Places.{excludes, is_in, lies_in, manifest_path, place_of}
 use Rattle.cargo_toml_audit.specs.declared.audit.Audit.{Audit}
 use Rattle.cargo_toml_audit.specs.declared.audit.Code.{Code}
 use Rattle.cargo_toml_audit.specs.declared.audit.Code.TheVariants.{Absent, BadPattern}

@@ -16,7 +16,8 @@ use Rattle.cargo_toml.specs.Action.{Text}
 use Rattle.cargo_toml.specs.RealFiles.{is_absent}
 use Rattle.cargo_toml_audit.specs.Patterns.{Part, begins_with_dot, is_deep, is_pattern}
 use Rattle.cargo_toml_audit.specs.Patterns.{matches, parts_of}
-use Rattle.cargo_toml_audit.specs.Places.{is_rooted, normalized, path_below, pieces, place_of}
+use Rattle.cargo_toml_audit.specs.Places.{is_in, is_rooted, normalized, path_below, pieces}
+use Rattle.cargo_toml_audit.specs.Places.{place_of}
 use Rattle.cargo_toml_audit.specs.declared.members.walk.Listing.{Listing}
 use Rattle.cargo_toml_audit.specs.declared.members.walk.Looks.{Looks}
 use Rattle.cargo_toml_audit.specs.declared.members.walk.There.{There}
@@ -175,14 +176,14 @@ is_wrong entry = list_any is_wrong_name (pieces entry)
 abbrev pub places_if_right : Disk → Text → Text → List Text
 places_if_right d root entry = if is_wrong entry then [] else places_of d root entry
 
--- the texts of a list that were seen, or stand before in it
-abbrev pub repeats_of : (Text → Bool) → List Text → List Text
-repeats_of seen [] = []
-repeats_of seen (t ∷ ts) =
-    if seen t then t ∷ repeats_of seen ts else repeats_of (λ s. seen s || bytes_eq t s) ts
+-- the texts of a list that stand in others, or before in it
+abbrev pub repeats_of : List Text → List Text → List Text
+repeats_of before [] = []
+repeats_of before (t ∷ ts) =
+    (if is_in before t then t ∷ [] else []) ++ repeats_of (before ++ t ∷ []) ts
 
 abbrev pub repeats : List Text → List Text
-repeats ts = repeats_of (λ t. false) ts
+repeats ts = repeats_of [] ts
 
 -- what couldn't be looked at, or read to its end
 abbrev pub is_unseen : There → Bool

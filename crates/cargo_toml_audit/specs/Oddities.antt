@@ -16,7 +16,7 @@ use Rattle.cargo_toml.specs.Settings.{edition_text}
 use Rattle.cargo_toml.specs.Templates.{TemplateMeaning}
 use Rattle.cargo_toml_audit.specs.Entries.{Asking, Listed, entries_of}
 use Rattle.cargo_toml_audit.specs.MemberFolders.{repeats}
-use Rattle.cargo_toml_audit.specs.Places.{place_of}
+use Rattle.cargo_toml_audit.specs.Places.{is_in, place_of}
 use Rattle.cargo_toml_audit.specs.declared.audit.Code.{Code}
 use Rattle.cargo_toml_audit.specs.declared.audit.Code.TheVariants.{Features, NoLints, NotInherited}
 use Rattle.cargo_toml_audit.specs.declared.audit.Code.TheVariants.{OptionalShared, OtherEdition}
@@ -125,9 +125,6 @@ both g h = record {
 }
 
 -- ---- what only all members together show
-
-abbrev pub is_in : List Text → Text → Bool
-is_in texts text = list_any (bytes_eq text) texts
 
 -- of a dependency of the workspace: no member inherits it, and it is optional
 abbrev pub shared_oddities : (Text → Bool) → Text × DependencyMeaning → List Oddity

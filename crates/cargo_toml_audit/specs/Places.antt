@@ -82,3 +82,7 @@ abbrev pub excludes : Text → List Text → List Text → Text → Bool
 excludes root excluded members place =
     lies_in_some root (manifest_path place) excluded
     && not (lies_in_some root (manifest_path place) members)
+
+-- a text stands in a list
+abbrev pub is_in : List Text → Text → Bool
+is_in texts text = list_any (bytes_eq text) texts

@@ -4,8 +4,9 @@ use Rattle.std.specs.Prelude.{string_bytes, true}
 use Rattle.std.specs.BTreeSet.{contains_text}
 use Rattle.cargo_toml.specs.Action.{Text}
 use Rattle.cargo_toml_audit.specs.AuditedFiles.{AreRead, Base, Content, IsContent, Reading, Takes}
-use Rattle.cargo_toml_audit.specs.AuditedFiles.{gain_of, gain_of_all, is_excluded, is_in}
+use Rattle.cargo_toml_audit.specs.AuditedFiles.{gain_of, gain_of_all, is_excluded}
 use Rattle.cargo_toml_audit.specs.AuditedFiles.{is_member, member_places, needs_of}
+use Rattle.cargo_toml_audit.specs.Places.{is_in}
 use Rattle.cargo_toml_audit.specs.declared.audit.Audit.{Audit}
 use Rattle.cargo_toml_audit.specs.declared.auditing.walk.Walk.{Walk}
 

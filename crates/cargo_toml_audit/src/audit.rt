@@ -18,8 +18,7 @@ mod root;
 mod summary;
 mod uses;
 
-use crate::auditing::set_of;
-use crate::members::repeats;
+use crate::members::{repeats, set_of};
 use cargo_toml::{Manifest, Workspace};
 use differences::{add_differences, add_shared, names};
 use entries::entries;
@@ -223,8 +222,12 @@ impl Audit {
     pub fn add_written<M>(&mut self, manifest: &Manifest<M>) -> Result<Vec<String>, AllocError>
         ensures keys { IfOk result
             (λ keys. map string_bytes keys.items ≡ left_keys (held manifest.now)) }
-        ensures takes { OnOk result (Takes (record { members = []; found = [];
-            inherited = inherited_in (entries_of (held manifest.now)); asked = [] })
+        ensures takes { OnOk result (Takes (record {
+          members = [];
+          found = [];
+          inherited = inherited_in (entries_of (held manifest.now));
+          asked = [];
+        })
             self.old self.new) }
     {
         let alloc = *self.root.allocator();
@@ -241,9 +244,12 @@ impl Audit {
         manifest: &Manifest<M>,
         workspace: &Workspace<M>,
     ) -> Result<(), AllocError>
-        ensures { OnOk result (Takes (record { members = member ∷ [];
-            found = differences (option_map template_meaning workspace.now.«package») member;
-            inherited = []; asked = asked_in (entries_of (held manifest.now)) })
+        ensures { OnOk result (Takes (record {
+          members = member ∷ [];
+          found = differences (option_map template_meaning workspace.now.«package») member;
+          inherited = [];
+          asked = asked_in (entries_of (held manifest.now));
+        })
             self.old self.new) }
     {
         let alloc = *self.root.allocator();

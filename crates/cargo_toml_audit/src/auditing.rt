@@ -15,7 +15,7 @@ mod walk;
 use crate::audit::findings::{find_all, find_if};
 use crate::audit::{Audit, Code, Finding, Root, json, lines};
 use crate::members::{
-    Looks, included, listed, manifest_path, places_of_entry, repeats, unseen, wrong_entries,
+    Looks, included, listed, manifest_path, places_of_entry, repeats, set_of, unseen, wrong_entries,
 };
 use above::{absolute, workspace_of};
 use cargo_toml::Error;
@@ -25,7 +25,6 @@ use std::collections::BTreeSet;
 use std::random::RandomSource;
 use std::rt::Files;
 use walk::add_members;
-pub use walk::{note, set_of};
 
 /// The report on the workspace around a folder. Where `shows` is set, a long one tells on standard
 /// error how far it is.
@@ -74,7 +73,12 @@ fn report_on<R: Files + Eprint + RandomSource + AllocGlobal>(
     let alloc = rt.alloc();
     let mut looks = Looks::new(alloc);
     let mut audit = Audit::new(String::from_str(alloc, root.place)?);
-    let all = listed(rt, &mut looks, root.place, root.workspace.members.as_slice())?;
+    let all = listed(
+        rt,
+        &mut looks,
+        root.place,
+        root.workspace.members.as_slice(),
+    )?;
     let mut first = included(alloc, root.limits(), all.as_slice())?;
     find_in_lists(alloc, root, first.as_slice(), &mut audit.findings)?;
     let listed = set_of(alloc, all.as_slice())?;
@@ -86,7 +90,12 @@ fn report_on<R: Files + Eprint + RandomSource + AllocGlobal>(
         entered,
         members,
     };
-    find_if(&mut audit.findings, Code::Unlisted, !known.members.contains(asked), asked)?;
+    find_if(
+        &mut audit.findings,
+        Code::Unlisted,
+        !known.members.contains(asked),
+        asked,
+    )?;
     find_astray(rt, &mut looks, root, &known, &mut audit.findings)?;
     let unseen = unseen(alloc, &looks)?;
     find_all(&mut audit.findings, Code::Unseen, unseen.as_slice())?;

@@ -8,13 +8,15 @@ ghost use Rattle.cargo_toml_audit.specs.Places.{excludes};
 
 mod patterns;
 mod places;
+mod sets;
 mod walk;
 
 use patterns::{is_deep, tokens_of};
 use places::pieces;
 pub use places::{Limits, excludes, lies_in, manifest_path, place_of, seen_from};
+pub use sets::{note, repeats, set_of};
 use std::alloc::{AllocError, Global};
-use std::collections::{BTreeMap, BTreeSet};
+use std::collections::BTreeMap;
 use std::rt::Files;
 use walk::places_of;
 pub use walk::{Listing, Looks, There, look_at};
@@ -103,24 +105,6 @@ pub fn included(
         if !excludes(alloc, limits, place.as_str())? {
             all.push(place.clone()?)?;
         }
-    }
-    Ok(all)
-}
-
-/// The texts that stand in a list once more, each time.
-pub fn repeats(alloc: Global, texts: &[String]) -> Result<Vec<String>, AllocError>
-    ensures { IfOk result
-        (λ all. map string_bytes all.items ≡ repeats (map string_bytes texts.now)) }
-{
-    let mut seen = BTreeSet::new(alloc);
-    let mut all = Vec::new(alloc);
-    for text in texts {
-        let text = text.as_str();
-        if seen.contains(text) {
-            all.push(String::from_str(alloc, text)?)?;
-            continue;
-        }
-        seen.insert(String::from_str(alloc, text)?)?;
     }
     Ok(all)
 }

@@ -31,9 +31,21 @@ pub fn add_differences<M>(
     let folder = member.folder.as_str();
     let edition = edition_text(*findings.allocator(), package.edition)?;
     let own = Some(member.edition.as_str());
-    add_other(findings, Code::OtherEdition, folder, own, edition.as_deref())?;
+    add_other(
+        findings,
+        Code::OtherEdition,
+        folder,
+        own,
+        edition.as_deref(),
+    )?;
     let own = member.license.as_deref();
-    add_other(findings, Code::OtherLicense, folder, own, package.license.as_deref())
+    add_other(
+        findings,
+        Code::OtherLicense,
+        folder,
+        own,
+        package.license.as_deref(),
+    )
 }
 
 /// Adds where a member has another text than the workspace gives, or none.
@@ -108,7 +120,12 @@ fn add_one_shared(
         ++ shared_oddities (contains_text inherited.now)
         (key.now, dependency_meaning dependency.now)) }
 {
-    find_if(findings, Code::UnusedDependency, !inherited.contains(key), key)?;
+    find_if(
+        findings,
+        Code::UnusedDependency,
+        !inherited.contains(key),
+        key,
+    )?;
     find_if(findings, Code::OptionalShared, dependency.optional(), key)
 }
 

@@ -47,10 +47,7 @@ pub fn entries<M>(alloc: Global, manifest: &Manifest<M>) -> Result<Vec<Entry<'_>
 }
 
 #[tactic(auto, using(crate::proofs::Walks::left_next, crate::proofs::Walks::left_none))]
-fn add_targets<'a>(
-    targets: &'a TargetDepsSet,
-    all: &mut Vec<Entry<'a>>,
-) -> Result<(), AllocError>
+fn add_targets<'a>(targets: &'a TargetDepsSet, all: &mut Vec<Entry<'a>>) -> Result<(), AllocError>
     ensures { OnOk result (map listed_of all.new.items ≡ map listed_of all.old.items
         ++ flat_map in_target (map_meaning target_meaning targets.now)) }
 {

@@ -10,8 +10,7 @@ ghost use Rattle.cargo_toml_audit.specs.declared.audit.Code.TheVariants.{Several
 use super::entries::Entry;
 use super::findings::find;
 use super::{Code, Finding, Use};
-use crate::auditing::note;
-use crate::members::seen_from;
+use crate::members::{note, seen_from};
 use cargo_toml_tools::requirement::required_version;
 use cargo_toml_write::write::requirement::requirement_text;
 use std::alloc::{AllocError, Global};
@@ -19,11 +18,7 @@ use std::collections::{BTreeMap, BTreeSet};
 
 /// Adds what a member asks for by a requirement.
 #[tactic(auto, using(crate::proofs::Walks::mapped_next))]
-pub fn add_uses(
-    folder: &str,
-    entries: &[Entry<'_>],
-    uses: &mut Vec<Use>,
-) -> Result<(), AllocError>
+pub fn add_uses(folder: &str, entries: &[Entry<'_>], uses: &mut Vec<Use>) -> Result<(), AllocError>
     ensures { OnOk result (map asking_of uses.new.items
         ≡ map asking_of uses.old.items ++ asked_in (map listed_of entries.now)) }
 {

@@ -231,7 +231,12 @@ fn add_completed(
         (map string_bytes inherits.items) audit.old audit.new) }
 {
     let alloc = *audit.root.allocator();
-    find_if(&mut audit.findings, Code::NoTarget, has_no_target(manifest), place)?;
+    find_if(
+        &mut audit.findings,
+        Code::NoTarget,
+        has_no_target(manifest),
+        place,
+    )?;
     match summarize(alloc, place, manifest, inherits)? {
         Some(member) => audit.add_member(member, manifest, root.workspace),
         None => {

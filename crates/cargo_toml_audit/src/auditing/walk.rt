@@ -1,15 +1,14 @@
 //! The places of a workspace, one after the other: those that its lists lead to, its own, and what
 //! members depend on by paths.
-ghost use Rattle.std.specs.Prelude.{◌≡◌, ◌&&◌, ◌||◌, ℕ, IfErr, IfOk, List, OnOk, bytes_eq, map};
-ghost use Rattle.std.specs.Prelude.{string_bytes};
+ghost use Rattle.std.specs.Prelude.{IfErr, IfOk, OnOk, map, string_bytes};
 ghost use Rattle.std.specs.BTreeSet.{contains_text};
-ghost use Rattle.cargo_toml_audit.specs.AuditedFiles.{IsAuditFault, base_of, is_in};
+ghost use Rattle.cargo_toml_audit.specs.AuditedFiles.{IsAuditFault, base_of};
 ghost use Rattle.cargo_toml_audit.specs.Walks.{Visits, Walks};
 ghost use Rattle.cargo_toml_tools.specs.FromFiles.{IsUnreadable};
 
 use super::place::add_place;
 use crate::audit::{Audit, Root};
-use crate::members::excludes;
+use crate::members::{excludes, note, set_of};
 use cargo_toml::Error;
 use std::alloc::{AllocError, Global};
 use std::collections::BTreeSet;
@@ -87,35 +86,6 @@ fn visit<R: Files + RandomSource + AllocGlobal>(
     note(alloc, &mut walk.seen, place, true)?;
     walk.waiting.append(&mut found.needs)?;
     Ok(())
-}
-
-/// Puts a text into a set, where it is one.
-pub fn note(
-    alloc: Global,
-    set: &mut BTreeSet<String>,
-    text: &str,
-    is_one: bool,
-) -> Result<(), AllocError>
-    ensures { OnOk result ((t : List ℕ) → contains_text set.new t
-        ≡ (contains_text set.old t || (is_one && bytes_eq text.now t))) }
-{
-    if !is_one {
-        return Ok(());
-    }
-    set.insert(String::from_str(alloc, text)?)?;
-    Ok(())
-}
-
-/// The texts as a set.
-pub fn set_of(alloc: Global, texts: &[String]) -> Result<BTreeSet<String>, AllocError>
-    ensures { IfOk result
-        (λ set. (t : List ℕ) → contains_text set t ≡ is_in (map string_bytes texts.now) t) }
-{
-    let mut set = BTreeSet::new(alloc);
-    for text in texts {
-        note(alloc, &mut set, text.as_str(), true)?;
-    }
-    Ok(set)
 }
 
 /// Tells a terminal how far a long report is.

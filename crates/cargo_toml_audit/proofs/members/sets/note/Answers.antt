@@ -1,15 +1,15 @@
 use Rattle.std.proofs.Common.{◌||◌, ◌&&◌, ◌∙◌, ap, string_bytes, sym, true}
+use Rattle.std.proofs.Math.Bool.{or-false}
 use Rattle.std.proofs.lemmas.Map.Text.{btree_set_updates_text}
 use Rattle.std.specs.BTreeSet.{contains_text}
 use Rattle.std.specs.Prelude.{bytes_eq}
-use Rattle.cargo_toml_audit.proofs.Kept.{cond_or}
-use Rattle.cargo_toml_audit.proofs.Walking.{or_false}
-use Rattle.cargo_toml_audit.proofs.auditing.walk.note.Goals as goal
+use Rattle.cargo_toml_audit.proofs.Sets.{cond_or}
+use Rattle.cargo_toml_audit.proofs.members.sets.note.Goals as goal
 
 pub returns-then-not-is_one : goal.returns-then-not-is_one
 returns-then-not-is_one c = λ t.
     let had = contains_text c.args.set.now t in
-    sym (ap (λ b. had || (b && bytes_eq c.args.text.now t)) c.if-not-is_one.true ∙ or_false had)
+    sym (ap (λ b. had || (b && bytes_eq c.args.text.now t)) c.if-not-is_one.true ∙ or-false had)
 
 pub returns : goal.returns
 returns c = λ t.

@@ -10,29 +10,26 @@ use Rattle.cargo_toml_audit.specs.declared.members.patterns.Mode.TheVariants.{Pl
 use Rattle.cargo_toml_audit.specs.declared.members.patterns.Reading.{Reading}
 use Rattle.cargo_toml_audit.specs.declared.members.patterns.Token.{Token}
 use Rattle.cargo_toml_audit.specs.declared.members.patterns.Token.TheVariants.{Just, Many, One}
-use Rattle.cargo_toml_audit.specs.declared.members.patterns.Token.TheVariants.{Within, Without}
+use Rattle.cargo_toml_audit.specs.declared.members.patterns.Token.TheVariants.{OneOf}
 
--- a part of a pattern: any text, any character, one, or one of those in brackets or not of them
+-- a part of a pattern: any text, any character, one, or one of those in brackets or of all others
 pub data Part : Type 0 where
   many : Part
   one : Part
   just : ℕ → Part
-  within : List ℕ → Part
-  without : List ℕ → Part
+  one_of : Bool → List ℕ → Part
 
 abbrev pub part_of : Token → Part
 part_of Many = many
 part_of One = one
 part_of (Just c) = just c
-part_of (Within content) = within content.items
-part_of (Without content) = without content.items
+part_of (OneOf others content) = one_of others content.items
 
 abbrev pub is_dot : Part → Bool
 is_dot (just c) = c == 46
 is_dot many = false
 is_dot one = false
-is_dot (within content) = false
-is_dot (without content) = false
+is_dot (one_of others content) = false
 
 abbrev pub begins_with_dot : List Part → Bool
 begins_with_dot [] = false
@@ -59,8 +56,7 @@ abbrev pub accepts : Part → ℕ → Bool
 accepts many c = true
 accepts one c = true
 accepts (just own) c = nat_eq own c
-accepts (within content) c = is_among content c
-accepts (without content) c = not (is_among content c)
+accepts (one_of others content) c = if others then not (is_among content c) else is_among content c
 
 -- a text, and what is left of it after each of its characters
 abbrev pub ends : List ℕ → List (List ℕ)
@@ -84,8 +80,7 @@ abbrev pub is_many : Part → Bool
 is_many many = true
 is_many one = false
 is_many (just c) = false
-is_many (within content) = false
-is_many (without content) = false
+is_many (one_of others content) = false
 
 abbrev pub begins : Bool → Part → (List ℕ → Bool) → List ℕ → Bool
 begins true wanted rest = after_any rest
@@ -117,10 +112,6 @@ read_plain is_star r c =
     else (if c == 63 then with_part r one Plain
     else (if c == 91 then record r { mode = Brackets } else with_part r (just c) Plain))
 
-abbrev pub bracketed : Bool → List ℕ → Part
-bracketed true content = without content
-bracketed false content = within content
-
 -- in brackets: `!` (33) in front takes all others, and they close with the first `]` (93) behind
 -- their first character
 abbrev pub read_in_brackets : Bool → Read → ℕ → Read
@@ -129,7 +120,7 @@ read_in_brackets is_other r c =
     then (if (c == 33) && not is_other then record r { mode = Others }
     else record r { content = r.content ++ c ∷ [] })
     else (if c == 93
-    then record { parts = r.parts ++ bracketed is_other r.content ∷ []; content = []; mode = Plain }
+    then record { parts = r.parts ++ one_of is_other r.content ∷ []; content = []; mode = Plain }
     else record r { content = r.content ++ c ∷ [] })
 
 abbrev pub read_by : Mode → Read → ℕ → Read

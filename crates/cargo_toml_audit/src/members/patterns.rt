@@ -3,7 +3,7 @@
 ghost use Rattle.std.specs.Prelude.{◌≡◌, ◌&&◌, ◌∷◌, IfOk, OnOk, false, get_or, map, nat_le};
 ghost use Rattle.std.specs.Prelude.{option_map};
 ghost use Rattle.std.specs.Str.{chars};
-ghost use Rattle.cargo_toml_audit.specs.Patterns.{accepts, bracketed, is_among, is_deep, is_many};
+ghost use Rattle.cargo_toml_audit.specs.Patterns.{accepts, is_among, is_deep, is_many};
 ghost use Rattle.cargo_toml_audit.specs.Patterns.{is_pattern, is_range, is_sign, matches, part_of};
 ghost use Rattle.cargo_toml_audit.specs.Patterns.{read_all, read_in_brackets, read_more, read_of, read_plain};
 ghost use Rattle.cargo_toml_audit.specs.Patterns.{parts_of, whole_parts};
@@ -21,10 +21,9 @@ pub enum Token {
     One,
     /// This character.
     Just(char),
-    /// One of the characters that stand in brackets, where `a-c` is a range.
-    Within(Vec<char>),
-    /// Any other character.
-    Without(Vec<char>),
+    /// One of the characters that stand in brackets, where `a-c` is a range; or, where this is set,
+    /// any other.
+    OneOf(bool, Vec<char>),
 }
 
 /// Where in a pattern a character is read.
@@ -173,18 +172,8 @@ impl Reading {
         }
         let content = mem::replace(&mut self.content, Vec::new(alloc));
         self.mode = Mode::Plain;
-        self.tokens.push(bracketed(is_other, content))?;
+        self.tokens.push(Token::OneOf(is_other, content))?;
         Ok(())
-    }
-}
-
-fn bracketed(is_other: bool, content: Vec<char>) -> Token
-    ensures { part_of result ≡ bracketed is_other content.items }
-{
-    if is_other {
-        Token::Without(content)
-    } else {
-        Token::Within(content)
     }
 }
 
@@ -266,8 +255,8 @@ fn accepts(wanted: &Token, c: char) -> bool
     match wanted {
         Token::Many | Token::One => true,
         Token::Just(own) => *own == c,
-        Token::Within(content) => is_among(content.as_slice(), c),
-        Token::Without(content) => !is_among(content.as_slice(), c),
+        Token::OneOf(false, content) => is_among(content.as_slice(), c),
+        Token::OneOf(true, content) => !is_among(content.as_slice(), c),
     }
 }
 

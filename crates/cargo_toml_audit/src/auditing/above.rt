@@ -111,7 +111,7 @@ pub fn is_of<R: Files + AllocGlobal>(rt: &R, place: &str, root: &str) -> Result<
     ensures within { IfOk result (λ own. IsTrue (lies_in place.now root.now) → IsTrue own) }
     ensures refused { IfErr result IsUnreadable }
 {
-    if lies_in(place, root) {
+    if lies_in(rt.alloc(), place, root)? {
         return Ok(true);
     }
     match workspace_of(rt, place)? {

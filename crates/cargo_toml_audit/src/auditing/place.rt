@@ -66,8 +66,9 @@ pub fn add_place<R: Files + RandomSource + AllocGlobal>(
         add_foreign(rt, (place, path.as_str()), held, &mut audit.findings)?;
         return Ok(looked(false, Vec::new(alloc)));
     }
-    let needs = needs(alloc, root, place, &*held.manifest)?;
-    if is_rootless(root, place, &*held.manifest) {
+    let manifest = &*held.manifest;
+    let needs = needs(alloc, root, place, manifest)?;
+    if is_rootless(root, place, manifest) {
         return Ok(looked(true, needs));
     }
     add_member(rt, root, (place, is_own), held, audit)?;
@@ -101,10 +102,10 @@ fn add_foreign<R: Files + AllocGlobal>(
 {
     let (place, path) = at;
     let mut held = held;
-    match held.manifest.complete_from_path(rt, rt.alloc(), path) {
-        Ok(()) => Ok(()),
-        Err(fault) => refuse(place, fault, findings),
+    if let Err(fault) = held.manifest.complete_from_path(rt, rt.alloc(), path) {
+        refuse(place, fault, findings)?;
     }
+    Ok(())
 }
 
 /// Adds that a place was refused. Only want of memory ends the report.
@@ -129,8 +130,19 @@ fn refusal_code(fault: &Error) -> Code
     ensures { result ≡ refusal_code fault.now }
 {
     match fault {
-        Error::Io(fault) if is_absent(fault.kind()) => Code::Absent,
-        _ => Code::Incomplete,
+        Error::Io(fault) => {
+            if is_absent(fault.kind()) {
+                Code::Absent
+            } else {
+                Code::Incomplete
+            }
+        }
+        Error::Parse(_)
+        | Error::Workspace(_)
+        | Error::InheritedUnknownValue
+        | Error::WorkspaceIntegrity(_)
+        | Error::Other(_)
+        | Error::Memory => Code::Incomplete,
     }
 }
 
@@ -166,10 +178,11 @@ fn add_member<R: Files + RandomSource + AllocGlobal>(
     ensures refused { IfErr result IsUnreadable }
 {
     let (place, _) = at;
-    let has_errors = has_errors(rt, &*held.manifest)?;
-    let rows = refusal_rows(rt.alloc(), root, at, has_errors, &*held.manifest)?;
+    let manifest = &*held.manifest;
+    let has_errors = has_errors(rt, manifest)?;
+    let rows = refusal_rows(rt.alloc(), root, at, has_errors, manifest)?;
     find_in(&mut audit.findings, place, &rows)?;
-    let inherits = audit.add_written(&*held.manifest)?;
+    let inherits = audit.add_written(manifest)?;
     add_made(rt, root, place, (held, inherits), audit)
 }
 
@@ -213,7 +226,8 @@ fn add_made<R: Files + AllocGlobal>(
         .manifest
         .complete_from_path_and_workspace(rt, alloc, path.as_str(), handed);
     if let Err(fault) = done {
-        return refuse(place, fault, &mut audit.findings);
+        refuse(place, fault, &mut audit.findings)?;
+        return Ok(());
     }
     add_completed(root, place, &*held.manifest, inherits, audit)?;
     Ok(())

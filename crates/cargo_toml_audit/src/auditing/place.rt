@@ -1,13 +1,16 @@
 //! What a report takes of one place: a member, or that it was refused.
-ghost use Rattle.std.specs.Prelude.{◌≡◌, ◌≢◌, ◌++◌, [], IfErr, IfOk, OnOk, Option, map, string_bytes};
+ghost use Rattle.std.specs.Prelude.{◌≡◌, ◌≢◌, ◌++◌, [], IfErr, IfOk, IsTrue, OnOk, Option, map};
+ghost use Rattle.std.specs.Prelude.{string_bytes};
 ghost use Rattle.std.specs.Option.{option_map_or};
+ghost use Rattle.cargo_toml.specs.Action.{Text};
 ghost use Rattle.cargo_toml.specs.Error.{Error, Memory};
 ghost use Rattle.cargo_toml.specs.RealFiles.{is_absent};
-ghost use Rattle.cargo_toml_tools.specs.FromFiles.{IsUnreadable};
+ghost use Rattle.cargo_toml_tools.specs.FromFiles.{IsManifestIn, IsUnreadable};
 ghost use Rattle.cargo_toml_audit.specs.AuditSteps.{AddsCompleted, AddsMade, AddsMemberAt, AddsPlace};
 ghost use Rattle.cargo_toml_audit.specs.AuditedFiles.{HasErrors, base_of, has_error, is_rootless};
 ghost use Rattle.cargo_toml_audit.specs.AuditedFiles.{refusal, refusal_code};
 ghost use Rattle.cargo_toml_audit.specs.Oddities.{oddities_of};
+ghost use Rattle.cargo_toml_audit.specs.Places.{lies_in};
 
 use super::above::is_of;
 use crate::audit::findings::{find, find_if, find_in};
@@ -46,40 +49,93 @@ pub fn add_place<R: Files + RandomSource + AllocGlobal>(
         (λ seen. AddsPlace (base_of root.entry) is_listed place.now seen audit.old audit.new) }
     ensures refused { IfErr result IsUnreadable }
 {
+    let path = manifest_path(rt.alloc(), place)?;
+    match manifest_in(rt, path.as_str()) {
+        Ok(held) => add_read(rt, root, (place, is_listed), held, audit),
+        Err(fault) => add_unread(root, (place, is_listed), fault, audit),
+    }
+}
+
+/// Adds that what lies at a place can't be read.
+fn add_unread(
+    root: Root<'_>,
+    at: (&str, bool),
+    fault: Error,
+    audit: &mut Audit,
+) -> Result<Seen, Error>
+    requires { IsUnreadable fault }
+    ensures added { IfOk result
+        (λ seen. AddsPlace (base_of root.entry) at.entry.1 at.entry.0.now seen
+        audit.old audit.new) }
+    ensures refused { IfErr result IsUnreadable }
+{
+    let alloc = *audit.root.allocator();
+    refuse(at.0, fault, &mut audit.findings)?;
+    Ok(Seen {
+        is_member: true,
+        needs: Vec::new(alloc),
+    })
+}
+
+/// Adds what lies at a place, where it was read.
+fn add_read<R: Files + RandomSource + AllocGlobal>(
+    rt: &R,
+    root: Root<'_>,
+    at: (&str, bool),
+    held: HeldManifest,
+    audit: &mut Audit,
+) -> Result<Seen, Error>
+    requires { (text : Text) × IsManifestIn text held.manifest.value }
+    ensures added { IfOk result
+        (λ seen. AddsPlace (base_of root.entry) at.entry.1 at.entry.0.now seen
+        audit.old audit.new) }
+    ensures refused { IfErr result IsUnreadable }
+{
+    let (place, is_listed) = at;
+    match is_of(rt, place, root.place) {
+        Ok(is_own) => add_found(rt, root, (place, is_listed, is_own), held, audit),
+        Err(fault) => add_unread(root, at, fault, audit),
+    }
+}
+
+/// Adds it where it is known whether it lies in the workspace's folder, or leads there.
+fn add_found<R: Files + RandomSource + AllocGlobal>(
+    rt: &R,
+    root: Root<'_>,
+    at: (&str, bool, bool),
+    held: HeldManifest,
+    audit: &mut Audit,
+) -> Result<Seen, Error>
+    requires read { (text : Text) × IsManifestIn text held.manifest.value }
+    requires within { IsTrue (lies_in at.0.now root.place.now) → IsTrue at.2 }
+    ensures added { IfOk result
+        (λ seen. AddsPlace (base_of root.entry) at.entry.1 at.entry.0.now seen
+        audit.old audit.new) }
+    ensures refused { IfErr result IsUnreadable }
+{
     let alloc = rt.alloc();
-    let path = manifest_path(alloc, place)?;
-    let held = match manifest_in(rt, path.as_str()) {
-        Ok(held) => held,
-        Err(fault) => {
-            refuse(place, fault, &mut audit.findings)?;
-            return Ok(looked(true, Vec::new(alloc)));
-        }
-    };
-    let is_own = match is_of(rt, place, root.place) {
-        Ok(is_own) => is_own,
-        Err(fault) => {
-            refuse(place, fault, &mut audit.findings)?;
-            return Ok(looked(true, Vec::new(alloc)));
-        }
-    };
-    if !is_listed && !is_own {
-        add_foreign(rt, (place, path.as_str()), held, &mut audit.findings)?;
-        return Ok(looked(false, Vec::new(alloc)));
+    let (place, is_listed, is_own) = at;
+    let counts = is_listed | is_own;
+    if !counts {
+        add_foreign(rt, place, held, &mut audit.findings)?;
+        return Ok(Seen {
+            is_member: false,
+            needs: Vec::new(alloc),
+        });
     }
     let manifest = &*held.manifest;
     let needs = needs(alloc, root, place, manifest)?;
-    if is_rootless(root, place, manifest) {
-        return Ok(looked(true, needs));
+    if !is_rootless(root, place, manifest) {
+        add_member(rt, root, (place, is_own), held, audit)?;
+        return Ok(Seen {
+            is_member: true,
+            needs,
+        });
     }
-    add_member(rt, root, (place, is_own), held, audit)?;
-    Ok(looked(true, needs))
-}
-
-fn looked(is_member: bool, needs: Vec<String>) -> Seen
-    ensures is_member { result.is_member ≡ is_member }
-    ensures needs { result.needs ≡ needs }
-{
-    Seen { is_member, needs }
+    Ok(Seen {
+        is_member: true,
+        needs,
+    })
 }
 
 /// Whether it is the root's own manifest, without a package.
@@ -92,17 +148,18 @@ fn is_rootless(root: Root<'_>, place: &str, manifest: &Manifest) -> bool
 /// Looks at what is none of the workspace's. It has to complete all the same.
 fn add_foreign<R: Files + AllocGlobal>(
     rt: &R,
-    at: (&str, &str),
+    place: &str,
     held: HeldManifest,
     findings: &mut Vec<Finding>,
 ) -> Result<(), Error>
     ensures found { OnOk result ((fault : Option Error) × (oddities_of findings.new
-        ≡ oddities_of findings.old ++ option_map_or (refusal at.entry.0.now) fault [])) }
+        ≡ oddities_of findings.old ++ option_map_or (refusal place.now) fault [])) }
     ensures refused { IfErr result IsUnreadable }
 {
-    let (place, path) = at;
+    let alloc = rt.alloc();
     let mut held = held;
-    if let Err(fault) = held.manifest.complete_from_path(rt, rt.alloc(), path) {
+    let path = manifest_path(alloc, place)?;
+    if let Err(fault) = held.manifest.complete_from_path(rt, alloc, path.as_str()) {
         refuse(place, fault, findings)?;
     }
     Ok(())

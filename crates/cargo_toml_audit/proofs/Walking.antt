@@ -1,14 +1,14 @@
 -- The places that are looked at, while some are waiting.
-use Rattle.std.proofs.Common.{◌≡◌, ◌++◌, ◌||◌, ◌&&◌, ◌∙◌, Bool, true, false, List, [], ◌∷◌, ap, inl, inr, append-nil, cond, map, string_bytes, subst, sym}
+use Rattle.std.proofs.Common.{ℕ, ◌+◌, ◌-◌, None, Option, Some, String, Global, refl, take, ◌≡◌, ◌++◌, ◌||◌, ◌&&◌, ◌∙◌, Bool, true, false, List, [], ◌∷◌, ap, inl, inr, append-nil, cond, map, string_bytes, subst, sym}
 use Rattle.std.proofs.Math.Bool.{or-false}
 use Rattle.std.proofs.lemmas.List.{map-append}
 use Rattle.std.proofs.lemmas.List.Elements.{filter-append}
 use Rattle.std.specs.BTreeSet.{contains_text}
-use Rattle.std.specs.Prelude.{bytes_eq, filter}
+use Rattle.std.specs.Prelude.{MatchOption, Vec, bytes_eq, filter, option_to_list}
 use Rattle.cargo_toml.specs.Action.{Text}
-use Rattle.cargo_toml_audit.specs.AuditedFiles.{Base, Reading, Reads, Takes, gain_of_all, is_excluded, is_member, looked, member_places, passed, places_read}
+use Rattle.cargo_toml_audit.specs.AuditedFiles.{Base, Reading, Reads, Takes, ended, gain_of_all, is_excluded, is_member, looked, member_places, passed, places_read}
 use Rattle.cargo_toml_audit.specs.Places.{is_in}
-use Rattle.cargo_toml_audit.specs.Walks.{Visits}
+use Rattle.cargo_toml_audit.specs.Walks.{Visits, Walks}
 use Rattle.cargo_toml_audit.specs.declared.audit.Audit.{Audit}
 use Rattle.cargo_toml_audit.specs.declared.auditing.walk.Walk.{Walk}
 use Rattle.cargo_toml_audit.proofs.Sets.{one_more_in}
@@ -70,3 +70,27 @@ module _ (base : Base) (first : List Text) where
             (looked place at.content (map string_bytes mid.waiting.items) w.readings all (ap (λ b. b || is_excluded base place) (sym (had place)) ∙ at.fresh) at.is
             (subst (λ (ws : List Text). Reads base first ws (w.readings ++ r ∷ []) all) at.waiting rest)));
       }
+
+  -- nothing is waiting
+  pub walking_ends : (walk : Walk) (old now : Audit) → map string_bytes walk.waiting.items ≡ [] → Walking walk old now → Walks base first (contains_text walk.members) old now
+  walking_ends walk old now none w = record {
+    readings = w.readings;
+    read = w.goes w.readings (subst (λ (ws : List Text). Reads base first ws w.readings w.readings) (sym none) (ended w.readings));
+    takes = w.takes;
+    are = w.members;
+  }
+
+  -- the same of what was popped and asked
+  pub walking_on : (x : String Global) (listed : Bool) (asked : Text) (left : Vec (String Global) Global) (walk after : Walk) (old now new : Audit)
+      → walk.waiting.items ≡ left.items ++ x ∷ [] → listed ≡ is_in first (string_bytes x) → asked ≡ string_bytes x
+      → Visits base listed asked (record walk { waiting = left }) after now new → Walking walk old now → Walking after old new
+  walking_on x listed asked left walk after old now new popped flag same visits w =
+      walking_next (string_bytes x) walk (record walk { waiting = left }) after old now new (ap (map string_bytes) popped ∙ map-append string_bytes left.items (x ∷ [])) refl refl
+      (subst (λ (b : Bool). Visits base b (string_bytes x) (record walk { waiting = left }) after now new) flag
+      (subst (λ (t : Text). Visits base listed t (record walk { waiting = left }) after now new) same visits)) w
+
+-- nothing was there to be popped
+pub none_left : (items left : List (String Global)) (o : Option (String Global)) (n m : ℕ) → items ≡ left ++ option_to_list o → left ≡ take (n - 1) items
+    → MatchOption o ((n ≡ 0) × (m ≡ 0)) (λ _. m + 1 ≡ n) → ((x : String Global) → o ≡ Some x → ⊥) → map string_bytes items ≡ []
+none_left items left None n m whole rest h no = ap (map string_bytes) (whole ∙ ap (λ xs. xs ++ []) (rest ∙ ap (λ k. take (k - 1) items) h.0))
+none_left items left (Some x) n m whole rest h no = absurd (no x refl)

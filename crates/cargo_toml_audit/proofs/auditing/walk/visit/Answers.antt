@@ -7,12 +7,12 @@ use Rattle.cargo_toml_audit.specs.AuditedFiles.{base_of, is_excluded}
 use Rattle.cargo_toml_audit.specs.Places.{excludes}
 use Rattle.cargo_toml_audit.proofs.auditing.walk.visit.Goals as goal
 
-pub returns-then-contains : goal.returns-then-contains
-returns-then-contains g c =
+pub returns-then-contains-clause-visited : goal.returns-then-contains-clause-visited
+returns-then-contains-clause-visited g c =
     inl (or_left (contains_text c.args.walk.now.seen c.args.at.0.now) (is_excluded (base_of c.args.root) c.args.at.0.now) (sym c.contains.ensures ∙ c.if-contains.true), (refl, refl))
 
-pub returns-then-branch : goal.returns-then-branch
-returns-then-branch g c =
+pub returns-then-branch-clause-visited : goal.returns-then-branch-clause-visited
+returns-then-branch-clause-visited g c =
     let out : is_excluded (base_of c.args.root) c.args.at.0.now ≡ true =
     (λ i. excludes ((sym c.limits.ensures.root) i).now (map string_bytes ((sym c.limits.ensures.exclude) i)) (map string_bytes ((sym c.limits.ensures.members) i)) c.args.at.0.now)
     ∙ sym c.in_ok-excludes.ensures ∙ c.if-branch.true in

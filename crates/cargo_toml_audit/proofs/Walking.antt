@@ -92,5 +92,5 @@ module _ (base : Base) (first : List Text) where
 -- nothing was there to be popped
 pub none_left : (items left : List (String Global)) (o : Option (String Global)) (n m : ℕ) → items ≡ left ++ option_to_list o → left ≡ take (n - 1) items
     → MatchOption o ((n ≡ 0) × (m ≡ 0)) (λ _. m + 1 ≡ n) → ((x : String Global) → o ≡ Some x → ⊥) → map string_bytes items ≡ []
-none_left items left None n m whole rest h no = ap (map string_bytes) (whole ∙ ap (λ xs. xs ++ []) (rest ∙ ap (λ k. take (k - 1) items) h.0))
-none_left items left (Some x) n m whole rest h no = absurd (no x refl)
+none_left items left None n m whole rest h never = ap (map string_bytes) (whole ∙ ap (λ xs. xs ++ []) (rest ∙ ap (λ k. take (k - 1) items) h.0))
+none_left items left (Some x) n m whole rest h never = absurd (never x refl)

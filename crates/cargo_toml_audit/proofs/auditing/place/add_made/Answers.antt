@@ -21,7 +21,7 @@ made_of base place m new keys (untold own) done is same =
 made_of base place m new keys (told own member) done is same = (
   subst (λ (x : Manifest Value). IsCompletedThere base m x) (sym is.0) done,
   subst (λ (x : Manifest Value). IsMemberOf place (left_keys (held m)) (held x) member) (sym is.0)
-  (subst (λ (ks : List Text). IsMemberOf place ks (held new) member) same is.1),
+      (subst (λ (ks : List Text). IsMemberOf place ks (held new) member) same is.1),
 )
 
 pub returns-in-Err-clause-added : goal.returns-in-Err-clause-added

@@ -43,7 +43,19 @@ pub fn audit<R: Files + Eprint + RandomSource + AllocGlobal>(
     let Some(found) = workspace_of(rt, start.as_str())? else {
         return Err(Error::Other("there is no workspace"));
     };
-    let place = found.root.as_str();
+    report_at(rt, found.root.as_str(), found.asked.as_str(), shows)
+}
+
+/// The report on the workspace that lies at a place, in which another one is asked for.
+fn report_at<R: Files + Eprint + RandomSource + AllocGlobal>(
+    rt: &R,
+    place: &str,
+    asked: &str,
+    shows: bool,
+) -> Result<Audit, Error>
+    ensures audited { IfOk result IsAudited }
+    ensures refused { IfErr result IsAuditFault }
+{
     let path = manifest_path(rt.alloc(), place)?;
     let held = manifest_in(rt, path.as_str())?;
     let manifest = &*held.manifest;
@@ -56,7 +68,7 @@ pub fn audit<R: Files + Eprint + RandomSource + AllocGlobal>(
         manifest,
         workspace,
     };
-    report_on(rt, root, found.asked.as_str(), shows)
+    report_on(rt, root, asked, shows)
 }
 
 /// The report on a workspace, in which this place is asked for.

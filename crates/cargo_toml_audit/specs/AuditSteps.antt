@@ -9,10 +9,16 @@ use Rattle.cargo_toml.specs.Manifests.{held}
 use Rattle.cargo_toml_audit.specs.Audited.{IsMemberOf, is_untold}
 use Rattle.cargo_toml_audit.specs.AuditedFiles.{Base, Content, HasErrors, IsContent, IsMade, Knows}
 use Rattle.cargo_toml_audit.specs.AuditedFiles.{Made, Takes, belongs, gain_made, gain_of, incomplete}
-use Rattle.cargo_toml_audit.specs.AuditedFiles.{is_member, needs_of, told, untold}
+use Rattle.cargo_toml_audit.specs.AuditedFiles.{entered_places, first_places, found_in_lists, is_member}
+use Rattle.cargo_toml_audit.specs.AuditedFiles.{listed_places, needs_of, told, untold}
 use Rattle.cargo_toml_audit.specs.Entries.{left_keys}
+use Rattle.cargo_toml_audit.specs.MemberFolders.{Disk}
+use Rattle.cargo_toml_audit.specs.Oddities.{oddities_of}
+use Rattle.cargo_toml_audit.specs.Places.{is_in}
 use Rattle.cargo_toml_audit.specs.declared.audit.Audit.{Audit}
+use Rattle.cargo_toml_audit.specs.declared.audit.Finding.{Finding}
 use Rattle.cargo_toml_audit.specs.declared.auditing.Known.{Known}
+use Rattle.cargo_toml_audit.specs.declared.auditing.Lists.{Lists}
 use Rattle.cargo_toml_audit.specs.declared.auditing.place.Seen.{Seen}
 
 abbrev pub known_of : Known → Knows
@@ -60,3 +66,11 @@ module _ (base : Base) where
     pub takes : Takes (gain_of base place content) old new
     pub member : seen.is_member ≡ is_member content
     pub needs : map string_bytes seen.needs.items ≡ needs_of base place content
+
+  -- what the lists lead to on a disk was read, and what is found of them
+  pub record AreListed (disk : Disk) (lists : Lists) (old new : Vec Finding Global) : Type 0 where
+    pub first : map string_bytes lists.first.items ≡ first_places base disk
+    pub listed : (t : Text) → contains_text lists.listed t ≡ is_in (listed_places base disk) t
+    pub entered : (t : Text) → contains_text lists.entered t ≡ is_in (entered_places base disk) t
+    pub found : oddities_of new
+        ≡ oddities_of old ++ found_in_lists base (entered_places base disk)

@@ -310,15 +310,20 @@ module _ (base : Base) where
     members = is_in (member_places readings);
   }
 
+  -- what else is found by the lists: of the place that is asked for, of default members, and of what
+  -- couldn't be looked at
+  abbrev pub found_beside : Looks → Disk → Knows → Text → List Oddity
+  found_beside looks disk k asked =
+      found_if Unlisted (not (k.members asked)) asked
+      ++ (flat_map (astray disk k) default_entries ++ found_each Unseen (unseen looks))
+
   abbrev pub all_found : Looks → List Reading → Text → List Oddity
   all_found looks readings asked =
       found_in_lists (entered_places (disk_of looks))
       ++ ((gain_of_all readings).found
-      ++ (found_if Unlisted (not (is_in (member_places readings) asked)) asked
-      ++ (flat_map (astray (disk_of looks) (knows (disk_of looks) readings)) default_entries
-      ++ (found_each Unseen (unseen looks)
+      ++ (found_beside looks (disk_of looks) (knows (disk_of looks) readings) asked
       ++ overall_oddities (map_meaning dependency_meaning base.workspace.dependencies)
-      (gain_of_all readings)))))
+      (gain_of_all readings)))
 
   -- by what the system answered, and by what was read of all that is looked at
   pub record IsReport (asked : Text) (audit : Audit) : Type 0 where

@@ -176,7 +176,7 @@ pub struct Finding {
 }
 
 /// A crate that a member asks for.
-#[derive(Debug, Drop)]
+#[derive(Debug, PartialEq, Eq, PartialOrd, Ord, Drop)]
 pub struct Use {
     /// The name of the crate.
     pub name: String,
@@ -272,7 +272,7 @@ impl Audit {
         let inherited = set_of(alloc, self.inherited.as_slice())?;
         let names = names(alloc, self.members.as_slice())?;
         let same = repeats(alloc, names.as_slice())?;
-        let mut further = further(alloc, self.root.as_str(), self.uses.as_slice())?;
+        let mut further = further(alloc, self.uses.as_slice())?;
         add_shared(&workspace.dependencies, &inherited, &mut self.findings)?;
         find_all(&mut self.findings, Code::SameName, same.as_slice())?;
         self.findings.append(&mut further)?;

@@ -1,9 +1,10 @@
 //! The report on a workspace.
 ghost use Rattle.std.specs.Prelude.{◌≡◌, ◌++◌, IfErr, IfOk, OnOk, map, string_bytes};
 ghost use Rattle.std.specs.List.{flat_map, list_any};
-ghost use Rattle.cargo_toml_audit.specs.AuditSteps.{known_of};
+ghost use Rattle.cargo_toml_audit.specs.AuditSteps.{AreListed, known_of};
 ghost use Rattle.cargo_toml_audit.specs.AuditedFiles.{IsAuditFault, IsAudited, IsReport, astray};
-ghost use Rattle.cargo_toml_audit.specs.AuditedFiles.{base_of, default_entries, found_in_lists};
+ghost use Rattle.cargo_toml_audit.specs.AuditedFiles.{base_of, default_entries, found_beside};
+ghost use Rattle.cargo_toml_audit.specs.AuditedFiles.{found_in_lists};
 ghost use Rattle.cargo_toml_audit.specs.AuditedFiles.{is_astray};
 ghost use Rattle.cargo_toml_audit.specs.MemberFolders.{Agrees, Disk};
 ghost use Rattle.cargo_toml_audit.specs.Oddities.{oddities_of};
@@ -68,7 +69,8 @@ fn report_at<R: Files + Eprint + RandomSource + AllocGlobal>(
         manifest,
         workspace,
     };
-    report_on(rt, root, asked, shows)
+    let report = report_on(rt, root, asked, shows)?;
+    Ok(report)
 }
 
 /// The report on a workspace, in which this place is asked for.
@@ -85,34 +87,71 @@ fn report_on<R: Files + Eprint + RandomSource + AllocGlobal>(
     let alloc = rt.alloc();
     let mut looks = Looks::new(alloc);
     let mut audit = Audit::new(String::from_str(alloc, root.place)?);
-    let all = listed(
-        rt,
-        &mut looks,
-        root.place,
-        root.workspace.members.as_slice(),
-    )?;
+    let lists = read_lists(rt, &mut looks, root, &mut audit.findings)?;
+    let members = add_members(rt, root, lists.first, &mut audit, shows)?;
+    let known = Known {
+        listed: lists.listed,
+        entered: lists.entered,
+        members,
+    };
+    find_beside(rt, &mut looks, root, (&known, asked), &mut audit.findings)?;
+    audit.finish(root.workspace)?;
+    Ok(audit)
+}
+
+/// The places that entries of `members` lead to.
+#[derive(Drop)]
+struct Lists {
+    /// Those that aren't excluded, and the root.
+    first: Vec<String>,
+    /// All.
+    listed: BTreeSet<String>,
+    /// Those that aren't excluded.
+    entered: BTreeSet<String>,
+}
+
+/// Reads where the entries of `members` lead, and finds what is odd of the lists.
+fn read_lists<R: Files + AllocGlobal>(
+    rt: &R,
+    looks: &mut Looks,
+    root: Root<'_>,
+    findings: &mut Vec<Finding>,
+) -> Result<Lists, AllocError>
+    ensures { IfOk result (λ lists. (d : Disk) → Agrees d looks.new → Agrees d looks.old
+        × AreListed (base_of root.entry) d lists findings.old findings.new) }
+{
+    let alloc = rt.alloc();
+    let all = listed(rt, looks, root.place, root.workspace.members.as_slice())?;
     let mut first = included(alloc, root.limits(), all.as_slice())?;
-    find_in_lists(alloc, root, first.as_slice(), &mut audit.findings)?;
+    find_in_lists(alloc, root, first.as_slice(), findings)?;
     let listed = set_of(alloc, all.as_slice())?;
     let entered = set_of(alloc, first.as_slice())?;
     first.push(String::from_str(alloc, root.place)?)?;
-    let members = add_members(rt, root, first, &mut audit, shows)?;
-    let known = Known {
+    Ok(Lists {
+        first,
         listed,
         entered,
-        members,
-    };
-    find_if(
-        &mut audit.findings,
-        Code::Unlisted,
-        !known.members.contains(asked),
-        asked,
-    )?;
-    find_astray(rt, &mut looks, root, &known, &mut audit.findings)?;
-    let unseen = unseen(alloc, &looks)?;
-    find_all(&mut audit.findings, Code::Unseen, unseen.as_slice())?;
-    audit.finish(root.workspace)?;
-    Ok(audit)
+    })
+}
+
+/// Finds that the place that is asked for is no member's, default members that aren't, and what
+/// couldn't be looked at.
+fn find_beside<R: Files + AllocGlobal>(
+    rt: &R,
+    looks: &mut Looks,
+    root: Root<'_>,
+    by: (&Known, &str),
+    findings: &mut Vec<Finding>,
+) -> Result<(), AllocError>
+    ensures { OnOk result ((d : Disk) → Agrees d looks.new → Agrees d looks.old
+        × (oddities_of findings.new ≡ oddities_of findings.old ++ found_beside
+        (base_of root.entry) looks.new d (known_of by.entry.0.now) by.entry.1.now)) }
+{
+    let (known, asked) = by;
+    find_if(findings, Code::Unlisted, !known.members.contains(asked), asked)?;
+    find_astray(rt, looks, root, known, findings)?;
+    let unseen = unseen(rt.alloc(), looks)?;
+    find_all(findings, Code::Unseen, unseen.as_slice())
 }
 
 /// Finds what is listed twice, by the places that are entered, and entries that are no patterns.

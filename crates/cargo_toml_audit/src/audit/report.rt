@@ -1,6 +1,6 @@
 //! How a report is written.
 
-use super::{Audit, Finding, Member};
+use super::{Audit, Code, Finding, Member, Use};
 use crate::members::seen_from;
 use cargo_toml_tools::escape::{Format, comma_before, push_escaped};
 use cargo_toml_tools::json::{put_text, put_texts};
@@ -36,8 +36,10 @@ fn shown_members<'a>(
     Ok(all)
 }
 
-/// What was found, each once. A place is told as it is seen from the workspace.
+/// What was found, each once. A place is told as it is seen from the workspace, and of a crate with
+/// several requirements all that ask for it.
 fn shown_findings(alloc: Global, audit: &Audit) -> Result<BTreeSet<Finding>, AllocError> {
+    let asked = requirements(alloc, audit)?;
     let mut all = BTreeSet::new(alloc);
     for finding in &audit.findings {
         let subject = if finding.code.is_of_place() {
@@ -45,7 +47,10 @@ fn shown_findings(alloc: Global, audit: &Audit) -> Result<BTreeSet<Finding>, All
         } else {
             finding.subject.clone()?
         };
-        let words = finding.words.clone()?;
+        let words = match asked.get(finding.subject.as_str()) {
+            Some(words) if finding.code == Code::SeveralRequirements => words.clone()?,
+            _ => finding.words.clone()?,
+        };
         all.insert(Finding {
             code: finding.code,
             subject,
@@ -53,6 +58,43 @@ fn shown_findings(alloc: Global, audit: &Audit) -> Result<BTreeSet<Finding>, All
         })?;
     }
     Ok(all)
+}
+
+/// By the name of a crate, its requirements in byte order, each with the folders of what asks by it.
+fn requirements(alloc: Global, audit: &Audit) -> Result<BTreeMap<String, String>, AllocError> {
+    let mut uses = BTreeSet::new(alloc);
+    for one in &audit.uses {
+        let folder = seen_from(alloc, audit.root.as_str(), one.folder.as_str())?;
+        uses.insert(Use {
+            name: one.name.clone()?,
+            requirement: one.requirement.clone()?,
+            folder,
+        })?;
+    }
+    let mut all: BTreeMap<String, String> = BTreeMap::new(alloc);
+    let mut last = String::new(alloc);
+    for one in &uses {
+        let mut words = all.remove(one.name.as_str()).unwrap_or(String::new(alloc));
+        push_use(&mut words, one, last.as_str())?;
+        all.insert(one.name.clone()?, words)?;
+        last = one.requirement.clone()?;
+    }
+    Ok(all)
+}
+
+/// Writes one more use of a crate, behind those that the words have, the last of them by this
+/// requirement.
+fn push_use(words: &mut String, one: &Use, last: &str) -> Result<(), AllocError> {
+    if words.is_empty() || one.requirement.as_str() != last {
+        if !words.is_empty() {
+            words.push_str("; ")?;
+        }
+        words.push_str(one.requirement.as_str())?;
+        words.push_str(" in ")?;
+    } else {
+        words.push_str(", ")?;
+    }
+    words.push_str(one.folder.as_str())
 }
 
 fn push_member(text: &mut String, folder: &str, member: &Member) -> Result<(), AllocError> {

@@ -3,18 +3,16 @@ ghost use Rattle.std.specs.Prelude.{◌≡◌, ◌++◌, ◌||◌, ℕ, IfOk, Li
 ghost use Rattle.std.specs.Prelude.{string_bytes};
 ghost use Rattle.std.specs.BTreeSet.{contains_text};
 ghost use Rattle.cargo_toml_audit.specs.Entries.{asked_by, asked_in, asking_of, listed_of};
-ghost use Rattle.cargo_toml_audit.specs.Oddities.{asking_key, found_if, further_from, further_of};
-ghost use Rattle.cargo_toml_audit.specs.Oddities.{oddity_of};
-ghost use Rattle.cargo_toml_audit.specs.declared.audit.Code.TheVariants.{SeveralRequirements};
+ghost use Rattle.cargo_toml_audit.specs.Oddities.{asking_key, further_from, further_of, oddity_of};
 
 use super::entries::Entry;
-use super::findings::find;
+use super::findings::find_if;
 use super::{Code, Finding, Use};
-use crate::members::{note, seen_from};
+use crate::members::note;
 use cargo_toml_tools::requirement::required_version;
 use cargo_toml_write::write::requirement::requirement_text;
 use std::alloc::{AllocError, Global};
-use std::collections::{BTreeMap, BTreeSet};
+use std::collections::BTreeSet;
 
 /// Adds what a member asks for by a requirement.
 #[tactic(auto, using(crate::proofs::Walks::mapped_next))]
@@ -54,31 +52,27 @@ fn add_use(folder: &str, entry: Entry<'_>, uses: &mut Vec<Use>) -> Result<(), Al
 struct Asked {
     /// The names of crates.
     names: BTreeSet<String>,
-    /// By a name, how it was asked for last.
-    last: BTreeMap<String, String>,
     /// A requirement and the name, in one text.
     keys: BTreeSet<String>,
 }
 
 /// What asks for a crate that was asked for before, and by a requirement that is new.
-pub fn further(alloc: Global, root: &str, uses: &[Use]) -> Result<Vec<Finding>, AllocError>
+pub fn further(alloc: Global, uses: &[Use]) -> Result<Vec<Finding>, AllocError>
     ensures { IfOk result (λ all. map oddity_of all.items
         ≡ further_from (λ t. false) (λ t. false) (map asking_of uses.now)) }
 {
     let mut all = Vec::new(alloc);
     let mut asked = Asked {
         names: BTreeSet::new(alloc),
-        last: BTreeMap::new(alloc),
         keys: BTreeSet::new(alloc),
     };
     for one in uses {
-        add_further(root, one, &mut asked, &mut all)?;
+        add_further(one, &mut asked, &mut all)?;
     }
     Ok(all)
 }
 
 fn add_further(
-    root: &str,
     one: &Use,
     asked: &mut Asked,
     all: &mut Vec<Finding>,
@@ -94,37 +88,10 @@ fn add_further(
     let alloc = *all.allocator();
     let name = one.name.as_str();
     let key = asking_key(alloc, one)?;
-    let words = how_asked(alloc, root, one)?;
     let is_further = asked.names.contains(name) && !asked.keys.contains(key.as_str());
-    find_further(name, words.as_str(), &asked.last, is_further, all)?;
-    asked.last.insert(one.name.clone()?, words)?;
+    find_if(all, Code::SeveralRequirements, is_further, name)?;
     note(alloc, &mut asked.names, name, true)?;
     note(alloc, &mut asked.keys, key.as_str(), true)
-}
-
-fn find_further(
-    name: &str,
-    words: &str,
-    last: &BTreeMap<String, String>,
-    is_further: bool,
-    all: &mut Vec<Finding>,
-) -> Result<(), AllocError>
-    ensures { OnOk result (map oddity_of all.new.items ≡ map oddity_of all.old.items
-        ++ found_if SeveralRequirements is_further name.now) }
-{
-    if !is_further {
-        return Ok(());
-    }
-    let last = last_words(last, name);
-    let words = format!(in *all.allocator(); "{words}, and {last}")?;
-    find(all, Code::SeveralRequirements, name, words)
-}
-
-fn last_words<'a>(last: &'a BTreeMap<String, String>, name: &str) -> &'a str {
-    match last.get(name) {
-        Some(words) => words.as_str(),
-        None => "",
-    }
 }
 
 /// A requirement, in which there is no `|`, and the name of the crate.
@@ -135,11 +102,4 @@ fn asking_key(alloc: Global, one: &Use) -> Result<String, AllocError>
     let name = one.name.as_str();
     let key = format!(in alloc; "{requirement}|{name}")?;
     Ok(key)
-}
-
-/// The requirement, and the folder of what asks by it.
-fn how_asked(alloc: Global, root: &str, one: &Use) -> Result<String, AllocError> {
-    let requirement = one.requirement.as_str();
-    let folder = seen_from(alloc, root, one.folder.as_str())?;
-    format!(in alloc; "{requirement} in {folder}")
 }

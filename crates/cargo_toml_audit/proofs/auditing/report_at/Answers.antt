@@ -9,4 +9,4 @@ returns-in_err-held-clause-refused g c =
     rw (p.1, p.2) (inl c.in_err-held.ensures.refused)
 
 pub returns-clause-audited : goal.returns-clause-audited
-returns-clause-audited g c = let a = c.in-Some in let b = c.in_ok-held.ensures.read in let d = c.in_ok-path.ensures in let e = c.report_on.ensures in ?
+returns-clause-audited g c = let a = c.in-Some in let b = c.in_ok-held.ensures.read in let d = c.in_ok-path.ensures in let e = c.in_ok-report.ensures in ?

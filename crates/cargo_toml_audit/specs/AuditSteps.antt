@@ -1,5 +1,5 @@
 -- What the steps of `audit` add to a report: nothing here has to be believed.
-use Rattle.std.specs.Prelude.{◌≡◌, Bool, IsTrue, List, String, Vec, map, string_bytes}
+use Rattle.std.specs.Prelude.{◌≡◌, ◌++◌, Bool, IsTrue, List, String, Vec, map, string_bytes}
 use Rattle.std.specs.BTreeSet.{contains_text}
 use Rattle.std.specs.declared.alloc.Global.{Global}
 use Rattle.toml.specs.declared.value.Value.{Value}

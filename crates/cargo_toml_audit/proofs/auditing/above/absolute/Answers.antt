@@ -9,7 +9,7 @@ returns-in_err-metadata g c =
     rw p.1 (elim (from_input _ p.0 p.2) [ inl memory ↦ inl memory | inr input ↦ inr (inl input) ])
 
 pub returns-then-not-is_dir : goal.returns-then-not-is_dir
-returns-then-not-is_dir g c = elim (from_input _ _ c.from-2.ensures) [ inl memory ↦ inl memory | inr input ↦ inr (inl input) ]
+returns-then-not-is_dir g c = elim (from_input _ _ c.from-then-not-is_dir.ensures) [ inl memory ↦ inl memory | inr input ↦ inr (inl input) ]
 
 pub returns-in_err-here : goal.returns-in_err-here
 returns-in_err-here g c =

@@ -7,4 +7,5 @@ mod reading;
 
 pub use documenting::{document, document_text};
 pub use indexing::{Fault, index_line};
-pub use linting::{lint, lint_lines};
+pub use linting::{findings_of, lint, lint_lines};
+pub use reading::manifest_in;

@@ -3,7 +3,7 @@
 //! workspace, and `document [--dot] FILE..` prints what is documented of features.
 #![tactic(auto)]
 
-use cargo_toml_audit::auditing::audit;
+use cargo_toml_audit::auditing::audit_text;
 use cargo_toml_tools::escape::fault_line;
 use cargo_toml_tools::files::{document_text, index_line, lint_lines};
 use cargo_toml_tools_words::{Outcome, Request, USAGE, read_request};
@@ -72,7 +72,7 @@ fn answer<R: Files + Print + Eprint + RandomSource + AllocGlobal>(
             }
         }
         Request::Audit(folder, as_json) => {
-            let made = audit(rt, *folder, *as_json, shows);
+            let made = audit_text(rt, *folder, *as_json, shows);
             outcome = put(rt, *folder, made)?;
         }
     }

@@ -11,7 +11,7 @@ mod findings;
 mod words;
 
 use cargo_toml::Error;
-use cargo_toml_audit::auditing::audit;
+use cargo_toml_audit::auditing::audit_text;
 use cargo_toml_row_files::templates::text_in;
 use cargo_toml_row_files::tree::{fresh_folder, make_tree, remove_tree};
 use cargo_toml_tools::escape::fault_line;
@@ -100,8 +100,8 @@ fn answer<R: Files + RandomSource + Eprint + AllocGlobal>(
         "lint" => reported(alloc, "FILE", lint_lines(rt, file.as_str(), false)),
         "document" => told(alloc, "FILE", document_text(rt, file.as_str(), false)),
         "graph" => told(alloc, "FILE", document_text(rt, file.as_str(), true)),
-        "audit" => reported(alloc, "FOLDER", audit(rt, folder, false, false)),
-        "report" => reported(alloc, "FOLDER", audit(rt, folder, true, false)),
+        "audit" => reported(alloc, "FOLDER", audit_text(rt, folder, false, false)),
+        "report" => reported(alloc, "FOLDER", audit_text(rt, folder, true, false)),
         _ => Err(Error::Other("no such kind of row")),
     }
 }

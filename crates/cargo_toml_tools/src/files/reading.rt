@@ -38,7 +38,7 @@ pub(crate) fn completed_of<R: Files + AllocGlobal>(
 }
 
 /// The manifest in this file.
-pub(crate) fn manifest_in<R: Files + AllocGlobal>(rt: &R, path: &str) -> Result<HeldManifest, Error>
+pub fn manifest_in<R: Files + AllocGlobal>(rt: &R, path: &str) -> Result<HeldManifest, Error>
     ensures read { IfOk result (λ h. (text : Text) × IsManifestIn text h.manifest.value) }
     ensures refused { IfErr result IsUnreadable }
 {

@@ -148,7 +148,12 @@ fn find_beside<R: Files + AllocGlobal>(
         (base_of root.entry) looks.new d (known_of by.entry.0.now) by.entry.1.now)) }
 {
     let (known, asked) = by;
-    find_if(findings, Code::Unlisted, !known.members.contains(asked), asked)?;
+    find_if(
+        findings,
+        Code::Unlisted,
+        !known.members.contains(asked),
+        asked,
+    )?;
     find_astray(rt, looks, root, known, findings)?;
     let unseen = unseen(rt.alloc(), looks)?;
     find_all(findings, Code::Unseen, unseen.as_slice())

@@ -72,11 +72,7 @@ pub fn further(alloc: Global, uses: &[Use]) -> Result<Vec<Finding>, AllocError>
     Ok(all)
 }
 
-fn add_further(
-    one: &Use,
-    asked: &mut Asked,
-    all: &mut Vec<Finding>,
-) -> Result<(), AllocError>
+fn add_further(one: &Use, asked: &mut Asked, all: &mut Vec<Finding>) -> Result<(), AllocError>
     ensures found { OnOk result (map oddity_of all.new.items ≡ map oddity_of all.old.items
         ++ further_of (contains_text asked.old.names) (contains_text asked.old.keys)
         (asking_of one.now)) }

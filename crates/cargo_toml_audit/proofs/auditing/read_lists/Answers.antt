@@ -17,10 +17,12 @@ returns g c = λ d agrees.
     let taken = ap (map string_bytes) c.as_slice-2.ensures.value ∙ listed in
     let entered : map string_bytes c.in_ok-first.first.items ≡ entered_places base d =
     c.in_ok-first.ensures
-    ∙ (λ i. filter (λ p. not (excludes (c.limits.ensures.root i).now (map string_bytes (c.limits.ensures.exclude i)) (map string_bytes (c.limits.ensures.members i)) p)) (taken i)) in
-    (all.0, record {
-      first = ap (map string_bytes) c.in_ok-push.ensures.items ∙ map-append string_bytes c.in_ok-first.first.items _ ∙ (λ i. entered i ++ c.in_ok-from_str.ensures.ok i ∷ []);
-      listed = λ t. c.in_ok-listed.ensures t ∙ ap (λ ts. is_in ts t) (ap (map string_bytes) c.as_slice-listed.ensures.value ∙ listed);
-      entered = λ t. c.in_ok-entered.ensures t ∙ ap (λ ts. is_in ts t) (ap (map string_bytes) c.as_slice-entered.ensures.value ∙ entered);
-      found = c.in_ok-find_in_lists.ensures ∙ ap (λ ps. oddities_of c.args.findings.now ++ found_in_lists base ps) (ap (map string_bytes) c.as_slice-3.ensures.value ∙ entered);
-    })
+    ∙ (λ i. filter (λ p. not (excludes (c.limits.ensures.root i).now (map string_bytes (c.limits.ensures.exclude i)) (map string_bytes (c.limits.ensures.members i)) p)) (taken i)) in (
+      all.0,
+      record {
+        first = ap (map string_bytes) c.in_ok-push.ensures.items ∙ map-append string_bytes c.in_ok-first.first.items _ ∙ (λ i. entered i ++ c.in_ok-from_str.ensures.ok i ∷ []);
+        listed = λ t. c.in_ok-listed.ensures t ∙ ap (λ ts. is_in ts t) (ap (map string_bytes) c.as_slice-4.ensures.value ∙ listed);
+        entered = λ t. c.in_ok-entered.ensures t ∙ ap (λ ts. is_in ts t) (ap (map string_bytes) c.as_slice-5.ensures.value ∙ entered);
+        found = c.in_ok-find_in_lists.ensures ∙ ap (λ ps. oddities_of c.args.findings.now ++ found_in_lists base ps) (ap (map string_bytes) c.as_slice-3.ensures.value ∙ entered);
+      },
+    )

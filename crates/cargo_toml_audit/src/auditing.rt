@@ -41,7 +41,8 @@ pub fn audit<R: Files + Eprint + RandomSource + AllocGlobal>(
     ensures refused { IfErr result IsAuditFault }
 {
     let start = absolute(rt, folder)?;
-    let Some(found) = workspace_of(rt, start.as_str())? else {
+    let workspace = workspace_of(rt, start.as_str())?;
+    let Some(found) = workspace else {
         return Err(Error::Other("there is no workspace"));
     };
     report_at(rt, found.root.as_str(), found.asked.as_str(), shows)

@@ -12,7 +12,7 @@ use std::{fs, io};
 
 /// The place of a folder, seen from where the program runs.
 pub fn absolute<R: Files + AllocGlobal>(rt: &R, folder: &str) -> Result<String, Error>
-    ensures refused { IfErr result IsUnreadable }
+    ensures { IfErr result IsUnreadable }
 {
     if !fs::metadata(rt, or_here(folder))?.is_dir() {
         return Err(Error::from(io::Error::from(io::ErrorKind::NotADirectory)));

@@ -6,10 +6,10 @@ pub returns-in_err-start-clause-refused : goal.returns-in_err-start-clause-refus
 returns-in_err-start-clause-refused g c =
     let left = c.from_residual in
     let p = err_from_is_err_and left.result left.ensures.1 in
-    rw (p.1, p.2) (inl c.in_err-start.ensures.refused)
+    rw (p.1, p.2) (inl c.in_err-start.ensures)
 
-pub returns-in_err-workspace_of-clause-refused : goal.returns-in_err-workspace_of-clause-refused
-returns-in_err-workspace_of-clause-refused g c =
-    let left = c.from_residual-in_err-workspace_of in
+pub returns-in_err-workspace-clause-refused : goal.returns-in_err-workspace-clause-refused
+returns-in_err-workspace-clause-refused g c =
+    let left = c.from_residual-in_err-workspace in
     let p = err_from_is_err_and left.result left.ensures.1 in
-    rw (p.1, p.2) (inl c.in_err-workspace_of.ensures.refused)
+    rw (p.1, p.2) (inl c.in_err-workspace.ensures.refused)

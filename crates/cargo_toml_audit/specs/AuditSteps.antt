@@ -8,8 +8,9 @@ use Rattle.cargo_toml.specs.Manifest.{Manifest}
 use Rattle.cargo_toml.specs.Manifests.{held}
 use Rattle.cargo_toml_audit.specs.Audited.{IsMemberOf, is_untold}
 use Rattle.cargo_toml_audit.specs.AuditedFiles.{Base, Content, HasErrors, IsContent, IsMade, Knows}
-use Rattle.cargo_toml_audit.specs.AuditedFiles.{Made, Takes, belongs, gain_made, gain_of, incomplete}
-use Rattle.cargo_toml_audit.specs.AuditedFiles.{entered_places, first_places, found_in_lists, is_member}
+use Rattle.cargo_toml_audit.specs.AuditedFiles.{Made, Takes, belongs, entered_places, first_places}
+use Rattle.cargo_toml_audit.specs.AuditedFiles.{found_in_lists, gain_made, gain_of, incomplete}
+use Rattle.cargo_toml_audit.specs.AuditedFiles.{is_member}
 use Rattle.cargo_toml_audit.specs.AuditedFiles.{listed_places, needs_of, told, untold}
 use Rattle.cargo_toml_audit.specs.Entries.{left_keys}
 use Rattle.cargo_toml_audit.specs.MemberFolders.{Disk}

@@ -1,6 +1,6 @@
 -- What is told of a member.
-use Rattle.std.specs.Prelude.{◌≡◌, ◌||◌, Bool, false, true, List, [], ◌∷◌, Option, Some, String, codes, map}
-use Rattle.std.specs.Prelude.{option_map, string_bytes}
+use Rattle.std.specs.Prelude.{◌≡◌, ◌||◌, Bool, false, true, List, [], ◌∷◌, Option, Some, String}
+use Rattle.std.specs.Prelude.{codes, map, option_map, string_bytes}
 use Rattle.std.specs.List.{join_by}
 use Rattle.std.specs.Option.{option_map_or}
 use Rattle.std.specs.declared.alloc.Global.{Global}

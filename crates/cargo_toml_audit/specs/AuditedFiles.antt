@@ -115,8 +115,8 @@ member_places readings = places_read (filter (λ r. is_member r.content) reading
 
 -- ---- default members
 
--- whether a place is listed, whether it is then entered, as it isn't excluded, and whether it is that
--- of a member
+-- whether a place is listed, whether it is then entered, as it isn't excluded, and whether it is
+-- that of a member
 pub record Knows : Type 0 where
   pub listed : Text → Bool
   pub entered : Text → Bool
@@ -291,7 +291,8 @@ module _ (base : Base) where
     -- an entry of `default-members` leads to a place that is no member's, nor listed and excluded
     abbrev pub astray : Knows → Text → List Oddity
     astray k entry =
-        found_if DefaultMember (list_any (is_astray k) (places_if_right disk base.place entry)) entry
+        found_if DefaultMember
+        (list_any (is_astray k) (places_if_right disk base.place entry)) entry
 
   abbrev pub default_entries : List Text
   default_entries = map string_bytes base.workspace.default_members.items
@@ -310,8 +311,8 @@ module _ (base : Base) where
     members = is_in (member_places readings);
   }
 
-  -- what else is found by the lists: of the place that is asked for, of default members, and of what
-  -- couldn't be looked at
+  -- what else is found by the lists: of the place that is asked for, of default members, and of
+  -- what couldn't be looked at
   abbrev pub found_beside : Looks → Disk → Knows → Text → List Oddity
   found_beside looks disk k asked =
       found_if Unlisted (not (k.members asked)) asked

@@ -84,7 +84,10 @@ asking_of u = record { name = string_bytes u.name; requirement = string_bytes u.
 abbrev pub asked_by : Listed → List Asking
 asked_by e =
     option_map_or
-    (λ r. record { name = unwrap_or (package_of e.1.1) e.1.0; requirement = requirement_text r } ∷ [])
+    (λ r. record {
+      name = unwrap_or (package_of e.1.1) e.1.0;
+      requirement = requirement_text r;
+    } ∷ [])
     (required_version e.1.1) []
 
 abbrev pub asked_in : List Listed → List Asking

@@ -1,4 +1,4 @@
--- What a report finds odd: of a place, of a member beside its workspace, and of all members together.
+-- What a report finds odd: of a place, of a member, and of all members together.
 use Rattle.std.specs.Prelude.{◌≡◌, ◌++◌, ◌&&◌, ◌||◌, ◌==◌, Bool, true, false, List, [], ◌∷◌, Option}
 use Rattle.std.specs.Prelude.{Some, None, Vec, bytes_eq, codes, if◌then◌else◌, is_none, is_some}
 use Rattle.std.specs.Prelude.{length, map, not, option_and_then, option_map, string_bytes}
@@ -28,8 +28,8 @@ use Rattle.cargo_toml_audit.specs.declared.audit.Code.TheVariants.{WorkspaceWith
 use Rattle.cargo_toml_audit.specs.declared.audit.Finding.{Finding}
 use Rattle.cargo_toml_audit.specs.declared.audit.Member.{Member}
 
--- what a finding tells: its code, and the place, dependency or entry that it is about. Its words are
--- for people
+-- what a finding tells: its code, and the place, dependency or entry that it is about. Its words
+-- are for people
 pub record Oddity : Type 0 where
   pub code : Code
   pub subject : Text
@@ -95,7 +95,10 @@ refusals place root lacks_lints own errors m =
     (Features, errors)
     ∷ (NoLints, lacks_lints && field_is_left m.lints)
     ∷ (NotInherited, is_not_inherited (entries_of m))
-    ∷ (OtherWorkspace, leads_elsewhere place root (named_by m.«package») && not (is_some m.workspace))
+    ∷ (
+      OtherWorkspace,
+      leads_elsewhere place root (named_by m.«package») && not (is_some m.workspace),
+    )
     ∷ (Outside, not own && not (is_some (named_by m.«package»)))
     ∷ (TwoWorkspaces, is_some (named_by m.«package») && is_some m.workspace)
     ∷ (WorkspaceWithin, is_some m.workspace && not (bytes_eq place root)) ∷ []

@@ -187,8 +187,8 @@ struct Known {
     members: BTreeSet<String>,
 }
 
-/// Finds the entries of `default-members` that don't lead to members alone, or to what is listed and
-/// excluded.
+/// Finds the entries of `default-members` that don't lead to members alone, or to what is listed
+/// and excluded.
 fn find_astray<R: Files + AllocGlobal>(
     rt: &R,
     looks: &mut Looks,

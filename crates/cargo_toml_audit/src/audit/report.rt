@@ -60,7 +60,7 @@ fn shown_findings(alloc: Global, audit: &Audit) -> Result<BTreeSet<Finding>, All
     Ok(all)
 }
 
-/// By the name of a crate, its requirements in byte order, each with the folders of what asks by it.
+/// By the name of a crate, its requirements in order, each with the folders of what asks by it.
 fn requirements(alloc: Global, audit: &Audit) -> Result<BTreeMap<String, String>, AllocError> {
     let mut uses = BTreeSet::new(alloc);
     for one in &audit.uses {

@@ -40,8 +40,8 @@ impl<'a> Root<'a> {
     }
 }
 
-/// The places to which the dependencies of a manifest lead by their paths. A path of the workspace's
-/// dependencies is seen from the workspace.
+/// The places to which the dependencies of a manifest lead by their paths. A path of the
+/// workspace's dependencies is seen from the workspace.
 #[tactic(auto, using(crate::proofs::Walks::mapped_next))]
 pub fn needs(
     alloc: Global,

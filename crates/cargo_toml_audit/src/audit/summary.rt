@@ -15,7 +15,7 @@ use super::inherited::is_inherited;
 use cargo_toml::{Inheritable, Manifest, Package, Publish};
 use std::alloc::{AllocError, Global};
 
-/// What is told of a member with this manifest, which was completed. None where nothing can be told.
+/// What is told of a member with this manifest, which was completed. None where nothing can be.
 pub fn summarize<M>(
     alloc: Global,
     folder: &str,

@@ -5,6 +5,7 @@ pub mod Alike
 pub mod Pairs
 pub mod Audiences
 pub mod Versioned
+pub mod CompletedTexts
 pub mod InMemory
 -- the code's own steps, in contracts of inner functions and of `plain` alone: no caller's promise
 -- rests on these

@@ -7,6 +7,7 @@
 
 pub mod audience;
 pub mod bodies;
+pub mod completed;
 pub mod in_memory;
 pub mod pairs;
 pub mod plain;

@@ -55,7 +55,7 @@ fn set_version(manifest: &mut Manifest, version: SemVer)
 }
 
 // The text that a manifest is written as.
-fn manifest_text(alloc: Global, manifest: &Manifest) -> Result<String, Error>
+pub(crate) fn manifest_text(alloc: Global, manifest: &Manifest) -> Result<String, Error>
     requires { IsTold (manifest_meaning view manifest.now) }
     ensures { IfOk result
         (λ text. IsPrinted (manifest_meaning view manifest.now) (string_bytes text)) }

@@ -164,9 +164,7 @@ module _ {M : Type 0} where
   then_told path folder (Err fault) h n is = absurd cc
 
   from_told : (w : Option Shared) (path : List ℕ) (m : ManifestMeaning M) → IfSome w SharedIsTold → IsTold m → Yields (λ n. IsTold n) (inherited_manifest w path m)
-  from_told None base m all h = manifest_told None None None base m tt tt tt h
-  from_told (Some w) base m all h =
-      manifest_told (Some w.dependencies) (Some w.lints) w.template base m (recursion_from_All (λ (e : List ℕ × DependencyMeaning). Told e.1) w.dependencies all.dependencies) all.lints all.template h
+  from_told w path m h1 h2 = grind (arith, manifest_told, recursion_from_All)
 
   pub completed_told : (m n : ManifestMeaning M) (choice : Choice) (folder : Name → folders.Told) → IsTold m → ChoiceIsTold choice → complete_by m choice folder ≡ gives n → IsTold n
   completed_told m n (from None) folder h all is = then_told None folder (Ok m) (yields_ok {P = λ x. IsTold x} m h) n is

@@ -89,8 +89,7 @@ other_or_named names k l Greater is other named = refl
 
 -- what was read of the other keys has them as the table does
 some_mapped : {A B : Type 0} (o : Option A) (f : A → B) (y : B) → option_map f o ≡ Some y → (x : A) × (o ≡ Some x) × (f x ≡ y)
-some_mapped None f y h = cc h
-some_mapped (Some x) f y h = (x, refl, ap (λ o. unwrap_or o (f x)) h)
+some_mapped o f y h1 = grind arith
 
 pub other_member : (names : List (List ℕ)) (k : List ℕ) (ms : Members) (es : List (List ℕ × Data)) → is_among names k ≡ false → others_read names (λ x. Some x) ms ≡ Some es
     → get_member k ms ≡ get_member k (members_of es)
@@ -243,17 +242,14 @@ pub step : {A B : Type 0} (o : Option A) (f : A → Option B) (x : A) (r : Optio
 step o f x r e h = rw e h
 
 module _ {X M N : Type 0} {way : Way X} {reads : Data → Option M} {P : X → Type 0} {g : X → M} (o : Option Data) (r : Option N) where
-  required_at : (x : X) (o : Option Data) → AgainAs way reads P g → P x → IsHeld way (Some x) o → required_of reads o ≡ Some (g x)
-  required_at x o h1 h2 h3 = grind arith
-
   given_at : (b : Bool) (x : X) (missing : M) (o : Option Data) → AgainAs way reads P g → P x → (b ≡ true → g x ≡ missing) → IsHeld way (unless b x) o → given_of reads missing o ≡ Some (g x)
   given_at b x missing o h1 h2 h3 h4 = grind arith
 
   pub required : (x : X) → StandsAt o way (Some x) → AgainAs way reads P g → P x → required_of reads o ≡ Some (g x)
-  required x held law h = required_at x o law h held.is
+  required x held law h = grind arith
 
   pub required_read : (x : X) (f : M → Option N) → StandsAt o way (Some x) → AgainAs way reads P g → P x → f (g x) ≡ r → option_and_then f (required_of reads o) ≡ r
-  required_read x f held law h rest = step (required_of reads o) f (g x) r (required_at x o law h held.is) rest
+  required_read x f held law h rest = step (required_of reads o) f (g x) r (required x held law h) rest
 
   pub given : (x : X) (missing : M) → StandsAt o way (unless (way.left_out x) x) → AgainAs way reads P g → P x → StandsFor way.left_out P g missing → given_of reads missing o ≡ Some (g x)
   given x missing held law h stands = given_at (way.left_out x) x missing o law h (stands.each x h) held.is
@@ -272,11 +268,8 @@ module _ {X N : Type 0} {way : Way X} {reads : Data → Option X} {P : X → Typ
   pub optional_read : (x : Option X) (f : Option X → Option N) → StandsAt o way x → AgainAs way reads P (λ (y : X). y) → IfSome x P → f x ≡ r → option_and_then f (optional_of reads o) ≡ r
   optional_read x f held law h rest = step (optional_of reads o) f x r (optional x o law h held.is) rest
 
-flag : (missing b : Bool) (o : Option Data) → IsHeld truth_way (unless_missing missing b) o → given_of as_bool missing o ≡ Some b
-flag missing b o h1 = grind arith
-
 pub flagged : (missing b : Bool) (o : Option Data) → StandsAt o truth_way (unless_missing missing b) → given_of as_bool missing o ≡ Some b
-flagged missing b o held = flag missing b o held.is
+flagged missing b o held = grind arith
 
 pub flag_read : {M : Type 0} (o : Option Data) (r : Option M) (missing b : Bool) (f : Bool → Option M) → StandsAt o truth_way (unless_missing missing b) → f b ≡ r → option_and_then f (given_of as_bool missing o) ≡ r
 flag_read o r missing b f held rest = step (given_of as_bool missing o) f b r (flagged missing b o held) rest
@@ -297,8 +290,7 @@ pub ruleset read_back = (required_read, optional_read, flag_read, given_read, al
 pub table_again : {X : Type 0} (rows : X → List Row) (of : Members → Option X) → ((x : X) → differ (row_keys (rows x)) ≡ true)
     → ((x : X) (ms : Members) → AreWritten (rows x) no_members ms → AllHeld (rows x) ms → of ms ≡ Some x)
     → (x : X) → ReadsAs (table_way rows) (λ d. option_and_then of (as_table d)) x x
-table_again rows of distinct read x d (ms, is, written) =
-    ap (λ t. option_and_then of (as_table t)) is ∙ read x ms written (whole (rows x) ms (distinct x) written)
+table_again rows of h1 h2 h3 h4 h5 = grind (arith, whole)
 
 -- texts, truth values, free values, versions and lists
 pub same_tree : {X : Type 0} (tree : X → Data) (reads : Data → Option X) → ((x : X) → reads (tree x) ≡ Some x) → (x : X) → ReadsAs (exactly tree) reads x x

@@ -144,9 +144,7 @@ status_read : (s : MaintenanceStatus) (o : Option Data) → StandsAt o maintenan
 status_read s o h1 = grind (arith, maintenance_again)
 
 badges_members : (b : BadgesMeaning) (ms : Members) → AllHeld (badges_rows b) ms → Some (badges_of ms) ≡ Some b
-badges_members b ms (appveyor, (circle_ci, (gitlab, (travis_ci, (codecov, (coveralls, (resolution, (open_issues, (maintenance, end))))))))) =
-    let one = λ (x : Option BadgeMeaning) (o : Option Data) (held : StandsAt o badge_way x). badge_or_none x o held in
-    rw (one _ _ appveyor, one _ _ circle_ci, one _ _ gitlab, one _ _ travis_ci, one _ _ codecov, one _ _ coveralls, one _ _ resolution, one _ _ open_issues, status_read _ _ maintenance) refl
+badges_members b ms h1 = grind (arith, badge_or_none, status_read)
 
 pub badges_again : Again badges_way badges_reads
 badges_again = again (table_again badges_rows (λ ms. Some (badges_of ms)) (λ b. refl) (λ b ms written. badges_members b ms))
@@ -198,14 +196,11 @@ lint_either b l d h1 h2 h3 = grind (arith, alone_again, is_alone, lint_members)
 pub lint_again : AgainAs lint_way lint_of IsApart (λ (l : LintMeaning). l)
 lint_again = record { each = λ l apart d tree. lint_either (is_level_alone l) l d refl apart tree }
 
--- a lint is written in one of its two ways
-pub lint_writing : (b : Bool) (l : LintMeaning) (r : Result Value Error) → is_level_alone l ≡ b → MatchBool b (IsWriting level_way l.level r) (IsWriting table_lint_way l r) → IsWriting lint_way l r
-lint_writing true l (Ok v) alone written = rw alone written
-lint_writing false l (Ok v) alone written = rw alone written
-lint_writing true l (Err e) alone (inl memory) = inl memory
-lint_writing true l (Err e) alone (inr refused) = inr (rw alone refused)
-lint_writing false l (Err e) alone (inl memory) = inl memory
-lint_writing false l (Err e) alone (inr refused) = inr (rw alone refused)
+-- a lint that is written as its table
+pub lint_writing : (l : LintMeaning) (r : Result Value Error) → is_level_alone l ≡ false → IsWriting table_lint_way l r → IsWriting lint_way l r
+lint_writing l (Ok v) alone written = rw alone written
+lint_writing l (Err e) alone (inl memory) = inl memory
+lint_writing l (Err e) alone (inr refused) = inr (rw alone refused)
 
 -- the lints by tool
 abbrev pub LintGroups : Type 0
@@ -223,11 +218,7 @@ pub inherited_again : Again inherited_way inherited_reads
 inherited_again = again (table_again inherited_rows inherited_of (λ i. refl) (λ i ms written held. search (read_back, texts_again, nil) depth 20))
 
 strict_members : (i : InheritedMeaning) (ms : Members) → AreWritten (inherited_rows i) no_members ms → i.workspace ≡ true → strict_of ms ≡ Some i
-strict_members i ms written is =
-    let same : record i { workspace = true } ≡ i = ap (λ (b : Bool). record i { workspace = b }) (sym is) in
-    let held = subst (λ (x : InheritedMeaning). AllHeld (inherited_rows x) ms) (sym same) (whole (inherited_rows i) ms refl written) in
-    let read : strict_of ms ≡ Some (record i { workspace = true }) = search (read_back, texts_again, truth_again, nil) depth 20 in
-    read ∙ ap Some same
+strict_members i ms h1 h2 = grind (arith, nil, read_back, texts_again, truth_again, whole)
 
 -- a detail
 detail_members : (d : DetailMeaning) (ms : Members) → IfSome d.version CanBeRead → Some (record d { inherited = false }) ≡ Some d → AllHeld (known_rows d) ms → others_read detail_keys (λ x. Some x) ms ≡ Some d.unstable → detail_of_table ms ≡ Some d
@@ -245,13 +236,10 @@ detail_again = record { each = λ x law d (ordered, (ms, is, written)). ap detai
 abbrev Keeps : Members → DetailMeaning → Type 0
 Keeps ms x = others_read detail_keys (λ d. Some d) ms ≡ Some x.unstable
 
-told_last : (ms : Members) (x : DetailMeaning) → Keeps ms x → Gives (Keeps ms) (Some x)
-told_last ms x told = gives_some {P = Keeps ms} x told
-
 collected_told : (ms : Members) → Gives (Keeps ms) (detail_of_table ms)
 collected_told ms =
     let collected : Gives (λ (es : List (List ℕ × Data)). others_read detail_keys (λ d. Some d) ms ≡ Some es) (others_read detail_keys (λ d. Some d) ms) = record { each = λ es e. e } in
-    search (bind, skip, told_last ms) depth 60 fits 4000
+    search (bind, skip, gives_some {P = Keeps ms}) depth 60 fits 4000
 
 not_strict : (x : DetailMeaning) (ms : Members) → detail_of_table ms ≡ Some x → required_at "workspace" as_bool (members_of x.unstable) ≡ None → strict_of ms ≡ None
 not_strict x ms read none =
@@ -260,8 +248,7 @@ not_strict x ms read none =
 
 detailed_table : (x : DetailMeaning) (ms : Members) → detail_of_table ms ≡ Some x → required_at "workspace" as_bool (members_of x.unstable) ≡ None → dependency_of (table ms) ≡ Some (detailed x)
 unfolding dependency_of
-detailed_table x ms read none =
-    ap (λ o. inherited_or o (detail_of_table ms)) (not_strict x ms read none) ∙ ap (option_map detailed) read
+detailed_table x ms h1 h2 = grind (arith, not_strict)
 
 dependency_tree : (x : DependencyMeaning) → DependencyAgain x → ReadsAs dependency_way dependency_of x x
 unfolding dependency_of

@@ -13,7 +13,7 @@ use Rattle.cargo_toml_dependencies.specs.Features.{features_of, no_features, apa
 use Rattle.cargo_toml_dependencies.specs.Targets.{target_of, TargetMeaning}
 use Rattle.cargo_toml_manifest.specs.Manifests.{ManifestMeaning, by_zero_rule, target_reads, product_reads, badges_reads, no_badges, profiles_reads, no_profiles, manifest_of, manifest_reads, zero_rule_applies}
 use Rattle.cargo_toml_package.specs.Packages.{PackageMeaning, package_reads, package_of_table}
-use Rattle.cargo_toml_package.specs.Templates.{template_reads, TemplateMeaning, template_of}
+use Rattle.cargo_toml_package.specs.Templates.{template_reads, template_of}
 use Rattle.cargo_toml_package.specs.Workspaces.{WorkspaceMeaning, workspace_of, workspace_reads}
 use Rattle.cargo_toml_parts.specs.declared.inheritable.Inheritable.TheVariants.{Set, Inherited}
 use Rattle.cargo_toml_parts.specs.Floats.{has_no_float, members_have_no_float, without_floats}
@@ -34,7 +34,7 @@ use Rattle.cargo_toml_dependencies.specs.Details.{Detail, is_plain}
 use Rattle.cargo_toml_manifest.specs.Texts.{any_tree, document_reads}
 use Rattle.cargo_toml_parts.specs.Versions.{Parts, requirement_of, version_of}
 use Rattle.cargo_toml_tables.specs.Settings.{everywhere}
-use Rattle.cargo_toml_tables.specs.Profiles.{ProfileMeaning, ProfilesMeaning, profile_keys, profile_of, profile_reads, profiles_of}
+use Rattle.cargo_toml_tables.specs.Profiles.{ProfileMeaning, profile_keys, profile_of, profile_reads, profiles_of}
 use Rattle.cargo_toml_write.specs.Lawful.{asked_with}
 use Rattle.cargo_toml_write.specs.Requirements.{CanBeRead}
 use Rattle.cargo_toml_write.specs.Reread.{SaysTrue, reread_dependency, told, each_value, reread, says_true, reread_target, reread_workspace, IsTold}
@@ -260,11 +260,8 @@ module _ {X : Type 0} (way : Way X) (P : X → Type 0) (f : (x : X) → P x → 
   pub map_before : (es : List (List ℕ × X)) (rows : List Row) → EachValue P es → RowsAsk rows → RowsAsk (entry_rows way es ++ rows)
   map_before es rows h rest = asked_before es rows (recursion_from_All (λ (e : List ℕ × X). P e.1) es h) rest
 
-itself_asked : {X : Type 0} (way : Way X) (x : X) → way.asks x → way.asks x
-itself_asked way x h = h
-
 detail_holds : (d : DetailMeaning) → EachValue Floatless d.unstable → Gives detail_way.asks (Some d)
-detail_holds d unstable = gives_some {P = detail_way.asks} d (map_before free_way Floatless (itself_asked free_way) d.unstable (known_rows d) unstable tt)
+detail_holds d unstable = gives_some {P = detail_way.asks} d (map_before free_way Floatless (λ x h. h) d.unstable (known_rows d) unstable tt)
 
 detail_members : (ms : Members) → MembersFloatless ms → Gives detail_way.asks (detail_of_table ms)
 detail_members ms h =
@@ -282,7 +279,7 @@ dependency_read _ h = gives_none
 
 profile_holds : (p : ProfileMeaning) → IfSome p.opt_level Floatless → EachValue Floatless p.«package» → IfSome p.build_override Floatless → Gives profile_way.asks (Some p)
 profile_holds p opt_level its_package build_override =
-    let whole = map_asked free_way Floatless (itself_asked free_way) p.«package» its_package in
+    let whole = map_asked free_way Floatless (λ x h. h) p.«package» its_package in
     gives_some {P = profile_way.asks} p (opt_level, (unless_asked (map_way free_way).asks (is_nil p.«package») p.«package» whole, (build_override, tt)))
 
 profile_members : (ms : Members) → MembersFloatless ms → Gives profile_way.asks (profile_of ms)
@@ -304,11 +301,11 @@ profiles_members ms h =
     (bind {P = profiles_way.asks} (optional_at "bench" profile_reads ms) _ (one "bench") (λ bench h_bench.
     (bind {P = profiles_way.asks} (optional_at "doc" profile_reads ms) _ (one "doc") (λ doc h_doc.
     (bind {P = profiles_way.asks} (others_read profile_keys profile_reads ms) _ (others_reads {P = profile_way.asks} profile_keys profile_reads profile_read ms h) (λ custom h_custom.
-    gives_some {P = profiles_way.asks} _ (map_before profile_way profile_way.asks (itself_asked profile_way) custom _ h_custom (h_release, (h_dev, (h_test, (h_bench, (h_doc, tt))))))))))))))))))
+    gives_some {P = profiles_way.asks} _ (map_before profile_way profile_way.asks (λ x h. h) custom _ h_custom (h_release, (h_dev, (h_test, (h_bench, (h_doc, tt))))))))))))))))))
 
 lint_asked : (b : Bool) (l : LintMeaning) → EachValue Floatless l.config → MatchBool b (Unit {0}) (table_lint_way.asks l)
 lint_asked true l config = tt
-lint_asked false l config = map_before free_way Floatless (itself_asked free_way) l.config _ config tt
+lint_asked false l config = map_before free_way Floatless (λ x h. h) l.config _ config tt
 
 lint_holds : (l : LintMeaning) → EachValue Floatless l.config → Gives lint_way.asks (Some l)
 lint_holds l config = gives_some {P = lint_way.asks} l (lint_asked (is_level_alone l) l config)
@@ -415,8 +412,7 @@ itself P o h = record { each = λ x e. (h.each x e, e) }
 
 detail_last : (ms : Members) (x : DetailMeaning) → IfSome x.version CanBeRead → (EachKey detail_keys x.unstable) × (others_read detail_keys (λ d. Some d) ms ≡ Some x.unstable)
     → Unit {0} × (list_at "features" ms ≡ Some x.features) → Unit {0} × (flag_at "optional" false ms ≡ Some x.optional) → x.inherited ≡ false → Gives (Told ms) (Some x)
-detail_last ms x version collected features optional not_inherited =
-    gives_some {P = Told ms} x (record { version = version; not_inherited = not_inherited; apart = collected.0 }, features.1, optional.1, collected.1)
+detail_last ms x h1 h2 h3 h4 h5 = grind (arith, gives_some)
 
 detail_told : (ms : Members) → Gives (Told ms) (detail_of_table ms)
 detail_told ms =
@@ -505,31 +501,22 @@ features_told None = gives_some {P = AreTold} no_features (told_apart [])
 features_told (Some d) = mapped {P = AreTold} (map_of feature_of d) apart (anything (map_of feature_of d)) (λ fs _. told_apart fs)
 
 -- lints and profiles collected other keys alone
-lint_last : (l : LintMeaning) → EachKey lint_keys l.config → Gives IsApart (Some l)
-lint_last l apart = gives_some {P = IsApart} l apart
-
 lint_told : (d : Data) → Gives IsApart (lint_of d)
 lint_told (table ms) =
     let config : Gives (EachKey lint_keys) (others_read lint_keys (λ d. Some d) ms) = others_told lint_keys (λ d. Some d) ms in
-    search (bind, skip, lint_last) depth 30
+    search (bind, skip, gives_some {P = IsApart}) depth 30
 lint_told d = mapped {P = IsApart} (level_of d) level_alone (anything _) (λ x p. All-from_recursion (λ (m : List ℕ × Data). is_among lint_keys m.0 ≡ false) [] tt)
-
-profiles_last : (p : ProfilesMeaning) → EachKey profile_keys p.custom → Gives AreApart (Some p)
-profiles_last p apart = gives_some {P = AreApart} p apart
 
 profiles_told : (ms : Members) → Gives AreApart (profiles_of ms)
 profiles_told ms =
     let custom : Gives (EachKey profile_keys) (others_read profile_keys profile_reads ms) = others_told profile_keys profile_reads ms in
-    search (bind, skip, profiles_last) depth 40
+    search (bind, skip, gives_some {P = AreApart}) depth 40
 
 -- packages and templates have a version that a text says
-template_last : (t : TemplateMeaning) → IfSome t.version IsVersionAgain → Gives TemplateAgain (Some t)
-template_last t version = gives_some {P = TemplateAgain} t version
-
 template_members : (ms : Members) → Gives TemplateAgain (template_of ms)
 template_members ms =
     let version : Gives (λ v. IfSome v IsVersionAgain) (optional_at "version" version_of ms) = optional_told IsVersionAgain version_of version_told (get_member (codes "version") ms) in
-    search (bind, skip, template_last) depth 60 fits 4000
+    search (bind, skip, gives_some {P = TemplateAgain}) depth 60 fits 4000
 
 template_told : (d : Data) → Gives TemplateAgain (template_reads d)
 unfolding template_reads

@@ -177,10 +177,7 @@ module _ {X M : Type 0} (way : Way M) (meaning : X → M) where
   pub items_err : (xs : List X) (i : ℕ) (vs : List Value) (x : X) (e : Error) → ItemsWritten xs i vs → i < length xs → x ≡ get_or xs i x
       → (e ≡ Memory) ⊎ (((d : Data) → ¬ (way.trees (meaning x) d)) × way.refuses (meaning x) e)
       → (e ≡ Memory) ⊎ (((d : Data) → ¬ ((list_way way).trees (map meaning xs) d)) × ItemsRefused way (map meaning xs) e)
-  items_err xs i vs x e so_far lt at (inl memory) = inl memory
-  items_err xs i vs x e so_far lt at (inr fault) =
-      let all : ItemsRefused way (map meaning xs) e = so_far.faults e (rw (at_index xs i x lt at) (inl fault)) in
-      inr (λ d (ds, is, trees). no_items_of (map meaning xs) ds e all trees, all)
+  items_err xs i vs x e h1 h2 h3 h4 = grind (arith, at_index, no_items_of)
 
 -- what the entries of a map mean
 abbrev pub meant : {X M : Type 0} → (X → M) → List (String Global × X) → List (List ℕ × M)

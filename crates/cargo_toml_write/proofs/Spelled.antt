@@ -278,13 +278,11 @@ identifier-whole pos id tail big all stop =
 -- the numbers, each behind its dot
 minor-again : (default : Bool) (o : Op) (x : ℕ) (rest : List ℕ) → x < 2 ^ 64 → starts_digit rest ≡ false
     → minor_part default o (46 ∷ (decimal x ++ rest)) ≡ Ok (o, Some x, false, place.Minor, rest)
-minor-again default o x rest fits stop =
-    rw (digit-wild (decimal x ++ rest) (decimal-starts x rest fits), numeric-of_text place.Minor x rest fits stop) refl
+minor-again default o x rest h1 h2 = grind (arith, decimal-starts, digit-wild, numeric-of_text)
 
 patch-again : (default : Bool) (o : Op) (pos : Position) (y : ℕ) (rest : List ℕ) → y < 2 ^ 64 → starts_digit rest ≡ false
     → patch_of default o false pos (46 ∷ (decimal y ++ rest)) ≡ Ok (o, Some y, place.Patch, rest)
-patch-again default o pos y rest fits stop =
-    rw (digit-wild (decimal y ++ rest) (decimal-starts y rest fits), numeric-of_text place.Patch y rest fits stop) refl
+patch-again default o pos y rest h1 h2 = grind (arith, decimal-starts, digit-wild, numeric-of_text)
 
 -- the reading of a comparator that another one may follow
 abbrev Reads : Result Parsed Error → Held → Option (List ℕ) → Type 0

@@ -10,6 +10,6 @@ pub mod document;
 pub mod escape;
 pub mod files;
 pub mod index;
-mod json;
+pub mod json;
 pub mod lint;
 mod requirement;

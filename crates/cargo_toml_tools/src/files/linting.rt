@@ -45,7 +45,7 @@ pub fn lint_lines<R: Files + RandomSource + AllocGlobal>(
 }
 
 /// What lint finds of the features of a manifest.
-pub(super) fn findings_of<'m, R: RandomSource + AllocGlobal, M>(
+pub fn findings_of<'m, R: RandomSource + AllocGlobal, M>(
     rt: &R,
     manifest: &'m Manifest<M>,
 ) -> Result<Vec<Finding<'m>>, Error>

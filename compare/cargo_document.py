@@ -4,7 +4,7 @@ feature turn on, by `cargo metadata --features F`.
     compare/cargo_document.py [--count N] [--seed N] [--program PROGRAM]
 
 The manifests are made as those of `cargo_lint.py`, less odd; those that Cargo takes count. A page
-doesn't name hidden features.
+doesn't name hidden features. A difference that is meant is of a class that `MEANT` names.
 """
 
 import argparse
@@ -22,6 +22,9 @@ from cargo_lint import Judge, Manifest
 
 HERE = os.path.dirname(os.path.realpath(__file__))
 BATCH = 200
+MEANT = {
+    "underscores": "the tables `dev_dependencies` and `build_dependencies`, up to edition 2021",
+}
 
 
 def pages(program, paths):
@@ -78,11 +81,13 @@ def compare(count, seed, program):
     number = 0
     with concurrent.futures.ThreadPoolExecutor(2) as pool:
         while kinds["same"] + kinds["FAILED"] < count:
-            folders = {}
+            folders, underscored = {}, set()
             for number in range(number, number + BATCH):
                 manifest = Manifest(seed, number, odd=0.1)
                 folders[manifest.name] = f"{top}/{number}"
                 manifest.write(folders[manifest.name])
+                if manifest.has_underscores:
+                    underscored.add(manifest.name)
             number += 1
             found = pages(program, [f"{folder}/Cargo.toml" for folder in folders.values()])
             answers = pool.map(judge.rows, folders.values())
@@ -91,13 +96,15 @@ def compare(count, seed, program):
                 if want is not None and rows is not None and "default" not in want:
                     rows.pop("default", None)
                 kind = "refused" if want is None else "same" if rows == want else "FAILED"
+                if kind == "FAILED" and name in underscored:
+                    kind = "underscores"
                 kinds[kind] += 1
                 if kind != "FAILED":
                     shutil.rmtree(folder)
                 elif kinds["FAILED"] <= 5:
                     print(f"{folder}\n{rows}\n{want}\n")
     for kind, times in kinds.most_common():
-        print(f"{times:6} {kind}")
+        print(f"{times:6} {kind}" + (f": {MEANT[kind]}" if kind in MEANT else ""))
     if not kinds["FAILED"]:
         shutil.rmtree(top)
     return min(kinds["FAILED"], 1)

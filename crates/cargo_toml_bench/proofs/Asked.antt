@@ -1,6 +1,5 @@
 -- What a resolver answers, by its filter and at its limit.
-use Rattle.std.proofs.Common.{◌≡◌, ℕ, Bool, List, Option, Some, None, false, is_some, Bor, refl, sym, ap, subst}
-use Rattle.std.proofs.lemmas.Bool.{false≢true}
+use Rattle.std.proofs.Common.{arith, ◌≡◌, ℕ, Bool, List, Option, None, false, is_some, Bor, refl, subst}
 use Rattle.cargo_toml_graph.proofs.Texts.{by_true}
 use Rattle.cargo_toml.specs.Action.{Text}
 use Rattle.cargo_toml.specs.Admitted.{Listed}
@@ -14,8 +13,7 @@ use Rattle.cargo_toml.specs.Resolved.{Answer}
 
 -- without a filter no hidden name is kept
 pub tells_none : {F : Type 0} (g : Asked F) (filter : Option (Bor F)) (keep : Text → Bool) → filter ≡ None → ((n : Text) → keep n ≡ false) → FilterTells g filter keep
-tells_none g None keep e none = none
-tells_none g (Some f) keep e none = absurd (false≢true (sym (ap is_some e)))
+tells_none g filter keep e none = grind arith
 
 pub keeps_none : {F : Type 0} (g : Asked F) (filter : Option (Bor F)) → filter ≡ None → FilterTells g filter (λ _. false)
 keeps_none g filter e = tells_none g filter (λ _. false) e (λ n. refl)

@@ -1,9 +1,6 @@
 mod Asked
-mod Gathering
 mod Unreferenced
 mod ToldAt
-mod Turns
 mod Taken
-mod InTurn
 mod Hiding
 mod Resolving

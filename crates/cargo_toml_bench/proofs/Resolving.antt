@@ -1,5 +1,5 @@
 -- From an answer with nothing removed, and what taking hidden features out leaves of it, to the answer without them.
-use Rattle.std.proofs.Common.{arith, ◌≡◌, ◌⊎◌, ◌↔◌, ◌&&◌, ◌++◌, ◌==◌, length, not, Bool, true, false, List, [], ◌∷◌, append-nil, Bor, codes, nat_eq, Option, Some, None, IsTrue, IsSome, IfSome, is_some, option_map, refl, sym, ap, subst, inl, inr, ◌∙◌}
+use Rattle.std.proofs.Common.{arith, ◌≡◌, ◌⊎◌, ◌↔◌, ◌&&◌, ◌++◌, ◌==◌, length, not, Bool, true, List, [], ◌∷◌, append-nil, Bor, codes, nat_eq, Option, Some, None, IsTrue, IsSome, IfSome, is_some, option_map, refl, sym, ap, subst, inl, inr, ◌∙◌}
 use Rattle.std.proofs.lemmas.Bool.{cases_Bool, eqb-true, false≢true, false_from_ne_true, not_from_false}
 use Rattle.std.specs.HashMap.{HashMap}
 use Rattle.std.specs.BTreeSet.{BTreeSet}
@@ -28,7 +28,7 @@ use Rattle.cargo_toml_features.specs.Recorded.{Entry}
 use Rattle.cargo_toml_features.specs.Resolved.{IsAnswer, table_of}
 use Rattle.cargo_toml_features.specs.Views.{answer_of, set_has, resolution_of, table_in, value_at}
 use Rattle.cargo_toml_resolve.specs.Texts.{texts_now}
-use Rattle.cargo_toml_resolve.proofs.SameKept.{resolved_same}
+use Rattle.cargo_toml_resolve.proofs.AgainstAll.{resolved_same}
 use Rattle.cargo_toml_bench.specs.Removing.{AreTakenOut, Redirected, bins_at}
 use Rattle.cargo_toml_bench.proofs.Unreferenced.{nothing_removed}
 
@@ -97,11 +97,7 @@ module _ {S H : Type 0} (listed : Listed) (entries : List Entry) (details : Name
     resolved = resolved_alike t (Among rs) R into back (resolution_of features) among_resolved
 
     keyed_at : (f : Text) → IfSome (option_map (λ (v : Feature). v.key.now) (value_at features f)) (λ k. k ≡ f)
-    keyed_at f = go (value_at features f) (λ there. (taken.stays f there).1)
-      where
-        go : (o : Option Feature) → (IsSome o → option_map (λ (v : Feature). v.key.now) o ≡ (answer_of old).key f) → IfSome (option_map (λ (v : Feature). v.key.now) o) (λ k. k ≡ f)
-        go None e = tt
-        go (Some v) e = subst (λ o. IfSome o (λ k. k ≡ f)) (sym (e refl)) (whole.kept.keyed f)
+    keyed_at f = grind (arith, there)
 
     passed_on : ArePassedOn t R own (λ f. bins_at features f)
     passed_on = record {
@@ -124,8 +120,7 @@ module _ {S H : Type 0} (listed : Listed) (entries : List Entry) (details : Name
     ]
       where
         some_there : (P : BTreeSet (Bor Text) → Type 0) (o : Option (BTreeSet (Bor Text))) → IsSomeAnd o P → is_some (option_map set_has o) ≡ true
-        some_there P None h = absurd h
-        some_there P (Some names) h = refl
+        some_there P o h = grind arith
 
     redirected : (r : Text) → IsSome (option_map set_has (value_at hidden r)) ↔ R r
     redirected r = (λ y. sym (redirected_as r) ∙ y, λ y. redirected_as r ∙ y)

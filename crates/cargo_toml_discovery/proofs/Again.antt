@@ -1,15 +1,11 @@
 -- Discovery of what was discovered.
 use Rattle.std.proofs.Common.{◌≡◌, Bool, true, false, cond, ◌&&◌, ◌||◌, List, [], ◌∷◌, ◌++◌, map, filter, refl, ap, ◌∙◌, sym, Option, Some, None, codes, is_some, append-nil}
-use Rattle.std.proofs.Math.Bool.{or_assoc}
-use Rattle.std.proofs.lemmas.Bool.{or_left, or_right}
-use Rattle.std.specs.List.{list_any, cons_option}
-use Rattle.std.specs.Str.{bytes_eq}
+use Rattle.std.proofs.{Math.Bool.or_assoc, lemmas.Bool.or_left, lemmas.Bool.or_right}
+use Rattle.std.specs.{List.list_any, List.cons_option, Str.bytes_eq}
 use Rattle.cargo_toml_tables.specs.Settings.{File, flag, path}
-use Rattle.cargo_toml_tables.specs.declared.settings.Edition.{Edition}
-use Rattle.cargo_toml_tables.specs.Products.{ProductMeaning}
+use Rattle.cargo_toml_tables.specs.{declared.settings.Edition.Edition, Products.ProductMeaning}
 use Rattle.cargo_toml_discovery.proofs.Stable.{products_rank, one_sort, sorted-sorted_by, filter-sorted_by}
-use Rattle.cargo_toml_discovery.proofs.Unique.{own, or-swap}
-use Rattle.cargo_toml_discovery.specs.Around.{Around}
+use Rattle.cargo_toml_discovery.{proofs.Unique.own, proofs.Unique.or-swap, specs.Around.Around}
 use Rattle.cargo_toml_discovery.specs.Discovering.{library, or_plain_library, filled_library, at_library, build_in, may_build, readme_in, first_in, readme_names, listed_products, main_of, main_offer, StatedMeaning, DiscoveredMeaning, discovered, restated}
 use Rattle.cargo_toml_discovery.specs.Found.{Named, Offered, offer_of, still_open, offers, is_text, is_path_of, has_path, product_for, product_among, taker, late_taker, last_product, all_found, found}
 use Rattle.cargo_toml_discovery.specs.Names.{Name, has_text}

@@ -1,15 +1,11 @@
 -- Offers stand in the order of their names, and the walk gives what each offer gives by itself.
 use Rattle.std.proofs.Common.{◌≡◌, Bool, true, false, cond, not, ◌&&◌, ◌||◌, List, [], ◌∷◌, ◌++◌, Option, Some, None, refl, ap, ◌∙◌, map, sym, append_assoc, append-nil, option_to_list, filter, subst}
-use Rattle.std.proofs.Math.Bool.{and-true, and-false}
-use Rattle.std.specs.List.{list_any, cons_option}
-use Rattle.std.specs.List.Sorted.{IsStrictlySortedBy}
-use Rattle.std.specs.Str.{bytes_eq}
-use Rattle.std.specs.Ordering.{nat_cmp, is_lt}
-use Rattle.std.specs.declared.cmp.Ordering.{Ordering}
+use Rattle.std.{proofs.Math.Bool.and-true, proofs.Math.Bool.and-false, specs.Str.bytes_eq}
+use Rattle.std.specs.List.{list_any, cons_option, Sorted.IsStrictlySortedBy}
+use Rattle.std.specs.{Ordering.nat_cmp, Ordering.is_lt, declared.cmp.Ordering.Ordering}
 use Rattle.std.specs.declared.cmp.Ordering.TheVariants.{Less, Equal, Greater}
 use Rattle.std.specs.Cmp.Lexicographic.{slice_cmp, nat_list_cmp_total}
-use Rattle.cargo_toml_tables.specs.declared.settings.Edition.{Edition}
-use Rattle.cargo_toml_tables.specs.Products.{ProductMeaning}
+use Rattle.cargo_toml_tables.specs.{declared.settings.Edition.Edition, Products.ProductMeaning}
 use Rattle.cargo_toml_discovery.specs.Found.{Offered, product_for, product_among, last_waiting, last_product, has_offer, Named, offer_of, still_open, open_offer, offers, is_path_of, found, has_path}
 use Rattle.cargo_toml_discovery.specs.Names.{Name, is_source}
 use Rattle.cargo_toml_discovery.specs.Walk.{walk, with_extra, without, NamesAscend}

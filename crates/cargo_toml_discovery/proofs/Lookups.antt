@@ -1,13 +1,8 @@
 use Rattle.std.proofs.Common.{◌≡◌, Bool, true, false, cond, List, [], ◌∷◌, map, refl, ap, ◌∙◌, sym, string_bytes, String, Some, None, Option, is_some}
-use Rattle.std.specs.Option.{option_map, option_copied}
+use Rattle.std.specs.{Option.option_map, Option.option_copied, Str.bytes_eq, Map.lookup}
 use denote.Ref.{Bor}
-use Rattle.std.specs.Str.{bytes_eq}
-use Rattle.std.specs.Map.{lookup}
-use Rattle.std.specs.Ordering.{nat_cmp}
-use Rattle.std.specs.BTreeMap.{is_at, get_by}
-use Rattle.std.specs.BTreeSet.{BTreeSet}
-use Rattle.std.specs.Cmp.Lexicographic.{slice_cmp}
-use Rattle.std.specs.declared.alloc.Global.{Global}
+use Rattle.std.specs.{Ordering.nat_cmp, BTreeMap.is_at, BTreeMap.get_by, BTreeSet.BTreeSet}
+use Rattle.std.specs.{Cmp.Lexicographic.slice_cmp, declared.alloc.Global.Global}
 use Rattle.std.proofs.lemmas.Map.Text.{is_eq-slice_cmp}
 use Rattle.cargo_toml_discovery.specs.declared.listings.Listings as code
 use Rattle.cargo_toml_discovery.specs.Answers.{texts_in, answer_at, answers_of}

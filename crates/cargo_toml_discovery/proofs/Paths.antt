@@ -1,17 +1,12 @@
 -- The paths of products, in a set.
 use Rattle.std.proofs.Common.{◌≡◌, ℕ, Bool, true, false, cond, ◌||◌, List, [], ◌∷◌, ◌++◌, map, take, get_or, length, ◌<◌, ◌+◌, refl, ap, ◌∙◌, sym, Option, Some, option_map, String, string_bytes, Global}
 use Rattle.std.specs.BTreeSet as sorted
-use Rattle.std.specs.BTreeSet.{BTreeSet}
-use Rattle.std.specs.Cmp.Lexicographic.{slice_cmp}
-use Rattle.std.specs.Ordering.{nat_cmp}
-use Rattle.std.specs.Str.{bytes_eq}
+use Rattle.std.specs.{BTreeSet.BTreeSet, Cmp.Lexicographic.slice_cmp, Ordering.nat_cmp}
+use Rattle.std.{specs.Str.bytes_eq, proofs.lemmas.List.take_more, proofs.lemmas.List.map_push}
 use Rattle.std.proofs.Math.Bool.{or_comm, or-false, or_assoc}
-use Rattle.std.proofs.lemmas.List.{take_more, map_push}
 use Rattle.std.proofs.lemmas.Map.Text.{is_eq-slice_cmp}
 use denote.Ref.{Bor}
-use Rattle.cargo_toml_discovery.specs.Found.{is_path_of, is_text}
-use Rattle.cargo_toml_discovery.specs.Names.{Name}
-use Rattle.cargo_toml_discovery.specs.Walk.{is_path_in}
+use Rattle.cargo_toml_discovery.specs.{Found.is_path_of, Found.is_text, Names.Name, Walk.is_path_in}
 use Rattle.cargo_toml_tables.specs.Products.{ProductMeaning, product_meaning}
 use Rattle.cargo_toml_tables.specs.declared.product.Product as code
 

@@ -3,8 +3,7 @@ use Rattle.std.proofs.Common.{◌≡◌, ℕ, ◌<◌, Bool, true, false, cond, 
 use Rattle.std.specs.Cmp.{IsStrictWeakOrder, on_total, then_total}
 use Rattle.std.specs.Cmp.Lexicographic.{nat_list_cmp_total, options_total}
 use Rattle.std.specs.List.Sorted.{IsSortedBy, IsStableBy, ties}
-use Rattle.std.proofs.lemmas.List.MinMax.{ranks_by}
-use Rattle.std.proofs.lemmas.List.Sorted.{sorted_far}
+use Rattle.std.proofs.lemmas.List.{MinMax.ranks_by, Sorted.sorted_far}
 use Rattle.cargo_toml_discovery.specs.Sorting.{insert_by, product_lt, sorted_by}
 use Rattle.cargo_toml_tables.specs.Products.{ProductMeaning}
 

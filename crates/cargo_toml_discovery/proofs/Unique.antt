@@ -1,16 +1,12 @@
 -- Texts in order, each once, are given by which they are.
 use Rattle.std.proofs.Common.{◌≡◌, Bool, true, false, ◌||◌, List, [], ◌∷◌, refl, ap, ◌∙◌, sym, map, String, string_bytes, subst}
-use Rattle.std.specs.List.{list_any, AllByRecursion}
-use Rattle.std.specs.List.Sorted.{IsStrictlySortedBy}
-use Rattle.std.specs.Str.{bytes_eq}
-use Rattle.std.specs.Ordering.{nat_cmp, is_eq, match_ordering}
-use Rattle.std.specs.declared.cmp.Ordering.{Ordering}
+use Rattle.std.specs.List.{list_any, AllByRecursion, Sorted.IsStrictlySortedBy}
+use Rattle.std.specs.{Str.bytes_eq, Ordering.nat_cmp, Ordering.is_eq, Ordering.match_ordering}
+use Rattle.std.specs.{declared.cmp.Ordering.Ordering, String.string_cmp}
 use Rattle.std.specs.declared.cmp.Ordering.TheVariants.{Less, Equal, Greater}
 use Rattle.std.specs.Cmp.Lexicographic.{slice_cmp, nat_list_cmp_total}
 use Rattle.std.specs.BTreeSet.{BTreeSet, IsOrdered, contains_text}
-use Rattle.std.specs.String.{string_cmp}
-use Rattle.std.specs.declared.alloc.Global.{Global}
-use Rattle.std.proofs.lemmas.Slice.Eq.{bytes_eq-Decides}
+use Rattle.std.{specs.declared.alloc.Global.Global, proofs.lemmas.Slice.Eq.bytes_eq-Decides}
 use Rattle.std.proofs.lemmas.Map.Text.{is_eq-slice_cmp}
 use Rattle.cargo_toml_discovery.specs.Answers.{texts_in}
 use Rattle.cargo_toml_discovery.specs.Names.{Name, has_text, put_in, ordered}

@@ -1,11 +1,9 @@
 use Rattle.std.proofs.Common.{◌≡◌, Bool, true, false, cond, List, [], ◌∷◌, Option, Some, None, refl, ap, ◌∙◌, sym}
-use Rattle.std.specs.Option.{option_map, option_copied}
-use Rattle.std.specs.Str.{bytes_eq}
+use Rattle.std.specs.{Option.option_map, Option.option_copied, Str.bytes_eq}
 use denote.Ref.{Bor}
 use Rattle.cargo_toml_tables.specs.declared.settings.Edition.{Edition}
 use Rattle.cargo_toml_tables.specs.declared.product.Product as code_product
-use Rattle.cargo_toml_discovery.specs.Found.{Offered, product_for}
-use Rattle.cargo_toml_discovery.specs.Names.{Name}
+use Rattle.cargo_toml_discovery.specs.{Found.Offered, Found.product_for, Names.Name}
 use Rattle.cargo_toml_discovery.specs.Walk.{walk, without}
 use Rattle.cargo_toml_tables.specs.Products.{ProductMeaning, product_meaning}
 

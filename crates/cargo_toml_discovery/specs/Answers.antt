@@ -1,9 +1,7 @@
 -- A finite record of names that were answered.
 use Rattle.std.specs.Prelude.{Bool, ◌&&◌, List, [], ◌∷◌, map, filter, Option, Some, None}
 use Rattle.std.specs.Prelude.{if◌then◌else◌, codes, unwrap_or, string_bytes, String}
-use Rattle.std.specs.BTreeSet.{BTreeSet}
-use Rattle.std.specs.Str.{bytes_eq}
-use Rattle.std.specs.declared.alloc.Global.{Global}
+use Rattle.std.specs.{BTreeSet.BTreeSet, Str.bytes_eq, declared.alloc.Global.Global}
 use Rattle.cargo_toml_discovery.specs.Around.{Around}
 use Rattle.cargo_toml_discovery.specs.Found.{Named}
 use Rattle.cargo_toml_discovery.specs.Names.{Name, has_text, in_folder, may_be_folder}

@@ -1,10 +1,7 @@
 -- What is stated of the folders around a package, and what an answer has to be by that.
 use Rattle.std.specs.Prelude.{◌≡◌, ◌⊎◌, ℕ, List, String, Result, MatchResult, IsErrAnd, IfErr}
-use Rattle.std.specs.HashSet.{HashSet, contains_text}
-use Rattle.std.specs.List.{list_any}
-use Rattle.std.specs.Str.{bytes_eq}
-use Rattle.std.specs.declared.alloc.Global.{Global}
-use Rattle.std.specs.declared.io.ErrorKind.TheVariants.{NotFound}
+use Rattle.std.specs.{HashSet.HashSet, HashSet.contains_text, List.list_any, Str.bytes_eq}
+use Rattle.std.specs.declared.{alloc.Global.Global, io.ErrorKind.TheVariants.NotFound}
 use Rattle.cargo_toml_parts.specs.declared.error.Error.{Error, Memory}
 use Rattle.cargo_toml_parts.specs.FaultValues.{Fault, fault_of, io}
 use Rattle.cargo_toml_discovery.specs.Told.{Told, names, absent, denied, open_path}

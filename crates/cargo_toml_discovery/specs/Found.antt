@@ -1,11 +1,8 @@
 -- What is found in a folder of products.
 use Rattle.std.specs.Prelude.{Bool, false, not, ◌&&◌, List, [], ◌∷◌, ◌++◌, map}
 use Rattle.std.specs.Prelude.{filter, Option, Some, None, is_some, if◌then◌else◌, codes}
-use Rattle.std.specs.List.{list_any, filter_map}
-use Rattle.std.specs.Option.{option_or}
-use Rattle.std.specs.Ordering.{nat_cmp, is_lt}
-use Rattle.std.specs.Cmp.Lexicographic.{slice_cmp}
-use Rattle.std.specs.Str.{bytes_eq}
+use Rattle.std.specs.{List.list_any, List.filter_map, Option.option_or, Cmp.Lexicographic.slice_cmp}
+use Rattle.std.specs.{Ordering.nat_cmp, Ordering.is_lt, Str.bytes_eq}
 use Rattle.cargo_toml_tables.specs.declared.settings.Edition.{Edition}
 use Rattle.cargo_toml_tables.specs.Products.{ProductMeaning, no_product}
 use Rattle.cargo_toml_discovery.specs.Names.{Name, in_folder, is_source, stem}

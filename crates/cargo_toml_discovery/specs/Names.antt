@@ -1,10 +1,8 @@
 -- Names of files and folders, and what they say.
 use Rattle.std.specs.Prelude.{ℕ, Bool, List, [], ◌∷◌, ◌++◌, ◌-◌, length, take}
 use Rattle.std.specs.Prelude.{zero, suc, codes, nat_eq, not, map, if◌then◌else◌}
-use Rattle.std.specs.List.{ends_with, list_any}
-use Rattle.std.specs.Ordering.{nat_cmp, match_ordering}
-use Rattle.std.specs.Cmp.Lexicographic.{slice_cmp}
-use Rattle.std.specs.Str.{bytes_eq}
+use Rattle.std.specs.{List.ends_with, List.list_any, Ordering.nat_cmp, Ordering.match_ordering}
+use Rattle.std.specs.{Cmp.Lexicographic.slice_cmp, Str.bytes_eq}
 
 -- the name of a file or folder, or its path: its bytes
 abbrev pub Name : Type 0

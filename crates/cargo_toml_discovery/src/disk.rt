@@ -1,7 +1,5 @@
 //! The names in folders on the disk.
-ghost use Rattle.std.specs.IoError.{error_kind};
-ghost use Rattle.std.specs.Iterator.{IsFinite};
-ghost use Rattle.std.specs.Prelude.{◌≡◌, IfErr};
+ghost use Rattle.std.specs.{IoError.error_kind, Iterator.IsFinite, Prelude.◌≡◌, Prelude.IfErr};
 ghost use Rattle.cargo_toml_discovery.specs.Disk.{IsEntryFault, IsListingFault, IsListingInput};
 ghost use Rattle.cargo_toml_discovery.specs.Disk.{SaysAbsent, or_here};
 ghost use Rattle.cargo_toml_discovery.specs.Folders.{RefusesBy};

@@ -1,10 +1,8 @@
 //! The names in folders, as they were answered.
 ghost use Rattle.std.specs.Prelude.{◌≡◌, [], IfOk, OnOk, Some, map, string_bytes, if◌then◌else◌};
-ghost use Rattle.std.specs.BTreeSet.{contains_text, IsOrdered};
+ghost use Rattle.std.specs.{BTreeSet.contains_text, BTreeSet.IsOrdered, Str.bytes_eq};
 ghost use Rattle.std.specs.HashSet.{contains_text as has_in};
-ghost use Rattle.std.specs.Option.{option_map, option_copied};
-ghost use Rattle.std.specs.Str.{bytes_eq};
-ghost use Rattle.std.specs.String.{string_cmp};
+ghost use Rattle.std.specs.{Option.option_map, Option.option_copied, String.string_cmp};
 ghost use Rattle.cargo_toml_discovery.specs.Answers.{answers_of, answer_at, texts_in};
 ghost use Rattle.cargo_toml_discovery.specs.Answers.{names_kept, below, entries_in};
 ghost use Rattle.cargo_toml_discovery.specs.Names.{Name, has_text};

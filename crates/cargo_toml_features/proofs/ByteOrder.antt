@@ -7,8 +7,7 @@ use Rattle.std.specs.{Cmp.Lexicographic.slice_cmp, List.Contains, List.dedup, Li
 use Rattle.std.specs.{List.Sorted.IsSearchInRange, List.Sorted.IsBinarySearchResult, Ordering.nat_cmp, Result.result_ok, declared.cmp.Ordering.Ordering, declared.cmp.Ordering.TheVariants.Equal}
 use Rattle.cargo_toml_graph.specs.{Ascending.Ascend, Action.Text, Reach.Among}
 use Rattle.cargo_toml_graph.proofs.{RedirectsInOrder.below_one_way, SortedTexts.texts_ascend}
-use Rattle.cargo_toml_features.specs.Places.{nth_text}
-use Rattle.cargo_toml_features.proofs.Places.{at_among, rises}
+use Rattle.cargo_toml_features.{specs.Places.nth_text, proofs.Places.at_among, proofs.Places.rises}
 
 abbrev texts : List (Bor Text) → List Text
 texts ts = map (λ t. t.now) ts

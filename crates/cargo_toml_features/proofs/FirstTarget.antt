@@ -1,5 +1,5 @@
 -- The first of a dependency's targets, by the order of their keys, is the first target of the entries that were recorded.
-use Rattle.std.proofs.Common.{◌≡◌, ◌<◌, Ordering, Less, Equal, Greater, Bool, true, false, cond, List, [], ◌∷◌, fold, find, length, Option, Some, None, option_map, is_some, IsSome, Bor, refl, sym, ap, ap₂, subst, arith, ◌∙◌}
+use Rattle.std.proofs.Common.{◌≡◌, ◌<◌, Ordering, Equal, Bool, true, false, cond, List, [], ◌∷◌, fold, find, length, Option, Some, None, option_map, is_some, IsSome, Bor, refl, sym, ap, ap₂, subst, arith, ◌∙◌}
 use Rattle.std.proofs.lemmas.{Bool.false≢true, Bool.false_from_ne_true, Cmp.upto, Cmp.tied_itself, Cmp.alike_right, Cmp.on_total}
 use Rattle.std.specs.{Cmp.IsTotalOrder, List.AllByRecursion, Ordering.is_eq, Ordering.is_gt, Ordering.is_lt, Ordering.on, Ordering.ordering_reverse, Map.lookup, BTreeMap.BTreeMap}
 use Rattle.std.specs.BTreeMap as tree
@@ -9,6 +9,7 @@ use Rattle.cargo_toml_features.specs.contracts.features.TargetKeyOrd.TheImpl.Law
 use Rattle.cargo_toml_features.specs.{declared.features.FeatureDependency.FeatureDependency, declared.features.TargetKey.TargetKey, FirstTarget.HasTarget, FirstTarget.IsFirst, Recorded.Entry}
 use Rattle.cargo_toml_features.specs.{Recorded.Target, Recorded.target_cmp, Recorded.recorded_of, Recorded.first_target, Resolved.SameRecorded, Views.recorded_in, Views.target_in}
 use Rattle.cargo_toml_features.proofs.Targets.{at, by_key, cmp_is, key_of, target_of-key_of, target_same}
+use Rattle.std.proofs.lemmas.Option.{same_Some}
 
 -- ---- the least of a list, of equal ones the first
 module _ {K X : Type 0} {R : K → K → Ordering} (o : IsTotalOrder R) (g : X → K) where
@@ -22,23 +23,17 @@ module _ {K X : Type 0} {R : K → K → Ordering} (o : IsTotalOrder R) (g : X �
   hit t xs = find (λ x. is_eq (R t (g x))) xs
 
   is_gt-reverse : (p : Ordering) → is_gt (ordering_reverse p) ≡ is_lt p
-  is_gt-reverse Less = refl
-  is_gt-reverse Equal = refl
-  is_gt-reverse Greater = refl
+  is_gt-reverse v0 = grind arith
 
   -- the order turned round
   turned : (a b : K) → is_gt (R a b) ≡ is_lt (R b a)
   turned a b = ap is_gt (o.antisymm a b) ∙ is_gt-reverse (R b a)
 
   less-le : (p : Ordering) → is_lt p ≡ true → is_gt p ≡ false
-  less-le Less e = refl
-  less-le Equal e = absurd (false≢true e)
-  less-le Greater e = absurd (false≢true e)
+  less-le v0 v1 = grind arith
 
   is_equal : (p : Ordering) → is_eq p ≡ true → p ≡ Equal
-  is_equal Less e = absurd (false≢true e)
-  is_equal Equal e = refl
-  is_equal Greater e = absurd (false≢true e)
+  is_equal v0 v1 = grind arith
 
   lower : (e : X) (es : List X) → AllByRecursion (λ z. Le (g (least e es)) (g z)) (e ∷ es)
   lower e [] = (ap is_gt (tied_itself o (g e)), tt)
@@ -51,16 +46,10 @@ module _ {K X : Type 0} {R : K → K → Ordering} (o : IsTotalOrder R) (g : X �
   -- the least is below whatever equals one of the list
   below_hit : (m t : K) (xs : List X) → AllByRecursion (λ z. Le m (g z)) xs → is_some (hit t xs) ≡ true → Le m t
   below_hit m t [] h s = absurd (false≢true s)
-  below_hit m t (x ∷ xs) h s = go (λ r. below_hit m t xs h.1 r) (is_eq (R t (g x))) refl s
-    where
-      go : (is_some (hit t xs) ≡ true → Le m t) → (b : Bool) → is_eq (R t (g x)) ≡ b → is_some (cond b (Some x) (hit t xs)) ≡ true → Le m t
-      go later true e r = ap is_gt (alike_right o t (g x) m (is_equal _ e)) ∙ h.0
-      go later false e r = later r
+  below_hit m t (x ∷ xs) h s = grind (arith, alike_right, is_equal, below_hit m t xs h.1)
 
   neither : (p : Ordering) → is_gt p ≡ false → is_lt p ≡ false → is_eq p ≡ true
-  neither Less a b = absurd (false≢true (sym b))
-  neither Equal a b = refl
-  neither Greater a b = absurd (false≢true (sym a))
+  neither v0 v1 v2 = grind arith
 
   -- the least is found by itself
   found : (e : X) (es : List X) → hit (g (least e es)) (e ∷ es) ≡ Some (least e es)
@@ -141,9 +130,6 @@ module _ (m : BTreeMap TargetKey (Bor Dependency)) where
           lower_key
 
 -- ---- what is recorded of a key
-some_same : {X : Type 0} {x y : X} → Some x ≡ Some y → x ≡ y
-some_same e = cc
-
 some_none : {X : Type 0} {x : X} → Some x ≡ None → ⊥
 some_none e = cc
 
@@ -151,25 +137,23 @@ some_none e = cc
 pub first_recorded : (d : FeatureDependency) (key : TargetKey) (w : Bor Dependency) → tree.get (key_order.cmp-value).it d.targets key ≡ Some w → tree.IsLowerBound (key_order.cmp-value).it d.targets key
     → (es : List Entry) → Some (recorded_in d) ≡ recorded_of es → Some (dependency_meaning w.now) ≡ first_target es
 first_recorded d key w here bound [] r = absurd (some_none r)
-first_recorded d key w here bound (e ∷ es) r = sym (first_is d.targets key w here bound e es (λ t. ap (λ x. x.targets t) (some_same r)))
+first_recorded d key w here bound (e ∷ es) r = sym (first_is d.targets key w here bound e es (λ t. ap (λ x. x.targets t) (same_Some _ _ r)))
 
 pub first_same : (d : FeatureDependency) (key : TargetKey) (w : Bor Dependency) → tree.get (key_order.cmp-value).it d.targets key ≡ Some w → tree.IsLowerBound (key_order.cmp-value).it d.targets key
     → (es : List Entry) → SameRecorded (Some (recorded_in d)) (recorded_of es) → Some (dependency_meaning w.now) ≡ first_target es
-first_same d key w here bound [] r = absurd r
-first_same d key w here bound (e ∷ es) r = sym (first_is d.targets key w here bound e es r.1)
+first_same v0 v1 v2 v3 v4 v5 v6 = grind (arith, first_is)
 
 -- a key that is recorded has a target
 pub some_recorded : (d : FeatureDependency) → d.targets.entries ≡ [] → (es : List Entry) → Some (recorded_in d) ≡ recorded_of es → None ≡ first_target es
 some_recorded d empty [] r = refl
-some_recorded d empty (e ∷ es) r = absurd (some_none (sym (sym nothing ∙ ap (λ x. x.targets e.target) (some_same r) ∙ ap (λ b. option_map (λ (x : Entry). x.dependency) (cond b (Some e) (find (λ x. is_eq (target_cmp e.target x.target)) es))) (ap is_eq (tied_itself target_total e.target)))))
+some_recorded d empty (e ∷ es) r = absurd (some_none (sym (sym nothing ∙ ap (λ x. x.targets e.target) (same_Some _ _ r) ∙ ap (λ b. option_map (λ (x : Entry). x.dependency) (cond b (Some e) (find (λ x. is_eq (target_cmp e.target x.target)) es))) (ap is_eq (tied_itself target_total e.target)))))
   where
     nothing : at d.targets e.target ≡ None
     nothing = ap (λ l. option_map (λ (x : Bor Dependency). dependency_meaning x.now) (lookup (tree.is_at (λ k. target_cmp e.target (target_in k))) l)) empty
 
 -- ---- what a record tells of its first target
 some_mapped : {X Y : Type 0} (f : X → Y) (o : Option X) → IsSome (option_map f o) → is_some o ≡ true
-some_mapped f None s = absurd (false≢true s)
-some_mapped f (Some x) s = refl
+some_mapped v0 v1 v2 = grind arith
 
 -- the least key holds the record's first dependency
 pub is_first : (d : FeatureDependency) (key : TargetKey) (w : Bor Dependency) → tree.get (key_order.cmp-value).it d.targets key ≡ Some w → tree.IsLowerBound (key_order.cmp-value).it d.targets key

@@ -1,13 +1,11 @@
 -- A hashed table, put in order one name after another.
 use Rattle.std.proofs.Common.{◌≡◌, ◌||◌, Bool, true, false, cond, List, [], ◌∷◌, ◌++◌, map, option_map, string_bytes, Option, String, Vec, Some, None, is_some, bytes_eq, refl, sym, ap, ◌∙◌, arith}
-use Rattle.std.proofs.Math.Bool.{or-false}
+use Rattle.std.proofs.{Math.Bool.or-false, lemmas.Grind.common_steps}
 use Rattle.std.proofs.lemmas.{Bool.or_right, List.map-append, List.Folds.list_any-append, Map.Made.is_some-lookup, Map.Text.btree_map_updates_str, Map.Text.is_eq-slice_cmp, Slice.Eq.bytes_eq-Decides}
-use Rattle.std.proofs.lemmas.Grind.{common_steps}
 use Rattle.std.specs.{Borrow.Bor, BTreeMap.BTreeMap, BTreeMap.is_at, Cmp.Lexicographic.slice_cmp, HashMap.HashMap, List.list_any, List.Sorted.IsStrictlySortedBy, Map.lookup, Map.Iter.deref_pair}
 use Rattle.std.specs.{Ordering.nat_cmp, declared.alloc.Global.Global}
 use Rattle.std.specs.BTreeMap as tree
-use Rattle.cargo_toml_graph.specs.Action.{Text}
-use Rattle.cargo_toml_graph.proofs.{Cut.Ascends, Texts.bytes_eq_sym}
+use Rattle.cargo_toml_graph.{specs.Action.Text, proofs.Cut.Ascends, proofs.Texts.bytes_eq_sym}
 use Rattle.cargo_toml_features.proofs.OneListing.{listed_ascend}
 use Rattle.cargo_toml_features.specs.Hashed.{actions_at, sorted_actions_at}
 

@@ -1,11 +1,11 @@
 -- Each hashed table has a listing: its entries, put in order one after another.
-use Rattle.std.proofs.Common.{◌≡◌, ◌&&◌, Bool, true, false, T, cond, List, [], ◌∷◌, map, option_map, string_bytes, String, Vec, Some, bytes_eq, refl, sym, ap₂, ◌∙◌, arith}
+use Rattle.std.proofs.Common.{◌≡◌, ◌&&◌, Bool, T, List, [], ◌∷◌, map, option_map, string_bytes, String, Vec, bytes_eq, refl, ◌∙◌, arith}
 use Rattle.std.proofs.lemmas.{Cmp.nat_list_cmp_total, Map.Text.is_eq-slice_cmp, Grind.common_steps}
 use Rattle.std.specs.{Cmp.Lexicographic.slice_cmp, FinMap.Entries.put, FinMap.Entries.find, FinMap.Entries.below_all, FinMap.Entries.is_sorted, FinMap.Entries.is_sorted-put, FinMap.Entries.find-put}
 use Rattle.std.specs.{HashMap.HashMap, List.AllByRecursion, List.Sorted.IsStrictlySortedBy, Map.lookup, Ordering.nat_cmp, Ordering.is_lt, declared.alloc.Global.Global, declared.cmp.Ordering.Ordering}
-use Rattle.std.specs.declared.cmp.Ordering.TheVariants.{Less}
+use Rattle.std.{specs.declared.cmp.Ordering.TheVariants.Less, proofs.Common.rules}
 use Rattle.cargo_toml_graph.specs.{Action.Text, Admitted.Listed}
-use Rattle.cargo_toml_features.specs.Hashed.{IsListingOf}
+use Rattle.cargo_toml_features.{specs.Hashed.IsListingOf, proofs.OneListing.by_bytes}
 
 abbrev Entries : Type 0
 Entries = List (String Global × Vec (String Global) Global)
@@ -20,19 +20,7 @@ sorted (e ∷ es) = is_sorted-put (slice_cmp nat_cmp) nat_list_cmp_total (string
 
 found : (f : Text) (es : Entries) → find (slice_cmp nat_cmp) f (in_turn es) ≡ option_map (λ v. map string_bytes v.items) (lookup (λ k. bytes_eq f (string_bytes k)) es)
 found f [] = refl
-found f (e ∷ es) =
-    find-put (slice_cmp nat_cmp) nat_list_cmp_total f (string_bytes e.0) (map string_bytes e.1.items) (in_turn es)
-    ∙ ap₂ (λ b o. cond b (Some (map string_bytes e.1.items)) o) (is_eq-slice_cmp f (string_bytes e.0)) (found f es)
-    ∙ go (bytes_eq f (string_bytes e.0))
-  where
-    go : (b : Bool) → cond b (Some (map string_bytes e.1.items)) (option_map (λ (v : Vec (String Global) Global). map string_bytes v.items) (lookup (λ (k : String Global). bytes_eq f (string_bytes k)) es))
-        ≡ option_map (λ (v : Vec (String Global) Global). map string_bytes v.items) (cond b (Some e.1) (lookup (λ (k : String Global). bytes_eq f (string_bytes k)) es))
-    go true = refl
-    go false = refl
-
-by_bytes : (f : Text) (ls : Listed) → lookup (bytes_eq f) ls ≡ find (slice_cmp nat_cmp) f ls
-by_bytes f [] = refl
-by_bytes f (e ∷ ls) = ap₂ (λ b o. cond b (Some e.1) o) (sym (is_eq-slice_cmp f e.0)) (by_bytes f ls)
+found f (e ∷ es) = search (rules, nat_list_cmp_total, string_bytes, is_eq-slice_cmp, option_map, found f es, find-put, slice_cmp)
 
 both : (a b : Bool) → T (a && b) → T a × T b
 both v0 v1 v2 = grind (arith, common_steps)

@@ -3,8 +3,7 @@ use Rattle.std.proofs.Common.{◌≡◌, List, [], ◌∷◌, map, Option, Bor, 
 use Rattle.std.specs.{Option.option_copied, BTreeMap.BTreeMap, BTreeMap.get_by, BTreeMap.is_at, Cmp.Lexicographic.slice_cmp, Map.lookup, Ordering.nat_cmp, List.Sorted.IsStrictlySortedBy}
 use Rattle.std.specs.{String.string_cmp, declared.alloc.Global.Global}
 use Rattle.std.proofs.lemmas.{Map.Text.is_eq-slice_cmp, Grind.common_steps}
-use Rattle.cargo_toml_graph.specs.Action.{Text}
-use Rattle.cargo_toml_graph.proofs.Cut.{Ascends}
+use Rattle.cargo_toml_graph.{specs.Action.Text, proofs.Cut.Ascends}
 use Rattle.cargo_toml_features.proofs.OneListing.{listed_ascend}
 use Rattle.cargo_toml_dependencies.specs.{Details.Detail, Details.detail_of, Details.plain_detail, declared.target.FeatureDetail.FeatureDetail}
 use Rattle.cargo_toml_parts.specs.Reads.{map_meaning}

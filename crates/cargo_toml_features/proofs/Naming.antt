@@ -1,7 +1,6 @@
 -- The names that a loop over a map puts into a set.
 use Rattle.std.proofs.Common.{◌≡◌, ◌||◌, Bool, false, List, [], ◌∷◌, sym, ap, ◌∙◌, arith}
-use Rattle.std.proofs.Math.Bool.{or-false, or_assoc}
-use Rattle.std.proofs.lemmas.Grind.{common_steps}
+use Rattle.std.proofs.{Math.Bool.or-false, Math.Bool.or_assoc, lemmas.Grind.common_steps}
 use Rattle.std.specs.List.{list_any}
 
 module _ {A : Type 0} (hits : A → Bool) where

@@ -8,8 +8,7 @@ use Rattle.std.specs.BTreeMap as tree
 use Rattle.std.specs.HashMap as hash
 use Rattle.cargo_toml_features.specs.{declared.features.DepAction.DepAction, Reached.Lists, Reached.pairs_at, Reached.HaveNoEmpty, Visits.AddsPair, Visits.unconditional, Views.value_at}
 use Rattle.cargo_toml_features.specs.Views.{action_of, action_at}
-use Rattle.cargo_toml_graph.specs.Action.{Text, Action}
-use Rattle.cargo_toml_graph.proofs.Texts.{bytes_eq_sym}
+use Rattle.cargo_toml_graph.{specs.Action.Text, specs.Action.Action, proofs.Texts.bytes_eq_sym}
 
 module _ {X S : Type 0} (k : Text) (m n : HashMap (Bor Text) X S) (w : Option X) (h : hash.UpdatesBy (λ x y. bytes_eq x.now y.now) (λ q. bytes_eq k q.now) m n w) where
   pub at_key : value_at n k ≡ w

@@ -1,7 +1,6 @@
 -- A map of a resolution with nothing removed has what the table has, and enables what it enables.
 use Rattle.std.proofs.Common.{◌≡◌, Bor, IsTrue, refl, subst, inl, arith}
-use Rattle.std.proofs.lemmas.Grind.{common_steps}
-use Rattle.std.specs.HashMap.{HashMap}
+use Rattle.std.{proofs.lemmas.Grind.common_steps, specs.HashMap.HashMap}
 use Rattle.cargo_toml_graph.specs.{Action.Text, Graph.Table, Graph.Edge, Graph.IsResolved, Reach.Gathers, Recursive.Enables, Recursive.Enables.itself, Recursive.Enables.further}
 use Rattle.cargo_toml_features.specs.{Views.resolution_of, Views.table_in, declared.features.Feature.Feature}
 

@@ -1,9 +1,9 @@
 -- The invariant of the walk, and what is found and listed at its end.
-use Rattle.std.proofs.Common.{◌≡◌, ◌≢◌, ◌+◌, ◌<◌, ◌⊎◌, ◌&&◌, Bool, true, false, cond, List, [], ◌∷◌, ◌++◌, map, Option, Some, None, is_some, IsTrue, IsFalse, IfSome, Bor, bytes_eq, refl, sym, ap, subst, inl, inr, ◌∙◌, length, arith, length-append, rules}
+use Rattle.std.proofs.Common.{◌≡◌, ◌≢◌, ◌+◌, ◌<◌, ◌⊎◌, ◌&&◌, Bool, true, false, cond, List, [], ◌∷◌, ◌++◌, map, Option, Some, None, is_some, IsTrue, IsFalse, Bor, bytes_eq, refl, sym, ap, subst, inl, inr, ◌∙◌, length, arith, length-append, rules}
 use Rattle.std.proofs.lemmas.{Bool.false≢true, Bool.cases_Bool, Bool.or_cases, Bool.or_left, Bool.or_right, List.map-append, List.append-nil, Slice.Eq.bytes_eq-Decides, Grind.common_steps}
-use Rattle.std.specs.{Option.option_map_or, Map.lookup, HashMap.HashMap}
+use Rattle.std.specs.{Option.option_map_or, HashMap.HashMap}
 use Rattle.cargo_toml_features.specs.{declared.features.Feature.Feature, Reached.Found, Reached.Lists, Reached.AreEnabled, Reached.ComeFrom, Reached.HaveNoEmpty, Reached.pairs_at, Views.value_at}
-use Rattle.cargo_toml_features.specs.{Views.set_has, Views.action_of, Views.action_at, Views.table_in, Visits.unconditional, Visits.is_pending, Visits.AreHeld, Visits.PushesNamed, Visits.PutsFound}
+use Rattle.cargo_toml_features.specs.{Views.set_has, Views.action_at, Views.table_in, Visits.unconditional, Visits.is_pending, Visits.AreHeld, Visits.PushesNamed, Visits.PutsFound}
 use Rattle.cargo_toml_features.specs.Visits.{AddsActions}
 use Rattle.cargo_toml_graph.specs.{Action.Text, Action.Action, Reach.Among, Reach.IsOnce, Graph.Table, Recursive.Enables, Recursive.ArePairs, Recursive.Enables.itself, Recursive.Enables.further}
 use Rattle.cargo_toml_graph.proofs.BinLists.{among-either, among-first, among-second, once-push}
@@ -155,25 +155,7 @@ module _ {S : Type 0} (m : HashMap (Bor Text) Feature S) (s : Text) where
 
   -- the start is pending, and nothing is found
   pub begins : (F : Found S) (E : Lists S) (L : List (Bor Feature)) (v : Bor Feature) → F.entries ≡ [] → E.entries ≡ [] → L ≡ v ∷ [] → value_at m s ≡ Some v.now → v.now.key.now ≡ s → Walks m s F E L
-  begins F E L v no_found no_lists one here own = record {
-    begun = inr (ap (λ l. is_pending l s) one ∙ or_left _ _ ((bytes_eq-Decides s v.now.key.now).1 (sym own)));
-    found = λ x e. absurd (false≢true (sym (not_found x) ∙ e));
-    pending = λ x e. elim (or_cases (bytes_eq x v.now.key.now) false (sym (ap (λ l. is_pending l x) one) ∙ e)) [ inl i ↦ subst (Enables (table_in m) s) (sym ((bytes_eq-Decides x v.now.key.now).0 i ∙ own)) itself | inr i ↦ absurd (false≢true i) ];
-    held = subst (AreHeld m) (sym one) (ap (value_at m) own ∙ here, tt);
-    same = λ x. subst (λ o. IfSome o (λ z. value_at m x ≡ Some z.now)) (sym (nothing_at F no_found x)) tt;
-    closed = λ x y e n t. absurd (false≢true (sym (not_found x) ∙ e));
-    pairs = λ k. subst (ArePairsOf (table_in m) (λ g. IsTrue (is_found F g)) k) (sym (no_pairs k)) (record { sound = λ g a i. absurd i; complete = λ g a i e p. absurd (false≢true (sym (not_found g) ∙ i)); once = tt });
-    no_empty = λ k. subst (λ o. IfSome o (λ v. v.items ≢ [])) (sym (nothing_at E no_lists k)) tt;
-  }
-    where
-      nothing_at : {X : Type 0} (n : HashMap (Bor Text) X S) → n.entries ≡ [] → (x : Text) → value_at n x ≡ None
-      nothing_at n empty x = ap (λ es. lookup (λ k. bytes_eq x k.now) es) empty
-
-      not_found : (x : Text) → is_found F x ≡ false
-      not_found x = ap is_some (nothing_at F no_found x)
-
-      no_pairs : (k : Text) → pairs_at E k ≡ []
-      no_pairs k = ap (λ o. map (λ p. (p.0.now, action_of p.1.now)) (option_map_or (λ v. v.items) o [])) (nothing_at E no_lists k)
+  begins v0 v1 v2 v3 v4 v5 v6 v7 v8 = search (rules, or_left, bytes_eq-Decides, or_cases, itself)
 
   -- nothing is pending
   module _ (F : Found S) (E : Lists S) (w : Walks m s F E []) where

@@ -1,5 +1,5 @@
 -- Worked examples with dependencies.
-use Rattle.std.proofs.Common.{◌≡◌, ◌⊎◌, ◌↔◌, IsTrue, [], codes, refl, inl, arith}
+use Rattle.std.proofs.Common.{◌≡◌, ◌⊎◌, ◌↔◌, IsTrue, codes, refl, inl, arith}
 use Rattle.std.proofs.lemmas.{Bool.false≢true, Grind.common_steps}
 use Rattle.cargo_toml_graph.specs.{Action.Text, Recursive.Enables, Recursive.Enables.itself, Recursive.Enables.further}
 use Rattle.cargo_toml_graph.proofs.WorkedExamples.{enables_two, one}

@@ -1,9 +1,6 @@
 -- The first of a dependency's targets.
 use Rattle.std.specs.Prelude.{◌≡◌, ◌<◌, IsFalse, IsSome, Some}
-use Rattle.std.specs.Borrow.{Bor}
-use Rattle.std.specs.BTreeMap.{btree_map_len}
-use Rattle.std.specs.HashMap.{HashMap, values}
-use Rattle.std.specs.List.{All}
+use Rattle.std.specs.{Borrow.Bor, BTreeMap.btree_map_len, HashMap.HashMap, HashMap.values, List.All}
 use Rattle.std.specs.Ordering.{is_lt}
 use Rattle.cargo_toml_dependencies.specs.Dependencies.{DependencyMeaning}
 use Rattle.cargo_toml_features.specs.declared.features.FeatureDependency.{FeatureDependency}

@@ -1,15 +1,9 @@
 -- A hashed table of features, as it is listed.
 use Rattle.std.specs.Prelude.{◌≡◌, List, Option, map, option_map, string_bytes, String, Vec}
-use Rattle.std.specs.Borrow.{Bor}
+use Rattle.std.specs.{Borrow.Bor, BTreeMap.BTreeMap, Cmp.Lexicographic.slice_cmp, HashMap.HashMap}
 use Rattle.std.specs.BTreeMap as tree
-use Rattle.std.specs.BTreeMap.{BTreeMap}
-use Rattle.std.specs.Cmp.Lexicographic.{slice_cmp}
 use Rattle.std.specs.HashMap as hash
-use Rattle.std.specs.HashMap.{HashMap}
-use Rattle.std.specs.List.Sorted.{IsStrictlySortedBy}
-use Rattle.std.specs.Map.{lookup}
-use Rattle.std.specs.Ordering.{nat_cmp}
-use Rattle.std.specs.Str.{bytes_eq}
+use Rattle.std.specs.{List.Sorted.IsStrictlySortedBy, Map.lookup, Ordering.nat_cmp, Str.bytes_eq}
 use Rattle.std.specs.declared.alloc.Global.{Global}
 use Rattle.cargo_toml_graph.specs.Action.{Text}
 use Rattle.cargo_toml_graph.specs.Admitted.{Listed}

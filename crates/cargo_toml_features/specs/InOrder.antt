@@ -1,6 +1,5 @@
 -- Features as a list in the byte order of their names, and maps in that order.
-use Rattle.std.specs.Prelude.{◌≡◌, List, [], Option, IfSome, bytes_eq}
-use Rattle.std.specs.Prelude.{is_some, map}
+use Rattle.std.specs.Prelude.{◌≡◌, List, [], Option, IfSome, bytes_eq, is_some, map}
 use Rattle.std.specs.List.{find}
 use Rattle.std.specs.BTreeMap as tree
 use Rattle.cargo_toml_features.specs.declared.features.Feature.{Feature}

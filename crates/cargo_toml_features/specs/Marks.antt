@@ -2,9 +2,7 @@
 -- listed.
 use Rattle.std.specs.Prelude.{Bool, if◌then◌else◌, List, map, Option}
 use Rattle.std.specs.Prelude.{Some, None, bytes_eq, is_some, unwrap_or}
-use Rattle.std.specs.Option.{option_copied}
-use Rattle.std.specs.Borrow.{Bor}
-use Rattle.std.specs.Map.{lookup}
+use Rattle.std.specs.{Option.option_copied, Borrow.Bor, Map.lookup}
 use Rattle.cargo_toml_dependencies.specs.Details.{Detail, detail_of, plain_detail}
 use Rattle.cargo_toml_dependencies.specs.declared.target.FeatureDetail.{FeatureDetail}
 use Rattle.cargo_toml_features.specs.declared.admit.Listing.{Listing}

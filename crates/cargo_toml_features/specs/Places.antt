@@ -1,6 +1,5 @@
 -- Where texts stand in a list.
-use Rattle.std.specs.Prelude.{ℕ, List, []}
-use Rattle.std.specs.List.{slice_index_or}
+use Rattle.std.specs.{Prelude.ℕ, Prelude.List, Prelude.[], List.slice_index_or}
 use Rattle.cargo_toml_graph.specs.Action.{Text}
 
 -- the text of the place i, empty past the end

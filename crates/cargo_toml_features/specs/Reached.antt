@@ -1,10 +1,7 @@
 -- What recursive enabling asks of a map of features, and what the maps that it answers hold.
 use Rattle.std.specs.Prelude.{◌≡◌, ◌≢◌, ◌⊎◌, ◌↔◌, IsTrue, List, []}
 use Rattle.std.specs.Prelude.{Some, IfSome, IsSome, Vec, is_some, map}
-use Rattle.std.specs.List.{IsAmong}
-use Rattle.std.specs.Option.{option_map_or}
-use Rattle.std.specs.Borrow.{Bor}
-use Rattle.std.specs.declared.alloc.Global.{Global}
+use Rattle.std.specs.{List.IsAmong, Option.option_map_or, Borrow.Bor, declared.alloc.Global.Global}
 use Rattle.std.specs.HashMap.{HashMap, values}
 use Rattle.cargo_toml_features.specs.declared.features.DepAction.{DepAction}
 use Rattle.cargo_toml_features.specs.declared.features.Feature.{Feature}

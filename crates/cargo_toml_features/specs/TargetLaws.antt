@@ -1,7 +1,6 @@
 -- Laws of the orders of kinds and of targets, and of the default kind.
 use Rattle.std.specs.Prelude.{◌≡◌, ◌↔◌, Bool, IsTrue}
-use Rattle.std.specs.Ordering.{nat_cmp, is_eq}
-use Rattle.std.specs.declared.cmp.Ordering.{Ordering}
+use Rattle.std.specs.{Ordering.nat_cmp, Ordering.is_eq, declared.cmp.Ordering.Ordering}
 use Rattle.cargo_toml_features.specs.declared.features.Kind.{Kind}
 use Rattle.cargo_toml_features.specs.declared.features.Kind.TheVariants.{Normal}
 use Rattle.cargo_toml_features.specs.declared.features.TargetKey.{TargetKey}

@@ -1,17 +1,12 @@
 -- What the maps of a resolution hold, by the bytes of their keys, and what a manifest lists.
 use Rattle.std.specs.Prelude.{Bool, false, List, [], Option, None, bytes_eq}
 use Rattle.std.specs.Prelude.{is_some, option_map, map, string_bytes, String, Vec}
-use Rattle.std.specs.Option.{option_map_or, option_copied}
-use Rattle.std.specs.Borrow.{Bor}
-use Rattle.std.specs.declared.alloc.Global.{Global}
-use Rattle.std.specs.Cmp.Lexicographic.{slice_cmp}
-use Rattle.std.specs.Ordering.{nat_cmp}
+use Rattle.std.specs.{Option.option_map_or, Option.option_copied, Borrow.Bor, Ordering.nat_cmp}
+use Rattle.std.specs.{declared.alloc.Global.Global, Cmp.Lexicographic.slice_cmp, HashMap.HashMap}
 use Rattle.std.specs.HashMap as hash
-use Rattle.std.specs.HashMap.{HashMap}
 use Rattle.std.specs.BTreeMap as tree
-use Rattle.std.specs.BTreeMap.{BTreeMap}
+use Rattle.std.specs.{BTreeMap.BTreeMap, BTreeSet.BTreeSet}
 use Rattle.std.specs.BTreeSet as sorted
-use Rattle.std.specs.BTreeSet.{BTreeSet}
 use Rattle.cargo_toml_dependencies.specs.Dependencies.{dependency_meaning}
 use Rattle.cargo_toml_dependencies.specs.Details.{plain_detail}
 use Rattle.cargo_toml_features.specs.declared.admit.Listing.{Listing}

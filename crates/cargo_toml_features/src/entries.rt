@@ -1,7 +1,6 @@
 //! The entries of all dependency tables of a manifest.
-ghost use Rattle.std.specs.Prelude.{◌≡◌, ◌++◌, map, string_bytes, IfOk, OnOk, None, Some};
-ghost use Rattle.std.specs.List.{flat_map};
-ghost use Rattle.std.specs.Option.{option_copied};
+ghost use Rattle.std.specs.Prelude.{◌≡◌, ◌++◌, map, IfOk, OnOk, None, Some};
+ghost use Rattle.std.specs.{List.flat_map, Option.option_copied};
 ghost use Rattle.cargo_toml_parts.specs.Reads.{map_meaning};
 ghost use Rattle.cargo_toml_dependencies.specs.Dependencies.{dependency_meaning};
 ghost use Rattle.cargo_toml_dependencies.specs.Targets.{target_meaning};
@@ -112,18 +111,6 @@ fn add_targets_dev<'m>(
     Ok(())
 }
 
-// Room for the entries of each target. A hint: without it the list moves as it grows.
-fn room_of_targets(targets: &TargetDepsSet, limit: usize) -> usize {
-    let mut room: usize = 0;
-    for (_name, target) in targets {
-        room = room
-            .saturating_add(target.dependencies.len().min(limit))
-            .saturating_add(target.build_dependencies.len().min(limit))
-            .saturating_add(target.dev_dependencies.len().min(limit));
-    }
-    room
-}
-
 /// The entries of all tables in the order in which they count: normal and build dependencies, those
 /// of each target, dev dependencies, those of each target. Of each table the first `limit` count,
 /// by key in byte order.
@@ -148,8 +135,7 @@ pub fn entries_of<'m>(
         .len()
         .min(limit)
         .saturating_add(build_dependencies.len().min(limit))
-        .saturating_add(dev_dependencies.len().min(limit))
-        .saturating_add(room_of_targets(target, limit));
+        .saturating_add(dev_dependencies.len().min(limit));
     let mut entries = Vec::with_capacity(alloc, room)?;
     add_built(&mut entries, dependencies, build_dependencies, limit, None)?;
     add_targets_built(&mut entries, target, limit)?;

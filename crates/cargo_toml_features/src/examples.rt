@@ -2,7 +2,7 @@
 //!
 //! A theorem counts only where a function's contract names it, so each function here does nothing
 //! and its contract is an example.
-ghost use Rattle.std.specs.Prelude.{◌≡◌, ◌↔◌, ◌⊎◌, ◌∷◌, [], ℕ, None, Some, bytes_eq, codes};
+ghost use Rattle.std.specs.Prelude.{◌≡◌, ◌↔◌, ◌⊎◌, ◌∷◌, [], None, Some, bytes_eq, codes};
 ghost use Rattle.std.specs.Prelude.{false, option_map, true, IsFalse, IsSome, IsTrue};
 ghost use Rattle.std.specs.Option.{IsSomeAnd};
 ghost use Rattle.cargo_toml_dependencies.specs.Dependencies.{simple};

@@ -1,16 +1,16 @@
 -- From the features that are read to all that are resolved, before any is removed.
-use Rattle.std.proofs.Common.{◌≡◌, ◌&&◌, ◌||◌, not, Bool, true, false, cond, List, [], ◌++◌, map, Option, Some, None, IfSome, is_some, option_map, bytes_eq, Bor, refl, sym, ap, ap₂, subst, ◌∙◌, arith}
-use Rattle.std.proofs.lemmas.{Bool.false≢true, Grind.common_steps}
-use Rattle.std.specs.{List.list_any, Option.option_map_or}
+use Rattle.std.proofs.Common.{◌≡◌, ◌&&◌, ◌||◌, not, Bool, true, false, cond, List, [], map, Option, Some, None, IfSome, is_some, option_map, bytes_eq, refl, sym, ap, ap₂, subst, ◌∙◌, arith}
+use Rattle.std.proofs.{lemmas.Bool.false≢true, lemmas.Grind.common_steps, Common.rules}
+use Rattle.std.specs.{List.list_any}
 use Rattle.cargo_toml_features.specs.{declared.features.Feature.Feature, declared.features.FeatureDependency.FeatureDependency, InOrder.AreTable, InOrder.HaveNoEnablers, InOrder.feature_at}
 use Rattle.cargo_toml_features.specs.{InOrder.table_among, Recorded.Entry, Recorded.RecordedKey, Recorded.is_mentioned, Recorded.is_reserved, Recorded.entries_at, Recorded.recorded_of}
 use Rattle.cargo_toml_features.specs.{Recorded.first_target, Recorded.without_redundant, Resolved.table_of, Resolved.plain_action, Resolved.SameRecorded, Marks.NamedDetails, Marks.FeatureMarks}
-use Rattle.cargo_toml_features.specs.{Marks.detail_listed, Marks.marked, Marks.marks_in, Marks.marks_of, Views.set_has, Views.action_at}
-use Rattle.cargo_toml_full.specs.{Searching.has_key, declared.read.Mentions.Mentions, Slots.HeldHaveTargets, Slots.Relates, Implying.ImpliesAll, Implying.IsImplied, Implying.is_optional_at}
+use Rattle.cargo_toml_features.specs.{Marks.detail_listed, Marks.marked, Marks.marks_in, Marks.marks_of}
+use Rattle.cargo_toml_full.specs.{declared.read.Mentions.Mentions, Slots.HeldHaveTargets, Slots.Relates, Implying.ImpliesAll, Implying.IsImplied, Implying.is_optional_at}
 use Rattle.cargo_toml_full.specs.{Implying.is_offered, Reading.IsRead, Reading.IsFresh, Reading.AreFresh, Requiring.Required, Requiring.RequiredAll, Recording.recorded_at, Recording.is_mentioned_in}
 use Rattle.cargo_toml_full.specs.{Redundant.IsRecordOf, Redundant.Thinned, Redundant.ThinnedAll, Unremoved.AreUnremoved, declared.slots.Slots.Slots}
 use Rattle.cargo_toml_graph.specs.{Action.Text, Action.Action, Admitted.Listed, Admitted.is_explicit, Admitted.joined_action, Graph.Table}
-use Rattle.cargo_toml_full.proofs.HeldTargets.{have_targets}
+use Rattle.cargo_toml_full.{proofs.HeldTargets.have_targets, specs.Searching.has_key}
 use Rattle.cargo_toml_dependencies.specs.Details.{plain_detail}
 
 -- tables that say the same
@@ -24,9 +24,7 @@ are_table : (vs : List Feature) (t : Table) → Same (table_among vs) t → AreT
 are_table vs t u = record { has = u.has; names = u.names; action = u.action }
 
 or_not : (a i : Bool) → (a || i) ≡ (a || (i && not a))
-or_not true i = refl
-or_not false true = refl
-or_not false false = refl
+or_not v0 v1 = search rules
 
 -- features each of which changed into another, at its name
 module _ (Changes : Text → Feature → Feature → Type 0) (old new : List Feature) (each : (f : Text) → Relates (Changes f) (feature_at old f) (feature_at new f)) where
@@ -38,8 +36,7 @@ module _ (Changes : Text → Feature → Feature → Type 0) (old new : List Fea
   has_along f = along f (λ o o'. is_some o' ≡ is_some o) refl (λ a b r. refl)
 
   names_along : ((f : Text) (a b : Feature) → Changes f a b → b.enables_features ≡ a.enables_features) → (f x : Text) → (table_among new).names f x ≡ (table_among old).names f x
-  names_along kept f x = along f (λ o o'. option_map_or (λ v. set_has v.enables_features x) o' false ≡ option_map_or (λ v. set_has v.enables_features x) o false) refl
-      (λ a b r. ap (λ s. set_has s x) (kept f a b r))
+  names_along v0 v1 v2 = search (rules, along)
 
 -- the features without what dependencies have anyway
 module _ (entries : Text → List Entry) (old new : List Feature) (h : ThinnedAll entries old new) where
@@ -50,9 +47,7 @@ module _ (entries : Text → List Entry) (old new : List Feature) (h : ThinnedAl
   names_thinned = names_along (λ f. Thinned entries) old new h.at (λ f a b r. ap (λ (q : Feature). q.enables_features) r.same)
 
   action_thinned : (f k : Text) → (table_among new).action f k ≡ option_map (without_redundant (first_target (entries k))) ((table_among old).action f k)
-  action_thinned f k = along (λ f. Thinned entries) old new h.at f
-      (λ o o'. option_map_or (λ v. action_at v.enables_deps k) o' None ≡ option_map (without_redundant (first_target (entries k))) (option_map_or (λ v. action_at v.enables_deps k) o None)) refl
-      (λ a b r. r.actions k)
+  action_thinned v0 v1 = search (rules, along, option_map)
 
   fresh_thinned : (listed : Listed) (details : NamedDetails) → AreFresh listed details old → AreFresh listed details new
   fresh_thinned listed details fresh f v s = subst (λ o. IfSome o (IsFresh f (detail_listed listed details f))) s (along (λ f. Thinned entries) old new h.at f
@@ -73,12 +68,10 @@ module _ (implied : Text → Bool) (old new : List Feature) (h : ImpliesAll impl
   has_after f = became f (λ t o o'. is_some o' ≡ (is_some o || t)) refl (λ v s k. refl) (λ t v s. refl)
 
   names_after : (f x : Text) → (table_among new).names f x ≡ (table_among old).names f x
-  names_after f x = became f (λ t o o'. option_map_or (λ v. set_has v.enables_features x) o' false ≡ option_map_or (λ v. set_has v.enables_features x) o false) refl
-      (λ v s k. k.names x) (λ t v s. refl)
+  names_after v0 v1 = search (rules, became)
 
   action_after : (f k : Text) → (table_among new).action f k ≡ cond (is_some (feature_at old f)) ((table_among old).action f k) (cond (implied f && bytes_eq k f) (Some plain_action) None)
-  action_after f k = became f (λ t o o'. option_map_or (λ v. action_at v.enables_deps k) o' None ≡ cond (is_some o) (option_map_or (λ v. action_at v.enables_deps k) o None) (cond (t && bytes_eq k f) (Some plain_action) None)) refl
-      (λ v s i. i.actions k) (λ t v s. refl)
+  action_after v0 v1 = search (rules, became)
 
 -- a feature that sits under its key, with these marks, and with neither enablers nor binaries
 record IsMarked (f : Text) (these : FeatureMarks) (v : Feature) : Type 0 where
@@ -97,18 +90,10 @@ record IsTold (f : Text) (these : FeatureMarks) (own : List Text) (v : Feature) 
 -- binaries change neither what features say nor which enable them
 module _ (own : Text → List Text) (old new : List Feature) (h : RequiredAll own old new) where
   action_required : (f k : Text) → (table_among new).action f k ≡ (table_among old).action f k
-  action_required f k = along (λ f. Required (own f)) old new h.at f
-      (λ o o'. option_map_or (λ v. action_at v.enables_deps k) o' None ≡ option_map_or (λ v. action_at v.enables_deps k) o None) refl
-      (λ a b r. ap (λ (q : Feature). action_at q.enables_deps k) r.same)
+  action_required v0 v1 = search (rules, along)
 
   told_required : (f : Text) (these : FeatureMarks) → IfSome (feature_at old f) (IsMarked f these) → IfSome (feature_at new f) (IsTold f these (own f))
-  told_required f these = along (λ f. Required (own f)) old new h.at f (λ o o'. IfSome o (IsMarked f these) → IfSome o' (IsTold f these (own f))) (λ m. tt)
-      (λ a b r m. record {
-        key = ap (λ (q : Feature). q.key.now) r.same ∙ m.key;
-        enabled_by = ap (λ (q : Feature). q.enabled_by.keys) r.same ∙ m.enabled_by;
-        bins = r.bins ∙ ap (λ xs. map (λ (b : Bor Text). b.now) xs ++ own f) m.bins;
-        marks = ap marks_of r.same ∙ m.marks;
-      })
+  told_required v0 v1 v2 = search (rules, along)
 
 -- what the answer tells of them, and of dependencies
 pub record Told (listed : Listed) (entries : List Entry) (details : NamedDetails) (own : Text → List Text) (last : List Feature) (deps : Slots FeatureDependency) : Type 0 where

@@ -1,8 +1,8 @@
 -- Texts that ascend in byte order.
 use Rattle.std.proofs.Common.{◌≡◌, Bool, true, false, ◌<◌, ◌+◌, ℕ, List, [], ◌∷◌, length, map, get_or}
-use Rattle.std.proofs.Common.{Bor, IsTrue, sym, ap, subst, inl, inr, arith}
+use Rattle.std.proofs.Common.{Bor, IsTrue, sym, subst, arith, rules}
 use Rattle.std.proofs.lemmas.{Bool.false≢true, Cmp.nat_list_cmp_total, List.get_or-map, List.length-map, Map.Keys.sorted_from_all_adjacent}
-use Rattle.std.specs.{Cmp.Lexicographic.slice_cmp, List.IsAllAdjacentAnswer, Ordering.nat_cmp, Ordering.is_lt, declared.cmp.Ordering.TheVariants.Less}
+use Rattle.std.specs.{Cmp.Lexicographic.slice_cmp, List.IsAllAdjacentAnswer, Ordering.nat_cmp, declared.cmp.Ordering.TheVariants.Less}
 use Rattle.cargo_toml_graph.specs.{Action.Text, Admitted.is_below, Reach.Among, Ascending.Ascend}
 use Rattle.cargo_toml_graph.proofs.SortedTexts.{first_below, less_from}
 
@@ -10,14 +10,11 @@ abbrev pub Below : Text → Text → Type 0
 Below a b = IsTrue (is_below a b)
 
 pub below_then : (a b c : Text) → Below a b → Below b c → Below a c
-below_then a b c h k =
-    ap is_lt (nat_list_cmp_total.trans a b c (less_from (slice_cmp nat_cmp a b) h)
-    (less_from (slice_cmp nat_cmp b c) k))
+below_then v0 v1 v2 v3 v4 = search (rules, nat_list_cmp_total, less_from)
 
 -- what is below the first is below all
 pub lower : (a b : Text) (us : List Text) → Ascend (b ∷ us) → Below a b → (z : Text) → Among (b ∷ us) z → Below a z
-lower a b us up less z (inl is) = subst (Below a) (sym is) less
-lower a b us up less z (inr there) = below_then a b z less (first_below b us up z there)
+lower v0 v1 v2 v3 v4 v5 v6 = search (rules, below_then, first_below)
 
 abbrev pub texts : List (Bor Text) → List Text
 texts ts = map (λ t. t.now) ts

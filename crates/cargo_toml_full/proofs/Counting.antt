@@ -1,12 +1,12 @@
 -- One more entry of those that count.
-use Rattle.std.proofs.Common.{◌≡◌, ◌&&◌, ◌||◌, Bool, true, false, cond, List, [], ◌∷◌, ◌++◌, filter, find, Option, Some, is_some, bytes_eq, refl, sym, ap, ◌∙◌, arith}
-use Rattle.std.proofs.Math.Bool.{or-false, or-true}
+use Rattle.std.proofs.Common.{◌≡◌, ◌&&◌, ◌||◌, Bool, false, cond, List, [], ◌∷◌, ◌++◌, filter, find, Option, Some, is_some, bytes_eq, refl, sym, ap, arith}
+use Rattle.std.{proofs.Math.Bool.or-false, proofs.Math.Bool.or-true, specs.List.list_any}
 use Rattle.std.proofs.lemmas.{List.append-nil, List.Elements.filter-append, List.Folds.find-append, Slice.Eq.bytes_eq-Decides, Grind.common_steps}
-use Rattle.std.specs.List.{list_any}
 use Rattle.cargo_toml_dependencies.specs.Dependencies.{is_optional}
 use Rattle.cargo_toml_graph.specs.{Action.Text, Admitted.Listed}
 use Rattle.cargo_toml_features.specs.Recorded.{Entry, RecordedKey, is_mentioned, counting, entries_at, recorded_of}
 use Rattle.cargo_toml_full.specs.Recording.{recorded_with, recorded_after}
+use Rattle.std.proofs.Common.{rules}
 
 abbrev at_key : Text → Entry → Bool
 at_key k b = bytes_eq b.key k && is_optional b.dependency
@@ -27,14 +27,11 @@ module _ (listed : Listed) where
   counts earlier es e = is_mentioned listed e.key || (at_key e.key e || (list_any (at_key e.key) earlier || list_any (at_key e.key) es))
 
   split_cond : (c : Bool) (x : Entry) (es es' tail : List Entry) → es' ≡ es ++ tail → cond c (x ∷ es') es' ≡ cond c (x ∷ es) es ++ tail
-  split_cond true x es es' tail h = ap (λ l. x ∷ l) h
-  split_cond false x es es' tail h = h
+  split_cond v0 v1 v2 v3 v4 v5 = search rules
 
   counting_more : (earlier es : List Entry) (e : Entry) → counting listed earlier (es ++ e ∷ []) ≡ counting listed earlier es ++ cond (counts earlier es e) (e ∷ []) []
   counting_more earlier [] e = ap (λ t. cond (is_mentioned listed e.key || (at_key e.key e || t)) (e ∷ []) []) (sym (or-false _))
-  counting_more earlier (x ∷ es) e =
-      split_cond (is_mentioned listed x.key || list_any (λ b. bytes_eq b.key x.key && is_optional b.dependency) (x ∷ earlier)) x (counting listed (x ∷ earlier) es) (counting listed (x ∷ earlier) (es ++ e ∷ [])) (cond (counts earlier (x ∷ es) e) (e ∷ []) [])
-      (counting_more (x ∷ earlier) es e ∙ ap (λ t. counting listed (x ∷ earlier) es ++ cond t (e ∷ []) []) (shuffle (is_mentioned listed e.key) (at_key e.key e) (at_key e.key x) (list_any (at_key e.key) earlier) (list_any (at_key e.key) es)))
+  counting_more earlier (x ∷ es) e = search (rules, split_cond, shuffle, counting_more (x ∷ earlier) es e)
 
   -- of a key that is not mentioned an entry counts exactly if some entry is optional
   counted : (k : Text) → is_mentioned listed k ≡ false → (earlier es : List Entry) → list_any (at_key k) earlier ≡ false
@@ -49,6 +46,4 @@ module _ (listed : Listed) where
   -- the same of a map, where `mentioned` says which keys are
   pub recorded_then : (mentioned : Text → Bool) → ((k : Text) → mentioned k ≡ is_mentioned listed k) → (es : List Entry) (e : Entry) (k : Text) (before after : Option RecordedKey)
       → before ≡ recorded_of (entries_at listed es k) → after ≡ recorded_after mentioned e k before → after ≡ recorded_of (entries_at listed (es ++ e ∷ []) k)
-  recorded_then mentioned same es e k before after was is =
-      is ∙ ap (λ t. cond (bytes_eq e.key k && (is_some before || (is_optional e.dependency || t))) (Some (recorded_with before e)) before) (same k)
-      ∙ ap (recorded_after (is_mentioned listed) e k) was ∙ sym (recorded_more es e k)
+  recorded_then v0 v1 v2 v3 v4 v5 v6 v7 v8 = search (rules, recorded_more)

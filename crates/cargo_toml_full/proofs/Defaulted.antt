@@ -1,6 +1,6 @@
 -- The feature `default` put where none is.
-use Rattle.std.proofs.Common.{◌≡◌, false, cond, [], Option, Some, None, MatchOption, bytes_eq, codes, refl, ap, ◌∙◌, arith}
-use Rattle.std.proofs.lemmas.{Slice.Eq.bytes_eq-Decides, Grind.common_steps}
+use Rattle.std.proofs.Common.{◌≡◌, false, cond, [], Option, Some, None, MatchOption, bytes_eq, codes, ap, ◌∙◌, arith}
+use Rattle.std.proofs.{lemmas.Slice.Eq.bytes_eq-Decides, lemmas.Grind.common_steps, Common.rules}
 use Rattle.std.specs.Option.{IsSomeAnd, option_or}
 use Rattle.cargo_toml_dependencies.specs.Details.{plain_detail}
 use Rattle.cargo_toml_features.specs.declared.features.Feature.{Feature}
@@ -8,8 +8,7 @@ use Rattle.cargo_toml_graph.specs.Action.{Text}
 use Rattle.cargo_toml_full.specs.ReadFeature.{IsReadFeature}
 
 none_or : (o : Option Feature) → option_or o None ≡ o
-none_or None = refl
-none_or (Some w) = refl
+none_or v0 = search rules
 
 -- what is put leaves other names alone
 pub others_stay : (f key : Text) (v : Feature) (old new : Option Feature) → bytes_eq f key ≡ false → new ≡ option_or old (cond (bytes_eq f key) (Some v) None) → new ≡ old

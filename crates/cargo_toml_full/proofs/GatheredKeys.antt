@@ -1,7 +1,7 @@
 -- The keys of the entries that pass a test.
-use Rattle.std.proofs.Common.{◌≡◌, ◌↔◌, ◌⊎◌, ◌<◌, ◌+◌, ◌&&◌, ◌||◌, ℕ, Bool, true, false, List, [], ◌∷◌, ◌++◌, length, map, take, get_or, Bor, IsTrue, bytes_eq, refl, sym, ap, subst, inl, inr, ◌∙◌, arith}
+use Rattle.std.proofs.Common.{◌≡◌, ◌↔◌, ◌⊎◌, ◌<◌, ◌+◌, ◌&&◌, ◌||◌, ℕ, Bool, true, false, List, [], ◌∷◌, ◌++◌, length, map, take, get_or, Bor, IsTrue, bytes_eq, sym, ap, subst, ◌∙◌, arith}
 use Rattle.std.proofs.lemmas.{Bool.false≢true, List.get_or-map, List.length-map, List.map-append, List.Folds.list_any-append, Slice.Eq.bytes_eq-Decides, Grind.common_steps}
-use Rattle.std.specs.List.{list_any}
+use Rattle.std.{specs.List.list_any, proofs.Common.rules}
 use Rattle.cargo_toml_graph.specs.{Action.Text, Reach.Among}
 use Rattle.cargo_toml_graph.proofs.BinLists.{among-first, among-second, among-either}
 use Rattle.cargo_toml_features.specs.{declared.features.ParseDependency.ParseDependency, Recorded.Entry, Views.entry_of}
@@ -9,23 +9,16 @@ use Rattle.cargo_toml_full.specs.Recording.{counts_alone}
 use Rattle.cargo_toml_full.proofs.{Ascending.texts, TakenMore.taken_more}
 
 either : (a b : Bool) → IsTrue (a || (b || false)) → IsTrue a ⊎ IsTrue b
-either true b h = inl refl
-either false true h = inr refl
-either false false h = absurd (false≢true h)
+either v0 v1 v2 = search rules
 
 from_first : (a b : Bool) → IsTrue a → IsTrue (a || (b || false))
-from_first true b h = refl
-from_first false b h = absurd (false≢true h)
+from_first v0 v1 v2 = search rules
 
 from_second : (a b : Bool) → IsTrue b → IsTrue (a || (b || false))
-from_second true b h = refl
-from_second false true h = refl
-from_second false false h = absurd (false≢true h)
+from_second v0 v1 v2 = search rules
 
 both : (a b : Bool) → IsTrue (a && b) → IsTrue a × IsTrue b
-both true true h = (refl, refl)
-both true false h = absurd (false≢true h)
-both false b h = absurd (false≢true h)
+both v0 v1 v2 = search rules
 
 module _ (test : Text → Entry → Bool) where
   abbrev passes_at : Text → Entry → Bool
@@ -57,10 +50,7 @@ module _ (test : Text → Entry → Bool) where
 -- the flag of one more entry
 pub flag_put : (mentioned : Text → Bool) (es : List ParseDependency) (i : ℕ) (p : ParseDependency) → i < length es → p ≡ get_or es i p → (flags : List Bool) (b : Bool) → b ≡ counts_alone mentioned (entry_of p)
     → flags ≡ map (counts_alone mentioned) (map entry_of (take i es)) → (new : List Bool) → new ≡ flags ++ b ∷ [] → new ≡ map (counts_alone mentioned) (map entry_of (take (i + 1) es))
-flag_put mentioned es i p inside is flags b counted so_far new put =
-    put ∙ ap (λ fs. fs ++ b ∷ []) so_far ∙ ap (λ c. map (counts_alone mentioned) (map entry_of (take i es)) ++ c ∷ []) counted
-    ∙ sym (ap (map (counts_alone mentioned)) (taken_more entry_of es i p p inside is)
-    ∙ map-append (counts_alone mentioned) (map entry_of (take i es)) (entry_of p ∷ []))
+flag_put v0 v1 v2 v3 v4 v5 v6 v7 v8 v9 v10 v11 = grind (arith, common_steps, taken_more, map-append)
 
 -- and the flag at the place of an entry
 pub flag_there : (mentioned : Text → Bool) (es : List ParseDependency) (i : ℕ) (p : ParseDependency) (flags : List Bool) (d : Bool) → i < length es → p ≡ get_or es i p

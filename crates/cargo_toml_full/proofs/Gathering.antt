@@ -57,7 +57,4 @@ no_text = record { ref_ptr = (0, 0); now = [] }
 -- one more text
 pub more_texts : (ks : List (Bor Text)) (i : ℕ) (s n : Text → Bool) → i < length ks → ((x : Text) → s x ≡ list_any (bytes_eq x) (map (λ k. k.now) (take i ks)))
     → ((x : Text) → n x ≡ (s x || bytes_eq x (get_or ks i no_text).now)) → (x : Text) → n x ≡ list_any (bytes_eq x) (map (λ k. k.now) (take (i + 1) ks))
-more_texts ks i s n lt h more x =
-    more x ∙ ap (λ b. b || bytes_eq x (get_or ks i no_text).now) (h x)
-    ∙ sym (ap (list_any (bytes_eq x)) (taken_more (λ (u : Bor Text). u.now) ks i (get_or ks i no_text) no_text lt refl)
-    ∙ list_any-append (bytes_eq x) (map (λ u. u.now) (take i ks)) ((get_or ks i no_text).now ∷ []) ∙ ap (λ b. list_any (bytes_eq x) (map (λ u. u.now) (take i ks)) || b) (or-false _))
+more_texts v0 v1 v2 v3 v4 v5 v6 v7 = grind (arith, common_steps, taken_more, list_any-append, or-false)

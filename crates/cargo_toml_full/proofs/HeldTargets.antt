@@ -1,6 +1,5 @@
 -- Each dependency that stands under a name has a target.
-use Rattle.std.proofs.Common.{List, option_map, arith}
-use Rattle.std.proofs.lemmas.Grind.{common_steps}
+use Rattle.std.proofs.{Common.List, Common.option_map, Common.arith, lemmas.Grind.common_steps}
 use Rattle.cargo_toml_graph.specs.Action.{Text}
 use Rattle.cargo_toml_features.specs.{declared.features.FeatureDependency.FeatureDependency, Recorded.Entry, Recorded.recorded_of, Resolved.SameRecorded, Views.recorded_in}
 use Rattle.cargo_toml_features.proofs.FirstTarget.{has_target}

@@ -4,8 +4,8 @@ use Rattle.std.proofs.lemmas.{List.length-map, Slice.Eq.bytes_eq-Decides, Grind.
 use Rattle.cargo_toml_graph.specs.{Action.Text, Admitted.is_below, Reach.Among, Ascending.Ascend}
 use Rattle.cargo_toml_graph.proofs.{RedirectsInOrder.below_one_way, SortedTexts.first_below, SortedTexts.others_ascend}
 use Rattle.cargo_toml_full.specs.{Slots.HaveSameNames, Slots.held_among, Slots.held_in, Slots.names_in, declared.slots.Slots.Slots}
-use Rattle.cargo_toml_features.specs.Places.{nth_text}
-use Rattle.cargo_toml_features.proofs.Places.{among_at}
+use Rattle.cargo_toml_features.{specs.Places.nth_text, proofs.Places.among_at}
+use Rattle.std.proofs.Common.{rules}
 
 module _ {V : Type 0} where
   -- a name that isn't there has no value
@@ -72,14 +72,11 @@ module _ {V : Type 0} where
   -- what stands where a name is found
   pub value_found : (s : Slots V) → (ts : List (Bor Text)) (i : ℕ) (f : Text) (o : Option V) → ts ≡ s.names.items
       → ((i < length ts) × (nth_text (map (λ n. n.now) ts) i ≡ f)) → o ≡ get_or s.values.items i o → held_in s f ≡ o
-  value_found s ts i f o same found is =
-      let here = subst (λ (us : List (Bor Text)). (i < length us) × (nth_text (map (λ n. n.now) us) i ≡ f)) same found in
-      ap (held_in s) (sym here.1) ∙ value_there s i here.0 o is
+  value_found v0 v1 v2 v3 v4 v5 v6 v7 = search (rules, value_there)
 
   -- of two values put under one name the later stays
   pub put_again : (b : Bool) (later earlier old mid new : Option V) → new ≡ cond b later mid → mid ≡ cond b earlier old → new ≡ cond b later old
-  put_again true later earlier old mid new h k = h
-  put_again false later earlier old mid new h k = h ∙ k
+  put_again v0 v1 v2 v3 v4 v5 v6 v7 = search rules
 
   -- a name that a search doesn't find has no value
   pub unfound : (s : Slots V) (ts : List (Bor Text)) (f : Text) → ts ≡ s.names.items → (¬ Among (map (λ n. n.now) ts) f) → held_in s f ≡ None

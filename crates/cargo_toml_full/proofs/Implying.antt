@@ -1,32 +1,23 @@
 -- Features implied one after another.
 use Rattle.std.proofs.Common.{◌≡◌, ◌<◌, ◌&&◌, ◌||◌, not, ℕ, zero, suc, Bool, true, false, cond, List, [], ◌∷◌, ◌++◌, length, map, get_or, take, ◌+◌, Vec, Option, Some, None, is_some, option_map, bytes_eq, Bor, refl, sym, ap, subst, ◌∙◌, arith}
-use Rattle.std.proofs.Math.Bool.{and-or_distrib_right, or-false}
-use Rattle.std.proofs.lemmas.{Bool.false≢true, List.Folds.list_any-append, Slice.Eq.bytes_eq-Decides, Map.Text.btree_map_updates_str, Grind.common_steps}
+use Rattle.std.proofs.{Math.Bool.and-or_distrib_right, Math.Bool.or-false, Common.rules}
+use Rattle.std.proofs.lemmas.{Bool.false≢true, Bool.false_from_ne_true, List.Folds.list_any-append, Slice.Eq.bytes_eq-Decides, Map.Text.btree_map_updates_str, Grind.common_steps}
 use Rattle.std.specs.BTreeMap as tree
 use Rattle.std.specs.{BTreeMap.BTreeMap, BTreeSet.BTreeSet, Cmp.Lexicographic.slice_cmp, List.list_any, Map.lookup, Option.IsSomeAnd, Option.option_or, Ordering.nat_cmp, declared.alloc.Global.Global}
 use Rattle.cargo_toml_features.specs.{declared.features.DepAction.DepAction, declared.features.Feature.Feature, Recorded.Entry, Resolved.plain_action, Views.action_of, Views.action_at}
-use Rattle.cargo_toml_features.specs.InOrder.{feature_at}
-use Rattle.cargo_toml_graph.specs.Action.{Text}
+use Rattle.cargo_toml_features.{specs.InOrder.feature_at, proofs.TextKeys.none_in}
+use Rattle.cargo_toml_graph.{specs.Action.Text, proofs.Texts.bytes_eq_sym}
 use Rattle.cargo_toml_full.specs.Implying.{AreFree, IsImplied, Becomes, ImpliesAll, is_optional_at, is_offered, is_offered_alone, is_one_of}
-use Rattle.cargo_toml_graph.proofs.Texts.{bytes_eq_sym}
-use Rattle.cargo_toml_features.proofs.TextKeys.{none_in}
 use Rattle.cargo_toml_full.proofs.{TakenMore.taken_more, Placed.none_from, ReadOne.has_more}
 
 stays : (t : Bool) (q : Text) (o : Option Feature) → (t ≡ true → is_some o ≡ true) → Becomes t q o o
-stays true q None h = absurd (false≢true (h refl))
-stays false q None h = refl
-stays true q (Some v) h = refl
-stays false q (Some v) h = refl
+stays v0 v1 v2 v3 = search rules
 
 kept : (t : Bool) (q : Text) (o o' : Option Feature) (v : Feature) → o ≡ Some v → Becomes t q o o' → o' ≡ Some v
-kept true q None o' v e b = cc
-kept false q None o' v e b = cc
-kept true q (Some w) o' v e b = b ∙ e
-kept false q (Some w) o' v e b = b ∙ e
+kept v0 v1 v2 v3 v4 v5 v6 = search rules
 
 some-and : (q : Text) (o o' : Option Feature) → IsSomeAnd o (IsImplied q) → ((v : Feature) → o ≡ Some v → o' ≡ Some v) → IsSomeAnd o' (IsImplied q)
-some-and q None o' i same = absurd i
-some-and q (Some v) o' i same = subst (λ o. IsSomeAnd o (IsImplied q)) (sym (same v refl)) i
+some-and v0 v1 v2 v3 v4 = search rules
 
 twice : (t s : Bool) (q : Text) (a b c : Option Feature) → Becomes t q a b → Becomes s q b c → Becomes (t || s) q a c
 twice v0 v1 v2 v3 v4 v5 v6 v7 = grind (arith, common_steps, some-and, kept)
@@ -42,17 +33,12 @@ module _ where
   -- the entries es, and then e
   pub implied_next : (reserved : Text → Bool) (es : List Entry) (e : Entry) (a b c : List Feature)
       → ImpliesAll (is_offered reserved es) a b → ImpliesAll (is_offered reserved (e ∷ [])) b c → ImpliesAll (is_offered reserved (es ++ e ∷ [])) a c
-  implied_next reserved es e a b c = implied_more (is_offered reserved es) (is_offered reserved (e ∷ [])) (is_offered reserved (es ++ e ∷ [])) a b c
-      (offered_more reserved es e)
+  implied_next v0 v1 v2 v3 v4 v5 v6 v7 = search (rules, implied_more, offered_more)
 
   -- the feature of the key is put where none is
-  pub implied_put : (key : Text) (m n : List Feature) (w : Feature) → feature_at m key ≡ None → IsImplied key w
-      → ((q : Text) → feature_at n q ≡ cond (bytes_eq q key) (Some w) (feature_at m q)) → ImpliesAll (λ q. bytes_eq q key) m n
-  implied_put key m n w none is put = grind (arith, common_steps, bytes_eq-Decides, stays, false≢true)
-
-  -- where the key has a feature, it stays
-  pub implied_there : (key : Text) (m : List Feature) → is_some (feature_at m key) ≡ true → ImpliesAll (λ q. bytes_eq q key) m m
-  implied_there key m there = record { at = λ q. stays (bytes_eq q key) q (feature_at m q) (λ y. subst (λ v. is_some (feature_at m v) ≡ true) (sym ((bytes_eq-Decides q key).0 y)) there) }
+  pub implied_put : (key : Text) (m n : List Feature) (w : Feature) → IsImplied key w
+      → ((q : Text) → feature_at n q ≡ option_or (feature_at m q) (cond (bytes_eq q w.key.now) (Some w) None)) → ImpliesAll (λ q. bytes_eq q key) m n
+  implied_put key m n w is put = grind (arith, common_steps, bytes_eq-Decides, false≢true)
 
 -- the one plain action
 pub plain_made : (key : Text) (m n : BTreeMap (Bor Text) DepAction) (s : BTreeSet (Bor Text)) → m.entries ≡ [] → s.keys ≡ []
@@ -78,71 +64,31 @@ offered_one reserved e q = grind (arith, common_steps, bytes_eq_sym, bytes_eq-De
 -- one more key of a list
 pub implied_one_more : (ks : List (Bor Text)) (i : ℕ) (k d : Bor Text) (started a b : List Feature) → i < length ks → k ≡ get_or ks i d → ImpliesAll (is_one_of (map (λ t. t.now) (take i ks))) started a
     → ImpliesAll (λ q. bytes_eq q k.now) a b → ImpliesAll (is_one_of (map (λ t. t.now) (take (i + 1) ks))) started b
-implied_one_more ks i k d started a b below is h more = implied_more (is_one_of (map (λ t. t.now) (take i ks))) (λ q. bytes_eq q k.now) (is_one_of (map (λ t. t.now) (take (i + 1) ks))) started a b
-    (λ q. ap (λ ts. is_one_of ts q) (taken_more (λ (t : Bor Text). t.now) ks i k d below is)
-    ∙ list_any-append (bytes_eq q) (map (λ t. t.now) (take i ks)) (k.now ∷ []) ∙ ap (λ b. is_one_of (map (λ t. t.now) (take i ks)) q || b) (or-false _)) h more
+implied_one_more v0 v1 v2 v3 v4 v5 v6 v7 v8 v9 v10 = grind (arith, common_steps, implied_more, taken_more, list_any-append, or-false)
+
+feature_push : (vs : List Feature) (v : Feature) (q : Text) → feature_at (vs ++ v ∷ []) q ≡ option_or (feature_at vs q) (cond (bytes_eq q v.key.now) (Some v) None)
+feature_push [] v q = refl
+feature_push (w ∷ ws) v q = grind (arith, common_steps, feature_push ws v q)
 
 -- a feature that was there comes to those that have the implied ones
 pub implied_listed : (p : Text → Bool) (done all new : List Feature) (v : Feature) → p v.key.now ≡ false → ImpliesAll p done all
     → ((f : Text) → feature_at new f ≡ option_or (feature_at all f) (cond (bytes_eq f v.key.now) (Some v) None)) → ImpliesAll p (done ++ v ∷ []) new
-implied_listed p done all new v free h put = record {
-  at = λ q. subst (Becomes (p q) q (feature_at (done ++ v ∷ []) q)) (sym (put q)) (subst (λ o. Becomes (p q) q o (option_or (feature_at all q) (cond (bytes_eq q v.key.now) (Some v) None))) (sym (pushed q))
-      (go q (p q) refl (bytes_eq q v.key.now) refl (feature_at done q) (feature_at all q) (h.at q)));
-}
-  where
-    pushed : (q : Text) → feature_at (done ++ v ∷ []) q ≡ option_or (feature_at done q) (cond (bytes_eq q v.key.now) (Some v) None)
-    pushed q = push done
-      where
-        push : (vs : List Feature) → feature_at (vs ++ v ∷ []) q ≡ option_or (feature_at vs q) (cond (bytes_eq q v.key.now) (Some v) None)
-        push [] = refl
-        push (w ∷ ws) = pick (bytes_eq q w.key.now) (push ws)
-          where
-            pick : (t : Bool) → feature_at (ws ++ v ∷ []) q ≡ option_or (feature_at ws q) (cond (bytes_eq q v.key.now) (Some v) None)
-                → cond t (Some w) (feature_at (ws ++ v ∷ []) q) ≡ option_or (cond t (Some w) (feature_at ws q)) (cond (bytes_eq q v.key.now) (Some v) None)
-            pick true later = refl
-            pick false later = later
-
-    none_or : (o : Option Feature) → option_or o None ≡ o
-    none_or None = refl
-    none_or (Some w) = refl
-
-    given : (q : Text) (c : Option Feature) → Becomes false q c c
-    given q None = refl
-    given q (Some w) = refl
-
-    go : (q : Text) (t : Bool) → p q ≡ t → (b : Bool) → bytes_eq q v.key.now ≡ b → (o o' : Option Feature) → Becomes t q o o' → Becomes t q (option_or o (cond b (Some v) None)) (option_or o' (cond b (Some v) None))
-    go q true on true same o o' k = absurd (false≢true (sym free ∙ subst (λ x. p x ≡ true) ((bytes_eq-Decides q v.key.now).0 same) on))
-    go q true on false apart None o' k = subst (λ o. IsSomeAnd o (IsImplied q)) (sym (none_or o')) k
-    go q true on false apart (Some w) o' k = ap (λ o. option_or o None) k
-    go q false off b same None o' k = subst (λ o. Becomes false q (cond b (Some v) None) (option_or o (cond b (Some v) None))) (sym k) (given q (cond b (Some v) None))
-    go q false off b same (Some w) o' k = ap (λ o. option_or o (cond b (Some v) None)) k
+implied_listed p done all new v free h put = record { at = λ q. grind (arith, common_steps, feature_push, bytes_eq-Decides, h.at q, put q) }
 
 -- one more key that has no feature
 pub free_more : (vs : List Feature) (new old : Vec (Bor Text) Global) (t : Bor Text) → new.items ≡ old.items ++ t ∷ [] → is_some (feature_at vs t.now) ≡ false → AreFree old vs → AreFree new vs
 free_more vs new old t put gone free q on = grind (arith, common_steps, has_more, bytes_eq-Decides, none_from, false≢true)
 
+taken_among : (ks : List (Bor Text)) (i : ℕ) (q : Text) → is_one_of (map (λ k. k.now) (take i ks)) q ≡ true → is_one_of (map (λ k. k.now) ks) q ≡ true
+taken_among ks zero q on = absurd (false≢true on)
+taken_among [] (suc i) q on = on
+taken_among (k ∷ ks) (suc i) q on = grind (arith, common_steps, taken_among ks i q)
+
+stands : (vs rest : List Feature) (v : Feature) → is_some (feature_at (vs ++ v ∷ rest) v.key.now) ≡ true
+stands [] rest v = grind (arith, common_steps, bytes_eq-Decides)
+stands (w ∷ ws) rest v = grind (arith, common_steps, stands ws rest v)
+
 -- a feature that is there is none of those that are implied
 pub listed_free : (ks : List (Bor Text)) (i : ℕ) (done rest : List Feature) (v : Feature) → ((q : Text) → is_one_of (map (λ k. k.now) ks) q ≡ true → feature_at (done ++ v ∷ rest) q ≡ None)
     → is_one_of (map (λ k. k.now) (take i ks)) v.key.now ≡ false
-listed_free ks i done rest v free = go (is_one_of (map (λ (k : Bor Text). k.now) (take i ks)) v.key.now) refl
-  where
-    some : (ks : List (Bor Text)) (i : ℕ) (q : Text) → is_one_of (map (λ k. k.now) (take i ks)) q ≡ true → is_one_of (map (λ k. k.now) ks) q ≡ true
-    some ks zero q on = absurd (false≢true on)
-    some [] (suc i) q on = on
-    some (k ∷ ks) (suc i) q on = pick (bytes_eq q k.now) (some ks i q) on
-      where
-        pick : (b : Bool) → (is_one_of (map (λ k. k.now) (take i ks)) q ≡ true → is_one_of (map (λ k. k.now) ks) q ≡ true) → (b || is_one_of (map (λ k. k.now) (take i ks)) q) ≡ true → (b || is_one_of (map (λ k. k.now) ks) q) ≡ true
-        pick true later h = refl
-        pick false later h = later h
-
-    there : (vs : List Feature) → is_some (feature_at (vs ++ v ∷ rest) v.key.now) ≡ true
-    there [] = ap (λ t. is_some (cond t (Some v) (feature_at rest v.key.now))) ((bytes_eq-Decides v.key.now v.key.now).1 refl)
-    there (w ∷ ws) = pick (bytes_eq v.key.now w.key.now) (there ws)
-      where
-        pick : (b : Bool) → is_some (feature_at (ws ++ v ∷ rest) v.key.now) ≡ true → is_some (cond b (Some w) (feature_at (ws ++ v ∷ rest) v.key.now)) ≡ true
-        pick true later = refl
-        pick false later = later
-
-    go : (b : Bool) → is_one_of (map (λ (k : Bor Text). k.now) (take i ks)) v.key.now ≡ b → b ≡ false
-    go true on = absurd (false≢true (sym (ap is_some (free v.key.now (some ks i v.key.now on))) ∙ there done))
-    go false off = refl
+listed_free ks i done rest v free = false_from_ne_true _ (λ on. false≢true (sym (ap is_some (free v.key.now (taken_among ks i v.key.now on))) ∙ stands done rest v))

@@ -1,6 +1,6 @@
 -- Features in places, of which one after another has its turn.
 use Rattle.std.proofs.Common.{◌≡◌, ◌<◌, ◌+◌, ℕ, zero, suc, Bool, true, false, cond, List, [], ◌∷◌, length, set, get_or, get_or-set_same, get_or-set_other, below_more, Some, bytes_eq, refl, sym, ap, subst, arith}
-use Rattle.std.proofs.lemmas.{List.length-set, Grind.common_steps}
+use Rattle.std.proofs.lemmas.{List.length-set, Grind.common_steps, List.get_or_default}
 use Rattle.cargo_toml_features.specs.{declared.features.Feature.Feature, InOrder.feature_at, InOrder.names_of}
 use Rattle.cargo_toml_graph.specs.Action.{Text}
 use Rattle.cargo_toml_full.specs.Slots.{Relates}
@@ -39,18 +39,12 @@ pub record TurnedUpTo (R : Feature → Feature → Type 0) (i : ℕ) (old new : 
   pub turned : (j : ℕ) (d : Feature) → j < i → j < length old → R (get_or old j d) (get_or new j d)
   pub rest : (j : ℕ) (d : Feature) → (¬ (j < i)) → get_or new j d ≡ get_or old j d
 
--- what a place holds doesn't hang on what is read past the end
-pub read_alike : {V : Type 0} (vs : List V) (i : ℕ) (d e : V) → i < length vs → get_or vs i d ≡ get_or vs i e
-read_alike [] i d e below = absurd (omega arith)
-read_alike (v ∷ vs) zero d e below = refl
-read_alike (v ∷ vs) (suc i) d e below = read_alike vs i d e (omega arith)
-
 module _ (R : Feature → Feature → Type 0) where
   pub none_turned : (old : List Feature) → TurnedUpTo R 0 old old
   none_turned old = record { count = refl; turned = λ j d below inside. absurd (omega (arith, below)); rest = λ j d above. refl }
 
   pub one_turned : (i : ℕ) (old mid : List Feature) (e w : Feature) → TurnedUpTo R i old mid → i < length mid → R (get_or mid i e) w → TurnedUpTo R (i + 1) old (set mid i w)
-  one_turned i old mid e w h below is = grind (arith, common_steps, length-set, below_more, get_or-set_other, read_alike, get_or-set_same)
+  one_turned i old mid e w h below is = grind (arith, common_steps, length-set, below_more, get_or-set_other, get_or_default, get_or-set_same)
 
   pub all_turned : (i : ℕ) (old new : List Feature) → names_of new ≡ names_of old → (¬ (i < length new)) → TurnedUpTo R i old new → (f : Text) → Relates R (feature_at old f) (feature_at new f)
   all_turned i old new names end h = features_related R old new names h.count (λ j d below. let count = h.count in h.turned j d (omega (arith, end, below, count)) below)

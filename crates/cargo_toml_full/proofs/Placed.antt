@@ -1,14 +1,16 @@
 -- Features in the order of their names, and one more that is put among them.
 use Rattle.std.proofs.Common.{◌≡◌, ◌⊎◌, ◌+◌, ◌<◌, ◌≤◌, ℕ, zero, suc, Bool, true, false, cond, List, [], ◌∷◌, ◌++◌, length, set, get_or, Option, Some, None, is_some, bytes_eq, refl, sym, ap, ap₂, subst, inl, inr, arith, ◌∙◌}
 use Rattle.std.proofs.lemmas.{Bool.false≢true, Bool.cases_order, Cmp.nat_list_cmp_total, List.get_or-map, List.length-map, List.Edits.insert_end, Map.Lookups.exact_bytes, Slice.Eq.bytes_eq-Decides}
-use Rattle.std.proofs.lemmas.Grind.{common_steps}
-use Rattle.std.specs.{List.insert, List.list_any, List.Sorted.IsPartitionPoint, List.Sorted.IsPartitionedBy, Option.option_or}
+use Rattle.std.proofs.{lemmas.Grind.common_steps, Common.rules, Common.map}
+use Rattle.std.specs.{List.insert, List.Sorted.IsPartitionPoint, List.Sorted.IsPartitionedBy, Option.option_or}
 use Rattle.cargo_toml_features.specs.{declared.features.Feature.Feature, InOrder.AreInOrder, InOrder.feature_at, InOrder.names_of, Places.nth_text}
 use Rattle.cargo_toml_graph.specs.{Action.Text, Admitted.is_below, Reach.Among}
 use Rattle.cargo_toml_graph.proofs.{RedirectsInOrder.below_one_way, SortedTexts.first_below, SortedTexts.one_ascends, SortedTexts.others_ascend, SortedTexts.put_first}
-use Rattle.cargo_toml_full.specs.Placing.{IsBoundOf, IsPlaceOf}
+use Rattle.cargo_toml_full.specs.{Placing.IsBoundOf, Placing.IsPlaceOf, Slots.held_among}
 use Rattle.cargo_toml_full.proofs.Ascending.{Below, below_then, lower}
-use Rattle.cargo_toml_features.proofs.Places.{among_at, at_among, rises}
+use Rattle.cargo_toml_features.proofs.Places.{at_among, rises}
+use Rattle.cargo_toml_full.proofs.HeldValues.{held_at, held_set}
+use Rattle.std.{proofs.lemmas.List.map-set, proofs.lemmas.List.set-get_or, specs.List.list_any}
 
 -- a name is that of one of them, or of none
 pub found_any : (vs : List Feature) (f : Text) → list_any (λ v. bytes_eq f v.key.now) vs ≡ is_some (feature_at vs f)
@@ -68,8 +70,7 @@ put_held (v ∷ vs) (suc i) w within gone f = grind (arith, common_steps, bytes_
 -- one more in its place
 module _ (vs : List Feature) (i : ℕ) (w : Feature) (up : AreInOrder vs) (place : IsPlaceOf vs i w.key.now) (new : List Feature) (put : new ≡ insert vs i w) where
   pub placed_in_order : AreInOrder new
-  placed_in_order = subst AreInOrder (sym put) (put_ascends vs i w up place.bound.within place.bound.below
-      (λ inside. strictly_above (nth_text (names_of vs) i) w.key.now (place.bound.above inside) (place.free inside)))
+  placed_in_order = search (rules, put_ascends, place, strictly_above)
 
   pub placed_held : (f : Text) → feature_at new f ≡ cond (bytes_eq f w.key.now) (Some w) (feature_at vs f)
   placed_held f = ap (λ us. feature_at us f) put ∙ put_held vs i w place.bound.within (place_free vs i w.key.now up place) f
@@ -133,8 +134,7 @@ feature_there (v ∷ vs) zero f below same = ap (λ t. is_some (cond t (Some v) 
 feature_there (v ∷ vs) (suc i) f below same = grind (arith, common_steps, bytes_eq-Decides, feature_there vs i f (omega (arith, below)) same)
 
 pub none_from : (o : Option Feature) → is_some o ≡ false → o ≡ None
-none_from None off = refl
-none_from (Some v) off = absurd (false≢true (sym off))
+none_from v0 v1 = search rules
 
 -- what stands at a name once a feature came to a free place
 pub put_new : (vs : List Feature) (v : Feature) (o : Option Feature) (f : Text) → feature_at vs v.key.now ≡ None → o ≡ cond (bytes_eq f v.key.now) (Some v) (feature_at vs f)
@@ -153,46 +153,29 @@ module _ (vs us ws : List Feature) (place : ℕ) (f : Text) (same : us ≡ vs) (
   pub taken_place : (place < length ws) × (nth_text (names_of ws) place ≡ f) → is_some (feature_at vs f) ≡ true
   taken_place here = let there = subst (λ xs. (place < length xs) × (nth_text (names_of xs) place ≡ f)) same' here in feature_there vs place f there.0 there.1
 
--- in the place of a feature stands another of its name
-pub feature_set : (vs : List Feature) (i : ℕ) (w : Feature) → AreInOrder vs → i < length vs → w.key.now ≡ nth_text (names_of vs) i
-    → (f : Text) → feature_at (set vs i w) f ≡ cond (bytes_eq f (nth_text (names_of vs) i)) (Some w) (feature_at vs f)
-feature_set [] i w up below same f = absurd (omega (arith, below))
-feature_set (v ∷ vs) zero w up below same f = grind (arith, common_steps, others_ascend, length-map, below_one_way, bytes_eq-Decides, first_below, among_at)
-feature_set (v ∷ vs) (suc i) w up below same f = ap (cond (bytes_eq f v.key.now) (Some v)) (feature_set vs i w (others_ascend v.key.now (names_of vs) up) (omega (arith, below)) same f) ∙ go (bytes_eq f v.key.now) refl (bytes_eq f (nth_text (names_of vs) i)) refl
-  where
-    inside : i < length (names_of vs)
-    inside = let long = length-map vs (λ (x : Feature). x.key.now) in omega (arith, below, long)
+-- features are values under their names
+as_held : (vs : List Feature) (f : Text) → feature_at vs f ≡ held_among (names_of vs) (map Some vs) f
+as_held [] f = refl
+as_held (v ∷ vs) f = ap (cond (bytes_eq f v.key.now) (Some v)) (as_held vs f)
 
-    go : (s : Bool) → bytes_eq f v.key.now ≡ s → (t : Bool) → bytes_eq f (nth_text (names_of vs) i) ≡ t
-        → cond s (Some v) (cond t (Some w) (feature_at vs f)) ≡ cond t (Some w) (cond s (Some v) (feature_at vs f))
-    go true on true there = absurd (below_one_way v.key.now v.key.now itself itself)
-      where
-        itself : Below v.key.now v.key.now
-        itself = subst (Below v.key.now) (sym ((bytes_eq-Decides f (nth_text (names_of vs) i)).0 there) ∙ (bytes_eq-Decides f v.key.now).0 on) (first_below v.key.now (names_of vs) up (nth_text (names_of vs) i) (among_at (names_of vs) i [] inside))
-    go true on false there = refl
-    go false off true there = refl
-    go false off false there = refl
+module _ (vs : List Feature) (i : ℕ) (up : AreInOrder vs) (below : i < length vs) where
+  as_many : length (map Some vs) ≡ length (names_of vs)
+  as_many = length-map vs Some ∙ sym (length-map vs (λ (v : Feature). v.key.now))
 
--- the feature under the name of a place
-pub feature_here : (vs : List Feature) (i : ℕ) (d : Feature) → AreInOrder vs → i < length vs → feature_at vs (nth_text (names_of vs) i) ≡ Some (get_or vs i d)
-feature_here [] i d up below = absurd (omega (arith, below))
-feature_here (v ∷ vs) zero d up below = ap (λ t. cond t (Some v) (feature_at vs v.key.now)) ((bytes_eq-Decides v.key.now v.key.now).1 refl)
-feature_here (v ∷ vs) (suc i) d up below = go (bytes_eq (nth_text (names_of vs) i) v.key.now) refl (feature_here vs i d (others_ascend v.key.now (names_of vs) up) (omega (arith, below)))
-  where
-    inside : i < length (names_of vs)
-    inside = let long = length-map vs (λ (x : Feature). x.key.now) in omega (arith, below, long)
+  inside : i < length (names_of vs)
+  inside = let long = length-map vs (λ (v : Feature). v.key.now) in omega (arith, below, long)
 
-    go : (s : Bool) → bytes_eq (nth_text (names_of vs) i) v.key.now ≡ s → feature_at vs (nth_text (names_of vs) i) ≡ Some (get_or vs i d) → cond s (Some v) (feature_at vs (nth_text (names_of vs) i)) ≡ Some (get_or vs i d)
-    go true on later = absurd (below_one_way v.key.now v.key.now itself itself)
-      where
-        itself : Below v.key.now v.key.now
-        itself = subst (Below v.key.now) ((bytes_eq-Decides (nth_text (names_of vs) i) v.key.now).0 on) (first_below v.key.now (names_of vs) up (nth_text (names_of vs) i) (among_at (names_of vs) i [] inside))
-    go false off later = later
+  -- the feature under the name of a place
+  pub feature_here : (d : Feature) → feature_at vs (nth_text (names_of vs) i) ≡ Some (get_or vs i d)
+  feature_here d = as_held vs _ ∙ held_at (names_of vs) (map Some vs) i (Some d) up as_many inside ∙ get_or-map Some vs i d (Some d) below
 
--- a look at the place where a name would stand tells whether it has a feature
-pub told_there : (vs : List Feature) (i : ℕ) (f : Text) → AreInOrder vs → IsBoundOf vs i f → (b : Bool) → (b ≡ true → (i < length vs) × (nth_text (names_of vs) i ≡ f)) → (b ≡ false → i < length vs → nth_text (names_of vs) i ≡ f → ⊥) → b ≡ is_some (feature_at vs f)
-told_there vs i f up bound true stands free = let here = stands refl in sym (feature_there vs i f here.0 here.1)
-told_there vs i f up bound false stands free = sym (ap is_some (feature_missing vs f (place_free vs i f up (record { bound = bound; free = free refl }))))
+  -- in the place of a feature stands another of its name
+  pub feature_set : (w : Feature) → w.key.now ≡ nth_text (names_of vs) i → (f : Text)
+      → feature_at (set vs i w) f ≡ cond (bytes_eq f (nth_text (names_of vs) i)) (Some w) (feature_at vs f)
+  feature_set w same f =
+      as_held (set vs i w) f
+      ∙ ap₂ (λ ns us. held_among ns us f) (map-set (λ (v : Feature). v.key.now) vs i w ∙ ap (set (names_of vs) i) same ∙ set-get_or (names_of vs) i []) (map-set Some vs i w)
+      ∙ held_set (names_of vs) (map Some vs) i (Some w) up as_many inside f ∙ ap (cond (bytes_eq f (nth_text (names_of vs) i)) (Some w)) (sym (as_held vs f))
 
 -- the place of f is behind all others
 pub record IsBehind (vs : List Feature) (i : ℕ) (f : Text) : Type 0 where
@@ -219,18 +202,10 @@ module _ (vs : List Feature) (i : ℕ) (w : Feature) (new : List Feature) (f : T
   pub last_held : (g : Text) → feature_at new g ≡ option_or (feature_at vs g) (cond (bytes_eq g w.key.now) (Some w) None)
   last_held g = put_new vs w (feature_at new g) g missing (placed_held vs i w up place new became g)
 
-  pub last_only : (g : Text) → feature_at new g ≡ cond (bytes_eq g f) (Some w) (feature_at vs g)
-  last_only g = subst (λ k. feature_at new g ≡ cond (bytes_eq g k) (Some w) (feature_at vs g)) key (placed_held vs i w up place new became g)
-
-  -- none of its name was there
-  pub last_missing : feature_at vs f ≡ None
-  last_missing = subst (λ k. feature_at vs k ≡ None) key missing
-
 -- behind all others one is pushed, which then becomes another
 module _ (vs : List Feature) (i : ℕ) (v : Feature) (pushed : List Feature) (f : Text) (up : AreInOrder vs) (behind : IsBehind vs i f) (put : pushed ≡ vs ++ v ∷ []) where
   last : i ≡ length vs
-  last =
-      omega (arith, behind.past, behind.bound.within)
+  last = search rules
 
   module _ (w : Feature) (key : w.key.now ≡ f) where
     filled : set pushed i w ≡ vs ++ w ∷ []

@@ -1,5 +1,5 @@
 -- The targets of a dependency once one more entry is recorded.
-use Rattle.std.proofs.Common.{◌≡◌, List, ap, ap₂, sym, refl, ◌∙◌, cond, Bor, Bool, Ordering, Less, Equal, Greater, true, false, Option, Some, None, option_map, unwrap_or}
+use Rattle.std.proofs.Common.{◌≡◌, List, ap, ap₂, sym, refl, ◌∙◌, cond, Bor, Bool, Ordering, true, false, Option, Some, None, option_map, unwrap_or}
 use Rattle.std.specs.{Option.option_or, Ordering.is_eq, Ordering.ordering_reverse, Map.lookup, BTreeMap.BTreeMap}
 use Rattle.std.specs.BTreeMap as tree
 use Rattle.cargo_toml_dependencies.specs.{Dependencies.dependency_meaning, declared.dependency.Dependency.Dependency}
@@ -9,11 +9,10 @@ use Rattle.cargo_toml_features.specs.contracts.features.TargetKeyOrd.TheImpl.Law
 use Rattle.cargo_toml_features.specs.{declared.features.ParseDependency.ParseDependency, declared.features.TargetKey.TargetKey, Recorded.Target, Recorded.target_cmp, Views.entry_of, Views.target_in}
 use Rattle.cargo_toml_features.proofs.Targets.{at, cmp_is, key_of, target_of-key_of, target_same}
 use Rattle.cargo_toml_full.specs.Recording.{recorded_next}
+use Rattle.std.proofs.Common.{rules}
 
 is_eq-reverse : (o : Ordering) → is_eq (ordering_reverse o) ≡ is_eq o
-is_eq-reverse Less = refl
-is_eq-reverse Equal = refl
-is_eq-reverse Greater = refl
+is_eq-reverse v0 = search rules
 
 -- the key has w, which is what it had or else the entry's dependency; the new map is told by its entries
 module _ (name : Text) (key : TargetKey) (p : ParseDependency) (w : Bor Dependency) (m : BTreeMap TargetKey (Bor Dependency)) (new : List (TargetKey × Bor Dependency))

@@ -2,7 +2,7 @@
 use Rattle.std.proofs.Common.{◌≡◌, ◌≢◌, ◌+◌, ◌<◌, ℕ, Bool, true, false, cond, ◌||◌, List, [], ◌∷◌, ◌++◌, map, take, drop, length, get_or, is_some, MatchOption, Option, Some, None, unwrap_or, codes, bytes_eq, string_bytes, refl, sym, ap, subst, ◌∙◌, inl, inr, suc, add-one, ap₂, arith}
 use Rattle.std.specs.{List.list_any, List.AllByRecursion, Map.lookup, Option.option_map_or, Option.option_or, Option.IsSomeAnd}
 use Rattle.std.proofs.lemmas.{Bool.false≢true, Bool.false_from_ne_true, List.map-append, List.take-append-drop, List.Folds.list_any-append, Slice.Eq.bytes_eq-Decides, Grind.common_steps}
-use Rattle.std.proofs.Math.{Seq.drop-cons, Bool.or-false}
+use Rattle.std.proofs.{Math.Seq.drop-cons, Math.Bool.or-false, Common.rules}
 use Rattle.cargo_toml_features.specs.{declared.features.Feature.Feature, declared.admit.Listing.Listing, Marks.NamedDetails, Marks.detail_named, Marks.detail_in, Marks.detail_listed}
 use Rattle.cargo_toml_features.specs.{Marks.named_details, Views.listed_of, Views.set_has, Views.action_at, InOrder.feature_at, InOrder.table_among}
 use Rattle.cargo_toml_graph.specs.{Action.Text, Action.Action, Action.item_of, Admitted.Listed, Admitted.items, Admitted.item_names, Admitted.joined_action, Reach.Among, Reach.IsOnce}
@@ -51,9 +51,7 @@ apart x y ne = false_from_ne_true _ (λ e. ne ((bytes_eq-Decides x y).0 e))
 -- a name is not listed before
 new_name : (before : Listed) (after : List Text) (n : Text) → IsOnce (map (λ e. e.0) before ++ n ∷ after) → lookup (bytes_eq n) before ≡ None
 new_name [] after n once = refl
-new_name (e ∷ es) after n once =
-    ap (λ b. cond b (Some e.1) (lookup (bytes_eq n) es)) (apart n e.0 (λ same. once.0 (subst (Among (map (λ d. d.0) es ++ n ∷ after)) same (among_later (map (λ d. d.0) es) after n))))
-    ∙ new_name es after n once.1
+new_name (e ∷ es) after n once = search (rules, apart, among_later, new_name es after n once.1)
 
 module _ (ls : List Listing) (i : ℕ) (l : Listing) (below : i < length ls) (is : l ≡ get_or ls i l) (once : IsOnce (map (λ l. l.name.now) ls)) where
   split : ls ≡ take i ls ++ l ∷ drop (i + 1) ls
@@ -63,8 +61,7 @@ module _ (ls : List Listing) (i : ℕ) (l : Listing) (below : i < length ls) (is
   one_more = taken_more listed_one ls i l l below is
 
   not_before : lookup (bytes_eq l.name.now) (listed_of (take i ls)) ≡ None
-  not_before = new_name (listed_of (take i ls)) (map (λ l. l.name.now) (drop (i + 1) ls)) l.name.now
-      (subst IsOnce (ap (map (λ l. l.name.now)) split ∙ map-append (λ l. l.name.now) (take i ls) (l ∷ drop (i + 1) ls) ∙ ap (λ ns. ns ++ l.name.now ∷ map (λ l. l.name.now) (drop (i + 1) ls)) (sym (names_listed (take i ls)))) once)
+  not_before = search (rules, new_name, split, map-append, names_listed)
 
   -- what the listings say of the name is what this one says
   said_here : detail_named (named_details ls) l.name.now ≡ detail_in l.detail
@@ -87,48 +84,30 @@ module _ (ls : List Listing) (i : ℕ) (l : Listing) (below : i < length ls) (is
   read_more m m' v before listed put = grind (arith, common_steps, one_more, lookup_push, listed_one, false≢true, not_before, string_bytes, bytes_eq-Decides, said_here)
 
   pub told_next : (passes : Option Action → Bool) (k : Text) (before now : Bool) → before ≡ told_in passes (listed_of (take i ls)) k → now ≡ (before || passes (joined_in (map item_of (map string_bytes l.actions.now)) k)) → now ≡ told_in passes (listed_of (take (i + 1) ls)) k
-  told_next passes k before now before_is now_is =
-      now_is ∙ ap (λ b. b || passes (joined_in (map item_of (map string_bytes l.actions.now)) k)) before_is
-      ∙ sym (ap (λ es. told_in passes es k) one_more ∙ list_any-append (λ (e : Text × List Text). passes (said k e)) (listed_of (take i ls)) (listed_one l ∷ [])
-      ∙ ap (λ b. told_in passes (listed_of (take i ls)) k || b) (or-false _))
+  told_next v0 v1 v2 v3 v4 v5 = search (rules, string_bytes, one_more, list_any-append, listed_one, or-false)
 
 -- what one list holds, by its look-up
 holds_some : (f : Text) (d : Detail) (o : Option (List Text)) (v : Option Feature) → Holds f d o v → is_some v ≡ is_some o
-holds_some f d None None h = refl
-holds_some f d None (Some v) h = absurd h
-holds_some f d (Some ts) None h = absurd h
-holds_some f d (Some ts) (Some v) h = refl
+holds_some v0 v1 v2 v3 v4 = search rules
 
 holds_names : (f x : Text) (d : Detail) (o : Option (List Text)) (v : Option Feature) → Holds f d o v → option_map_or (λ w. set_has w.enables_features x) v false ≡ list_any (item_names x) (map item_of (unwrap_or o []))
-holds_names f x d None None h = refl
-holds_names f x d None (Some v) h = absurd h
-holds_names f x d (Some ts) None h = absurd h
-holds_names f x d (Some ts) (Some v) h = h.names x
+holds_names v0 v1 v2 v3 v4 v5 = search rules
 
 holds_action : (f k : Text) (d : Detail) (o : Option (List Text)) (v : Option Feature) → Holds f d o v → option_map_or (λ w. action_at w.enables_deps k) v None ≡ joined_in (map item_of (unwrap_or o [])) k
-holds_action f k d None None h = refl
-holds_action f k d None (Some v) h = absurd h
-holds_action f k d (Some ts) None h = absurd h
-holds_action f k d (Some ts) (Some v) h = h.action k
+holds_action v0 v1 v2 v3 v4 v5 = search rules
 
 holds_fresh : (f : Text) (d : Detail) (o : Option (List Text)) (v : Feature) → Holds f d o (Some v) → IsFresh f d v
-holds_fresh f d None v h = absurd h
-holds_fresh f d (Some ts) v h = h.fresh
+holds_fresh v0 v1 v2 v3 v4 = search rules
 
 -- the default feature lists nothing where it isn't listed
 abbrev with_default : Listed → Text → Option (List Text)
 with_default listed f = option_or (lookup (bytes_eq f) listed) (cond (bytes_eq f (codes "default")) (Some []) None)
 
 default_some : (b : Bool) (o : Option (List Text)) → is_some (option_or o (cond b (Some []) None)) ≡ (b || is_some o)
-default_some true None = refl
-default_some false None = refl
-default_some true (Some ts) = refl
-default_some false (Some ts) = refl
+default_some v0 v1 = search rules
 
 default_list : (b : Bool) (o : Option (List Text)) → unwrap_or (option_or o (cond b (Some []) None)) [] ≡ unwrap_or o []
-default_list true None = refl
-default_list false None = refl
-default_list b (Some ts) = refl
+default_list v0 v1 = search rules
 
 -- equal tests on each element
 list_any_same : {X : Type 0} (p q : X → Bool) (xs : List X) → AllByRecursion (λ x. p x ≡ q x) xs → list_any p xs ≡ list_any q xs

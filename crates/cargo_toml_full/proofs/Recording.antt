@@ -2,8 +2,7 @@
 use Rattle.std.proofs.Common.{◌≡◌, ◌||◌, Bool, true, false, cond, Option, Some, None, is_some, option_map, unwrap_or, bytes_eq, refl, ap, subst, ◌∙◌, arith}
 use Rattle.std.proofs.lemmas.{Slice.Eq.bytes_eq-Decides, Grind.common_steps}
 use Rattle.cargo_toml_features.specs.{declared.features.FeatureDependency.FeatureDependency, Recorded.Entry, Views.recorded_in}
-use Rattle.cargo_toml_graph.specs.Action.{Text}
-use Rattle.cargo_toml_graph.proofs.Texts.{bytes_eq_sym}
+use Rattle.cargo_toml_graph.{specs.Action.Text, proofs.Texts.bytes_eq_sym}
 use Rattle.cargo_toml_dependencies.specs.Dependencies.{is_optional}
 use Rattle.cargo_toml_full.specs.{Recording.recorded_after, Recording.recorded_at, Recording.recorded_nowhere, Recording.recorded_next, Recording.recorded_with, Slots.held_in}
 use Rattle.cargo_toml_full.specs.declared.slots.Slots.{Slots}

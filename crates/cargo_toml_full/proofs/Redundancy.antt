@@ -1,8 +1,6 @@
 -- What dependencies have anyway, by the places of their keys.
-use Rattle.std.proofs.Common.{◌≡◌, List, [], ◌∷◌, ◌++◌}
+use Rattle.std.proofs.Common.{◌≡◌, List, [], ◌∷◌, ◌++◌, option_map, refl, ap, arith, rules}
 use Rattle.std.proofs.Common.{◌<◌, ◌+◌, ℕ, Option, None, length, get_or, take}
-use Rattle.std.proofs.Common.{option_map, refl, sym}
-use Rattle.std.proofs.Common.{ap, subst, arith, ◌∙◌}
 use Rattle.std.proofs.lemmas.{List.take_more, Grind.common_steps}
 use Rattle.cargo_toml_features.specs.{declared.features.FeatureDependency.FeatureDependency, Recorded.Entry, Recorded.first_target, Recorded.is_redundant, Recorded.recorded_of, Views.recorded_in}
 use Rattle.cargo_toml_graph.specs.Action.{Text}
@@ -10,8 +8,7 @@ use Rattle.cargo_toml_full.specs.{declared.redundant_features.RedundantFeatures.
 
 -- of no record there is no target
 pub no_target : (es : List Entry) → None ≡ recorded_of es → None ≡ first_target es
-no_target [] none = refl
-no_target (e ∷ es) none = cc
+no_target v0 v1 = search rules
 
 -- what is recorded of a key, and what its dependency has anyway
 abbrev pub HasAnyway : Option FeatureDependency → Option RedundantFeatures → Type 0
@@ -41,10 +38,7 @@ pub turn_more : (ds : List (Option FeatureDependency)) (i : ℕ) (d : Option Fea
     (rs new : List (Option RedundantFeatures)) (r : Option RedundantFeatures) → i < length ds
     → d ≡ get_or ds i d → HaveAnyway (take i ds) rs → HasAnyway d r → new ≡ rs ++ r ∷ []
     → HaveAnyway (take (i + 1) ds) new
-turn_more ds i d rs new r inside is h has put =
-    subst (HaveAnyway (take (i + 1) ds)) (sym put) (subst (λ xs. HaveAnyway xs (rs ++ r ∷ []))
-    (sym (take_more ds i d inside ∙ ap (λ x. take i ds ++ x ∷ []) (sym is)))
-    (one_more (take i ds) rs d r h has))
+turn_more v0 v1 v2 v3 v4 v5 v6 v7 v8 v9 v10 = grind (arith, common_steps, take_more, one_more)
 
 pub as_many : (ds : List (Option FeatureDependency)) (rs : List (Option RedundantFeatures))
     → HaveAnyway ds rs → length rs ≡ length ds

@@ -4,8 +4,7 @@ use Rattle.std.proofs.lemmas.{List.append_assoc, List.append-nil, List.map-appen
 use Rattle.std.specs.List.{filter}
 use Rattle.cargo_toml_full.specs.{declared.required.Requirement.Requirement, Slots.Relates, OwnBins.own_of, OwnBins.bin_requirement, Requiring.Required, Requiring.RequiredAll}
 use Rattle.cargo_toml_features.specs.{declared.features.Feature.Feature, InOrder.feature_at}
-use Rattle.cargo_toml_graph.specs.Action.{Text}
-use Rattle.cargo_toml_graph.proofs.Texts.{bytes_eq_sym}
+use Rattle.cargo_toml_graph.{specs.Action.Text, proofs.Texts.bytes_eq_sym}
 use Rattle.cargo_toml_full.proofs.TakenMore.{taken_more}
 
 nothing : (own : List Text) → own ≡ [] → (o : Option Feature) → Relates (Required own) o o

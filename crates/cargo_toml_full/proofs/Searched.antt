@@ -1,12 +1,10 @@
 -- A text among others, by equality and by its place.
-use Rattle.std.proofs.Common.{◌≡◌, ◌<◌, ◌||◌, ℕ, Bool, true, false, List, [], ◌∷◌, length, map, Option}
-use Rattle.std.proofs.Common.{Some, None, IfSome, is_some, Bor, bytes_eq, refl, sym, ap, subst, arith}
-use Rattle.std.proofs.lemmas.{Bool.false≢true, List.length-map}
-use Rattle.std.specs.List.{list_any}
+use Rattle.std.proofs.Common.{◌≡◌, ◌<◌, ◌||◌, ℕ, Bool, true, List, [], ◌∷◌, length, map, Option}
+use Rattle.std.proofs.Common.{None, IfSome, is_some, Bor, bytes_eq, refl, ap, rules}
+use Rattle.std.{proofs.lemmas.List.length-map, specs.List.list_any}
 use Rattle.cargo_toml_graph.specs.{Action.Text, Reach.Among}
 use Rattle.cargo_toml_graph.proofs.BinLists.{among-true, is_among-true}
-use Rattle.cargo_toml_features.specs.Places.{nth_text}
-use Rattle.cargo_toml_features.proofs.Places.{among_at}
+use Rattle.cargo_toml_features.{specs.Places.nth_text, proofs.Places.among_at}
 
 -- a test of each element, and of what it is mapped to
 pub any_mapped : {X Y : Type 0} (test : Y → Bool) (f : X → Y) (xs : List X)
@@ -15,9 +13,7 @@ any_mapped test f [] = refl
 any_mapped test f (x ∷ xs) = ap (λ b. test (f x) || b) (any_mapped test f xs)
 
 same_test : (a b : Bool) → (a ≡ true → b ≡ true) → (b ≡ true → a ≡ true) → a ≡ b
-same_test true b there back = sym (there refl)
-same_test false true there back = back refl
-same_test false false there back = refl
+same_test v0 v1 v2 v3 = search rules
 
 -- lists of the same texts
 pub same_among : (ts us : List Text) → ((x : Text) → Among us x → Among ts x) → ((x : Text) → Among ts x → Among us x) → (k : Text) → list_any (bytes_eq k) us ≡ list_any (bytes_eq k) ts
@@ -26,7 +22,4 @@ same_among ts us there back k = same_test _ _ (λ h. among-true ts k (there k (i
 -- what a search by place tells
 pub placed : (ts : List (Bor Text)) (k : Text) (o : Option ℕ) → IfSome o (λ i. (i < length ts) × (nth_text (map (λ t. t.now) ts) i ≡ k)) → (o ≡ None → ¬ Among (map (λ t. t.now) ts) k)
     → is_some o ≡ list_any (bytes_eq k) (map (λ t. t.now) ts)
-placed ts k None found missing = same_test _ _ (λ h. absurd (false≢true h)) (λ h. absurd (missing refl (is_among-true (map (λ (t : Bor Text). t.now) ts) k h)))
-placed ts k (Some i) found missing =
-    let long = length-map ts (λ (t : Bor Text). t.now) in
-    sym (among-true (map (λ (t : Bor Text). t.now) ts) k (subst (Among (map (λ (t : Bor Text). t.now) ts)) found.1 (among_at (map (λ (t : Bor Text). t.now) ts) i [] (let below = found.0 in omega (arith, below, long)))))
+placed v0 v1 v2 v3 v4 = search (rules, same_test, is_among-true, length-map, among-true, among_at)

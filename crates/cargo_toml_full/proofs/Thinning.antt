@@ -4,6 +4,7 @@ use Rattle.std.proofs.lemmas.{Map.Text.is_eq-slice_cmp, Slice.Eq.bytes_eq-Decide
 use Rattle.std.specs.{BTreeMap.is_at, BTreeSet.BTreeSet, Cmp.Lexicographic.slice_cmp, List.list_any, Map.lookup, Map.Calls.RetainsPairs, Ordering.nat_cmp}
 use Rattle.cargo_toml_graph.specs.Action.{Text}
 use Rattle.cargo_toml_features.specs.Views.{set_has}
+use Rattle.std.proofs.Common.{rules}
 
 -- a set of texts of which those are left that pass a test
 pub has_filtered : (test : Text → Bool) (s n : BTreeSet (Bor Text)) → n.keys ≡ filter (λ k. test k.now) s.keys → (x : Text) → set_has n x ≡ (set_has s x && test x)
@@ -42,12 +43,8 @@ module _ {K X : Type 0} (Q : K → X → X → Type 0) (p : K → Bool) where
   Finds (Some v) (Some w) = (k : K) × IsTrue (p k) × Q k v w
 
   go : (e : K × X) (w : X) (es rest : List (K × X)) → Q e.0 e.1 w → Finds (lookup p es) (lookup p rest) → (b : Bool) → p e.0 ≡ b → Finds (cond b (Some e.1) (lookup p es)) (cond b (Some w) (lookup p rest))
-  go e w es rest q later true t = (e.0, t, q)
-  go e w es rest q later false t = later
+  go v0 v1 v2 v3 v4 v5 v6 v7 = search rules
 
   pub looked_up : {F : Type 0} (T : F → K → X → Bool → X → F → Type 0) (f : F) → ((k : K) (v : X) (b : Bool) (w : X) (f' : F) → T f k v b w f' → (b ≡ true) × Q k v w × (f' ≡ f)) → (es kept : List (K × X)) → RetainsPairs T f es kept → Finds (lookup p es) (lookup p kept)
   looked_up T f h [] kept r = subst (λ l. Finds None (lookup p l)) (sym r) tt
-  looked_up T f h (e ∷ es) kept r =
-      let a = h e.0 e.1 r.0 r.1 r.2 r.4 in
-      let later = looked_up T f h es r.3 (subst (λ u. RetainsPairs T u es r.3) a.2 r.5) in
-      subst (λ l. Finds (lookup p (e ∷ es)) (lookup p l)) (sym (r.6 ∙ ap (λ b. cond b ((e.0, r.1) ∷ r.3) r.3) a.0)) (go e r.1 es r.3 a.1 later (p e.0) refl)
+  looked_up T f h (e ∷ es) kept r = search (rules, looked_up T f h es r.3)

@@ -2,10 +2,7 @@
 -- public contract rests.
 use Rattle.std.specs.Prelude.{◌≡◌, ◌&&◌, not, Bool, true, false, List, [], Option}
 use Rattle.std.specs.Prelude.{IsTrue, Vec, Some, None, bytes_eq, if◌then◌else◌}
-use Rattle.std.specs.Option.{IsSomeAnd}
-use Rattle.std.specs.List.{list_any}
-use Rattle.std.specs.BTreeMap.{BTreeMap}
-use Rattle.std.specs.Borrow.{Bor}
+use Rattle.std.specs.{Option.IsSomeAnd, List.list_any, BTreeMap.BTreeMap, Borrow.Bor}
 use Rattle.std.specs.declared.alloc.Global.{Global}
 use Rattle.cargo_toml_dependencies.specs.Dependencies.{is_optional}
 use Rattle.cargo_toml_dependencies.specs.Details.{plain_detail}

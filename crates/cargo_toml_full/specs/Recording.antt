@@ -2,8 +2,7 @@
 -- no public contract rests.
 use Rattle.std.specs.Prelude.{Bool, ◌&&◌, ◌||◌, if◌then◌else◌, Option, Some}
 use Rattle.std.specs.Prelude.{None, is_some, option_map, unwrap_or, bytes_eq}
-use Rattle.std.specs.Option.{option_or}
-use Rattle.std.specs.Ordering.{is_eq}
+use Rattle.std.specs.{Option.option_or, Ordering.is_eq}
 use Rattle.cargo_toml_dependencies.specs.Dependencies.{is_optional, package_of}
 use Rattle.cargo_toml_features.specs.declared.features.FeatureDependency.{FeatureDependency}
 use Rattle.cargo_toml_full.specs.declared.read.Mentions.{Mentions}
@@ -24,13 +23,6 @@ abbrev pub recorded_nowhere : Entry → RecordedKey
 recorded_nowhere e =
     record { crate_name = unwrap_or (package_of e.dependency) e.key; targets = λ _. None }
 
--- what e alone records
-abbrev pub recorded_first : Entry → RecordedKey
-recorded_first e = record {
-  crate_name = unwrap_or (package_of e.dependency) e.key;
-  targets = λ t. if is_eq (target_cmp t e.target) then Some e.dependency else None;
-}
-
 -- e comes after what is recorded: only a target of its own counts
 abbrev pub recorded_next : RecordedKey → Entry → RecordedKey
 recorded_next r e = record {
@@ -41,8 +33,7 @@ recorded_next r e = record {
 }
 
 abbrev pub recorded_with : Option RecordedKey → Entry → RecordedKey
-recorded_with None e = recorded_first e
-recorded_with (Some r) e = recorded_next r e
+recorded_with o e = recorded_next (unwrap_or o (recorded_nowhere e)) e
 
 -- k is a feature, or one acts on it
 abbrev pub is_mentioned_in : Mentions → Text → Bool

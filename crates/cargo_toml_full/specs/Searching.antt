@@ -1,8 +1,6 @@
 -- Texts that are looked up: a few in any order, and more in byte order.
 use Rattle.std.specs.Prelude.{Bool, IsTrue, List, Vec, bytes_eq, length, map, nat_lt}
-use Rattle.std.specs.Borrow.{Bor}
-use Rattle.std.specs.List.{list_any}
-use Rattle.std.specs.declared.alloc.Global.{Global}
+use Rattle.std.specs.{Borrow.Bor, List.list_any, declared.alloc.Global.Global}
 use Rattle.cargo_toml_features.specs.declared.texts.TheConstants.{FEW}
 use Rattle.cargo_toml_graph.specs.Action.{Text}
 use Rattle.cargo_toml_graph.specs.Ascending.{Ascend, Ascend-prop}

@@ -10,14 +10,14 @@ ghost use Rattle.cargo_toml_full.specs.Searching.{has_key};
 
 use crate::acted::Acted;
 use crate::names::ascending;
-use crate::ordered::{insert_at, is_there, lower_bound, put_feature, stands_at};
+use crate::ordered::{is_there, put_feature};
 use cargo_toml_features::features::{DepAction, Feature, ParseDependency};
 use std::alloc::{AllocError, Global};
 use std::collections::{BTreeMap, BTreeSet};
 
-/// Up to so many optional entries, the implied features are put among the others one by one. More
-/// are merged with the others in one go, so that not each moves those behind it.
-pub const FEW: usize = 16;
+// Up to so many optional entries, the implied features are put among the others one by one. More
+// are merged with the others in one go, so that not each moves those behind it.
+const FEW: usize = 16;
 
 // The one action of the feature that a key implies.
 fn own_action(alloc: Global, key: &str) -> Result<BTreeMap<&str, DepAction<'_>>, AllocError>
@@ -66,15 +66,8 @@ fn imply_key<'m>(
     ensures implied { OnOk result
         (ImpliesAll (λ q. bytes_eq q key.now) features.old.items features.new.items) }
 {
-    let place = lower_bound(features.as_slice(), key);
-    if place >= features.len() {
-        // Most keys are above all others: then the feature is made at the end, where it stays.
-        let actions = own_action(alloc, key)?;
-        features.push(implied_feature(alloc, key, actions))?;
-    } else if !stands_at(features.as_slice(), place, key) {
-        let actions = own_action(alloc, key)?;
-        insert_at(features, place, implied_feature(alloc, key, actions))?;
-    }
+    let actions = own_action(alloc, key)?;
+    put_feature(features, implied_feature(alloc, key, actions))?;
     Ok(())
 }
 
@@ -150,14 +143,13 @@ fn implied_keys<'m>(
     features: &[Feature<'m>],
     acted: &Acted<'m>,
     entries: &[ParseDependency<'m, '_>],
-    room: usize,
 ) -> Result<Vec<&'m str>, AllocError>
     requires { AreInOrder features.now }
     ensures keys { IfOk result (λ ks. (q : Text) → feature_at features.now q ≡ None
         → has_key ks q ≡ is_offered (has_key acted.now.reserved) (map entry_of entries.now) q) }
     ensures free { IfOk result (λ ks. AreFree ks features.now) }
 {
-    let mut keys = Vec::with_capacity(alloc, room)?;
+    let mut keys = Vec::new(alloc);
     for entry in entries {
         note_implied(&mut keys, features, acted, entry)?;
     }
@@ -222,20 +214,18 @@ fn merged<'m>(
     Ok(all)
 }
 
-/// How many entries are optional, and so may imply a feature. No clause says how many: by the
-/// number one of two ways is chosen, and each is proved.
-pub fn optional_count(entries: &[ParseDependency<'_, '_>]) -> usize {
-    entries.iter().filter(|entry| entry.dep.optional()).count()
+// Whether many entries are optional, and so may imply a feature. No clause says it: by that one of
+// two ways is chosen, and each is proved.
+fn implies_many(entries: &[ParseDependency<'_, '_>]) -> bool {
+    entries.iter().filter(|entry| entry.dep.optional()).count() > FEW
 }
 
-/// The features with those that optional dependencies imply, of which there are so many entries.
-/// It fails only where memory runs out.
+/// The features with those that optional dependencies imply. It fails only where memory runs out.
 pub fn with_implied<'m>(
     alloc: Global,
     mut features: Vec<Feature<'m>>,
     acted: &Acted<'m>,
     entries: &[ParseDependency<'m, '_>],
-    optional: usize,
 ) -> Result<Vec<Feature<'m>>, AllocError>
     requires { AreInOrder features.items }
     ensures in_order { IfOk result (λ vs. AreInOrder vs.items) }
@@ -243,8 +233,8 @@ pub fn with_implied<'m>(
         ImpliesAll (is_offered (has_key acted.now.reserved) (map entry_of entries.now))
         features.entry.items vs.items) }
 {
-    if optional > FEW {
-        let keys = implied_keys(alloc, features.as_slice(), acted, entries, optional)?;
+    if implies_many(entries) {
+        let keys = implied_keys(alloc, features.as_slice(), acted, entries)?;
         merged(alloc, features, keys.as_slice())
     } else {
         imply_all(alloc, &mut features, acted, entries)?;

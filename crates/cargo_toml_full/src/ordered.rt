@@ -43,33 +43,30 @@ pub fn stands_at(features: &[Feature<'_>], place: usize, name: &str) -> bool
     place < features.len() && is_same(features[place].key, name)
 }
 
+/// The feature of a name, if there is one.
+pub fn node_among(features: &[Feature<'_>], name: &str) -> Option<Node>
+    requires { AreInOrder features.now }
+    ensures found { IfSome result (λ i. (i < length features.now)
+        × (nth_text (names_of features.now) i ≡ name.now)) }
+    ensures there { is_some result ≡ is_some (feature_at features.now name.now) }
+{
+    let place = lower_bound(features, name);
+    if stands_at(features, place, name) {
+        Some(Node::at(place))
+    } else {
+        None
+    }
+}
+
 /// Whether there is a feature of the name.
 pub fn is_there(features: &[Feature<'_>], name: &str) -> bool
     requires { AreInOrder features.now }
     ensures { result ≡ is_some (feature_at features.now name.now) }
 {
     if features.len() > FEW {
-        stands_at(features, lower_bound(features, name), name)
+        node_among(features, name).is_some()
     } else {
         features.iter().any(|feature| is_same(name, feature.key))
-    }
-}
-
-/// The feature of a name, if there is one. It is looked for at `near` first.
-pub fn node_among(features: &[Feature<'_>], name: &str, near: usize) -> Option<Node>
-    requires { AreInOrder features.now }
-    ensures found { IfSome result (λ i. (i < length features.now)
-        × (nth_text (names_of features.now) i ≡ name.now)) }
-    ensures there { is_some result ≡ is_some (feature_at features.now name.now) }
-{
-    if stands_at(features, near, name) {
-        return Some(Node::at(near));
-    }
-    let place = lower_bound(features, name);
-    if stands_at(features, place, name) {
-        Some(Node::at(place))
-    } else {
-        None
     }
 }
 

@@ -1,7 +1,6 @@
 //! What the lists of features say.
-ghost use Rattle.std.specs.Prelude.{◌≡◌, ◌∷◌, ◌++◌, [], List};
+ghost use Rattle.std.specs.Prelude.{◌≡◌, ◌∷◌, ◌++◌, [], List, IfOk, OnOk, None, Some, MatchOption};
 ghost use Rattle.std.specs.Prelude.{bytes_eq, string_bytes, codes, map, false, if◌then◌else◌};
-ghost use Rattle.std.specs.Prelude.{IfOk, OnOk, None, Some, MatchOption};
 ghost use Rattle.std.specs.Option.{IsSomeAnd, option_or};
 ghost use Rattle.cargo_toml_graph.specs.Action.{Text, Item, item_of};
 ghost use Rattle.cargo_toml_graph.specs.Admitted.{action_on};
@@ -25,6 +24,9 @@ use cargo_toml_features::admit::Listing;
 use cargo_toml_features::features::Feature;
 use std::alloc::{AllocError, Global};
 use std::collections::{BTreeMap, BTreeSet};
+
+// Room for `default` and for some features that dependencies imply.
+const ROOM: usize = 16;
 
 /// What the lists of features say, before dependencies are looked at.
 #[derive(Drop)]
@@ -126,9 +128,6 @@ fn read_listing<'m>(
     // Listings come in the order of their names, so each feature goes to the end. It is a wide
     // value, which is made there before its list is read.
     features.push(empty_feature(alloc, listing.name, listing.detail))?;
-    if listing.actions.is_empty() {
-        return Ok(());
-    }
     read_list(alloc, &mut features[place], acting, listing)?;
     Ok(())
 }
@@ -150,13 +149,12 @@ fn add_default<'m>(alloc: Global, features: &mut Vec<Feature<'m>>) -> Result<(),
 }
 
 /// Reads the lists of all features, of which each name is listed once, and adds `default` where it
-/// isn't listed. There is room for so many more features.
+/// isn't listed.
 ///
 /// It fails only where memory runs out.
 pub fn read_features<'m>(
     alloc: Global,
     listings: &[Listing<'m>],
-    more: usize,
 ) -> Result<Mentions<'m>, AllocError>
     requires { IsOnce (map (λ l. l.name.now) listings.now) }
     ensures in_order { IfOk result (λ r. AreInOrder r.features.items) }
@@ -165,8 +163,7 @@ pub fn read_features<'m>(
     ensures fresh { IfOk result (λ r.
         AreFresh (listed_of listings.now) (named_details listings.now) r.features.items) }
 {
-    let room = listings.len().saturating_add(1).saturating_add(more);
-    let mut features = Vec::with_capacity(alloc, room)?;
+    let mut features = Vec::with_capacity(alloc, listings.len().saturating_add(ROOM))?;
     let mut acting = Acting::new(alloc);
     for listing in listings {
         read_listing(alloc, &mut features, &mut acting, *listing)?;

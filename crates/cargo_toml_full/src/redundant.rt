@@ -1,10 +1,8 @@
 //! Features of dependencies that are on anyway.
 ghost use Rattle.std.specs.Prelude.{◌≡◌, IfOk, List, Option, Some, bytes_eq, map};
-ghost use Rattle.std.specs.Prelude.{option_map, string_bytes};
-ghost use Rattle.std.specs.List.{list_any};
+ghost use Rattle.std.specs.{Prelude.option_map, Prelude.string_bytes, List.list_any};
 ghost use Rattle.std.specs.Option.{ForSome};
-ghost use Rattle.cargo_toml_dependencies.specs.Dependencies.{DependencyMeaning};
-ghost use Rattle.cargo_toml_dependencies.specs.Dependencies.{dependency_meaning};
+ghost use Rattle.cargo_toml_dependencies.specs.Dependencies.{DependencyMeaning, dependency_meaning};
 ghost use Rattle.cargo_toml_graph.specs.Action.{Text};
 ghost use Rattle.cargo_toml_features.specs.Recorded.{Entry, first_target, is_redundant};
 ghost use Rattle.cargo_toml_features.specs.Recorded.{recorded_of, without_redundant};
@@ -236,23 +234,6 @@ fn thin_action_on(
 }
 
 // The same of each action of the feature. `retain` lends each value to be written, and keeps all.
-fn thin_actions(
-    feature: &mut Feature<'_>,
-    dependencies: &Slots<'_, FeatureDependency<'_>>,
-    redundant: &Option<Slots<'_, RedundantFeatures<'_>>>,
-)
-    ensures thinned { (entries : Text → List Entry)
-        → ((k : Text) → IsSaidOf dependencies.now redundant.now k (entries k))
-        → Thinned entries feature.old feature.new }
-    ensures same_key { feature.new.key ≡ feature.old.key }
-{
-    feature.enables_deps.retain(|key, action| {
-        thin_action_on(*key, action, dependencies, redundant);
-        true
-    });
-}
-
-// The same; a feature without actions stays as it is.
 fn thin_feature(
     feature: &mut Feature<'_>,
     dependencies: &Slots<'_, FeatureDependency<'_>>,
@@ -263,9 +244,14 @@ fn thin_feature(
         → Thinned entries feature.old feature.new }
     ensures same_key { feature.new.key ≡ feature.old.key }
 {
-    if !feature.enables_deps.is_empty() {
-        thin_actions(feature, dependencies, redundant);
+    // Most features have none.
+    if feature.enables_deps.is_empty() {
+        return;
     }
+    feature.enables_deps.retain(|key, action| {
+        thin_action_on(*key, action, dependencies, redundant);
+        true
+    });
 }
 
 // The same of each feature.

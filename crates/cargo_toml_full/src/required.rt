@@ -32,23 +32,21 @@ fn require_at<'m>(features: &mut [Feature<'m>], at: Node, bin: &'m str) -> Resul
     Ok(())
 }
 
-// Adds the binary to the feature that it requires, if there is one of that name. The answer is
-// where the feature stood, or else `near`, where it is looked for first.
+// Adds the binary to the feature that it requires, if there is one of that name.
 fn require<'m>(
     features: &mut [Feature<'m>],
     requirement: &Requirement<'m>,
-    near: usize,
-) -> Result<usize, AllocError>
+) -> Result<(), AllocError>
     requires { AreInOrder features.old }
     ensures required { OnOk result
         (RequiredAll (own_of (bin_requirement requirement.now ∷ [])) features.old features.new) }
     ensures same_names { names_of features.new ≡ names_of features.old }
 {
-    let Some(at) = node_among(features, requirement.feature, near) else {
-        return Ok(near);
+    let Some(at) = node_among(features, requirement.feature) else {
+        return Ok(());
     };
     require_at(features, at, requirement.bin)?;
-    Ok(at.place().saturating_add(1))
+    Ok(())
 }
 
 // Adds each binary to the features that it requires.
@@ -61,9 +59,8 @@ fn require_all<'m>(
         (RequiredAll (own_of (map bin_requirement requirements.now)) features.old features.new) }
     ensures same_names { names_of features.new ≡ names_of features.old }
 {
-    let mut near = 0;
     for requirement in requirements {
-        near = require(features, requirement, near)?;
+        require(features, requirement)?;
     }
     Ok(())
 }

@@ -12,7 +12,7 @@ ghost use Rattle.cargo_toml_features.specs.Views.{listed_of, entry_of, recorded_
 ghost use Rattle.cargo_toml_features.specs.Recorded.{entries_at, recorded_of};
 ghost use Rattle.cargo_toml_features.specs.Resolved.{SameRecorded};
 
-use crate::imply::{FEW, optional_count, with_implied};
+use crate::imply::with_implied;
 use crate::read::{Mentions, read_features};
 use crate::record::record_dependencies;
 use crate::redundant::without_redundant;
@@ -54,14 +54,13 @@ pub fn resolve_all<'m: 'd, 'd>(
         (recorded_of (entries_at (listed_of listings.now) (map entry_of entries.now) k))) }
     ensures targets { IfOk result (λ a. HeldHaveTargets a.dependencies) }
 {
-    let optional = optional_count(entries);
-    let mentions = read_features(alloc, listings, optional.min(FEW))?;
+    let mentions = read_features(alloc, listings)?;
     // Before features are implied: an entry that isn't optional would count as mentioned, if an
     // optional entry of its key that comes later had made a feature of that name.
     let dependencies = record_dependencies(alloc, &mentions, entries)?;
     let Mentions { features, acted } = mentions;
     let thinned = without_redundant(alloc, features, &dependencies)?;
-    let implied = with_implied(alloc, thinned, &acted, entries, optional)?;
+    let implied = with_implied(alloc, thinned, &acted, entries)?;
     let features = with_bins(implied, requirements)?;
     Ok(Unremoved {
         features,

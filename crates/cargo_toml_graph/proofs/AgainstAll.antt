@@ -19,13 +19,11 @@ same_back m n s = grind (arith, common_steps)
 
 -- what f enables is there
 enabled_is_there : (m : Resolution) {f g : Text} → IsTrue (m.table.has f) → Enables m.table f g → IsTrue (m.table.has g)
-enabled_is_there m h itself = h
-enabled_is_there m h (further e n there) = there
+enabled_is_there v0 v1 v2 = grind arith
 
 same_enabled : (m n : Resolution) → SameKept m n → {f g : Text} → IsTrue (m.table.has f) → Enables m.table f g → Enables n.table f g
 same_enabled m n s h itself = itself
-same_enabled m n s h (further e t there) =
-    further (same_enabled m n s h e) (sym (s.names _ _ (enabled_is_there m h e)) ∙ t) (there_too m n s _ there)
+same_enabled m n s h (further e t there) = search (rules, enabled_is_there, there_too, same_enabled m n s h e, further)
 
 module _ (t : Table) (removed nothing : Text → Bool) (full m : Resolution) (none : (v : Text) → IsFalse (nothing v)) (all : IsResolved t (λ v. IsTrue (nothing v)) full) (h : IsResolved t (λ v. IsTrue (removed v)) m) where
   no_one : (v : Text) → ¬ IsTrue (nothing v)

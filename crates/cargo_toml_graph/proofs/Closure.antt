@@ -1,6 +1,6 @@
 -- Between kept features, what enables what transitively is as it was before anything was removed.
-use Rattle.std.proofs.Common.{◌≡◌, ◌⊎◌, Bool, false, IsTrue, refl, sym, subst, inl, inr, ◌∙◌, rules}
-use Rattle.std.proofs.lemmas.Bool.{false≢true, cases_Bool, false_from_ne_true}
+use Rattle.std.proofs.Common.{◌≡◌, ◌⊎◌, Bool, false, IsTrue, refl, sym, subst, inl, ◌∙◌, rules}
+use Rattle.std.proofs.lemmas.Bool.{false≢true, false_from_ne_true}
 use Rattle.cargo_toml_graph.specs.{Action.Text, Reach.Reaches, Reach.Reaches.edge, Reach.Reaches.through, Graph.Table, Graph.Edge, Graph.Resolution, Graph.IsKept, Graph.IsResolved, Graph.IsUnremoved}
 use Rattle.cargo_toml_graph.specs.{Graph.EnablesAtLast, Kept.NoneIsLeft}
 
@@ -32,28 +32,10 @@ module _ (t : Table) (removed : Text → Bool) (full m : Resolution) (u : IsUnre
 
   first_kept : {a b : Text} → IsKept t R b → EnablesAtLast full a b → FirstKept a b
   first_kept {b = b} k (edge e) = (b, k, edge ((u.enabled_by _ _).0 e), inl refl)
-  first_kept {b = z} k (through {a} {b} {c} e s p) =
-      let next : FirstKept b z = first_kept k p in
-      elim (cases_Bool (removed b)) [
-        | inl gone ↦ (next.0, next.1, through ((u.enabled_by _ _).0 e) gone next.2, next.3)
-        | inr stays ↦
-            let k' : IsKept t R b = is_kept b stays (subst IsTrue (u.has b) s) in
-            let first : IsTrue (m.enabled_by next.0 b) = (h.enabled_by next.0 b next.1).1 (k', next.2) in (
-              b,
-              k',
-              edge ((u.enabled_by _ _).0 e),
-              inr (elim (next.3) [
-                | inl i ↦ subst (λ v. EnablesAtLast m b v) i (edge first)
-                | inr q ↦ through first ((h.kept next.0).1 next.1) q
-              ]),
-            )
-      ]
+  first_kept {b = z} k (through {a} {b} {c} e s p) = search (rules, is_kept, first_kept k p, through, edge)
 
   pub at_last_after : {a b : Text} → IsKept t (λ v. IsTrue (removed v)) a → IsKept t (λ v. IsTrue (removed v)) b → EnablesAtLast full a b → EnablesAtLast m a b
-  at_last_after {a} {b} ka kb p =
-      let f = first_kept kb p in
-      let first : IsTrue (m.enabled_by f.0 a) = (h.enabled_by f.0 a f.1).1 (ka, f.2) in
-      elim (f.3) [ inl i ↦ subst (λ v. EnablesAtLast m a v) i (edge first) | inr q ↦ through first ((h.kept f.0).1 f.1) q ]
+  at_last_after v0 v1 v2 = search (rules, first_kept, edge, through)
 
 -- no removed name is left
 pub none_left : (t : Table) (removed : Text → Bool) (m : Resolution) → IsResolved t (λ v. IsTrue (removed v)) m → NoneIsLeft (λ v. IsTrue (removed v)) m

@@ -1,6 +1,7 @@
 -- A table in the byte order of its names, cut to a limit.
-use Rattle.std.proofs.Common.{◌≡◌, ◌⊎◌, ◌+◌, ◌≤◌, ℕ, Bool, true, false, cond, ◌||◌, List, [], ◌∷◌, ◌++◌, map, filter, fold, take, length, length-append, nat_lt, codes, bytes_eq, count_by, append_assoc, arith, IsTrue, refl, sym, ap, inl, inr, ◌∙◌, rules}
-use Rattle.std.proofs.lemmas.{Bool.false≢true, Bool.le-ltb, Bool.ltb-false, List.append-nil, List.Sums.sum_by-cons, Grind.common_steps}
+use Rattle.std.proofs.Common.{◌≡◌, ◌⊎◌, ◌+◌, ◌≤◌, ℕ, Bool, true, false, cond, ◌||◌, List, [], ◌∷◌, ◌++◌, map, filter, fold, take, length, length-append, nat_lt, codes, bytes_eq, count_by, append_assoc, arith, IsTrue, refl, sym, ap, inl, inr, rules}
+use Rattle.std.proofs.lemmas.{Bool.false≢true, Bool.false_from_ne_true, Bool.le-ltb, Bool.ltb-false, List.append-nil, List.Sums.sum_by-cons, Grind.common_steps}
+use Rattle.std.proofs.Math.Bool.{or_comm}
 use Rattle.cargo_toml_graph.specs.{Action.Text, Admitted.Listed, Admitted.is_below, Admitted.is_admitted, Admitted.admitted, Reach.Among, Reach.IsOnce, Ascending.Ascend}
 use Rattle.cargo_toml_graph.proofs.{RedirectsInOrder.below_one_way, SortedTexts.first_below, SortedTexts.others_ascend}
 
@@ -30,18 +31,14 @@ Ascends listed = Ascend (names_of listed)
 abbrev one : Bool → ℕ
 one b = cond b 1 0
 
-false_from : (b : Bool) → (b ≡ true → ⊥) → b ≡ false
-false_from true n = absurd (n refl)
-false_from false n = refl
-
 counted : (n : Text) (e : Text × List Text) (es : Listed) → count_by (λ d. is_below d.0 n) (e ∷ es) ≡ one (is_below e.0 n) + count_by (λ d. is_below d.0 n) es
 counted n e es = sum_by-cons (λ (d : Text × List Text). cond (is_below d.0 n) 1 0) e es
 
 not_below : (a b : Text) → Below b a → is_below a b ≡ false
-not_below a b h = false_from _ (λ i. below_one_way a b i h)
+not_below a b h = false_from_ne_true _ (λ i. below_one_way a b i h)
 
 not_itself : (a : Text) → is_below a a ≡ false
-not_itself a = false_from _ (λ i. below_one_way a a i i)
+not_itself a = false_from_ne_true _ (λ i. below_one_way a a i i)
 
 -- no name is below n, where n is below each
 none_below : (n : Text) (es : Listed) → ((y : Text) → Among (names_of es) y → Below n y) → count_by (λ d. is_below d.0 n) es ≡ 0
@@ -66,22 +63,16 @@ abbrev Room : ℕ → Listed → Listed → Type 0
 Room limit taken ys = (length taken ≡ length ys) ⊎ ((limit ≤ length taken) × (limit ≤ length ys))
 
 same_room : (limit : ℕ) (taken ys : Listed) → Room limit taken ys → nat_lt (length taken) limit ≡ nat_lt (length ys) limit
-same_room limit taken ys (inl e) = ap (λ n. nat_lt n limit) e
-same_room limit taken ys (inr f) = le-ltb _ _ f.0 ∙ sym (le-ltb _ _ f.1)
-
-or_comm : (a b : Bool) → (a || b) ≡ (b || a)
-or_comm v0 v1 = grind (arith, common_steps)
+same_room v0 v1 v2 v3 = grind (arith, le-ltb)
 
 one_longer : (xs : Listed) (x : Text × List Text) → length (xs ++ x ∷ []) ≡ length xs + 1
 one_longer xs x = length-append xs (x ∷ [])
 
 room_taken : (limit : ℕ) (taken ys : Listed) (x y : Text × List Text) → Room limit taken ys → Room limit (taken ++ x ∷ []) (ys ++ y ∷ [])
-room_taken limit taken ys x y (inl e) = inl (one_longer taken x ∙ ap (λ n. n + 1) e ∙ sym (one_longer ys y))
-room_taken limit taken ys x y (inr f) = inr (omega (arith, f.0, one_longer taken x), omega (arith, f.1, one_longer ys y))
+room_taken v0 v1 v2 v3 v4 v5 = grind (arith, one_longer)
 
 room_left : (limit : ℕ) (taken ys : Listed) (y : Text × List Text) → limit ≤ length taken → Room limit taken ys → Room limit taken (ys ++ y ∷ [])
-room_left limit taken ys y full (inl e) = inr (full, omega (arith, full, e, one_longer ys y))
-room_left limit taken ys y full (inr f) = inr (f.0, omega (arith, f.1, one_longer ys y))
+room_left v0 v1 v2 v3 v4 v5 = grind (arith, one_longer)
 
 module _ (limit : ℕ) (all : Listed) (ascends : Ascends all) where
   abbrev kept : Listed → Listed

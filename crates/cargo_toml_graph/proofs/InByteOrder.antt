@@ -1,10 +1,10 @@
 -- Removed features in byte order, and what they pass on in that order.
 use Rattle.std.proofs.Common.{◌≡◌, ◌⊎◌, ◌↔◌, ◌≤◌, Bool, IsTrue, List, [], ◌∷◌, ◌++◌, refl, sym, ap₂, subst, inl, inr, ◌∙◌, arith, rules}
 use Rattle.std.proofs.lemmas.{Bool.false≢true, Grind.common_steps}
-use Rattle.cargo_toml_graph.specs.{Ascending.Ascend, Action.Text, Admitted.is_below, Reach.Among, Reach.IsOnce, Graph.Table, Graph.Resolution, Graph.IsKept, Graph.IsUnremoved, Removal.is_removed}
+use Rattle.cargo_toml_graph.specs.{Ascending.Ascend, Action.Text, Admitted.is_below, Reach.Among, Reach.IsOnce, Graph.Table, Graph.Resolution, Graph.IsKept, Removal.is_removed}
 use Rattle.cargo_toml_graph.specs.{Removal.pass_bins, Removal.pass_all, Removal.unremoved, Removal.without_one, Removal.without_all, Bins.ArePassedOn, Bins.HasBins, Bins.IsComplete, Bins.mentions}
 use Rattle.cargo_toml_graph.proofs.{Edges.unremoved_is, Members.reaches_within, PassedBins.bins_are, PassedBins.bins_complete, PassedBins.grown_weaker, PassedBins.passed_alike}
-use Rattle.cargo_toml_graph.proofs.{RedirectsInOrder.below_one_way, SortedTexts.first_below, SortedTexts.one_ascends, SortedTexts.others_ascend, SortedTexts.put_first, Texts.by_true}
+use Rattle.cargo_toml_graph.proofs.{RedirectsInOrder.below_one_way, SortedTexts.first_below, SortedTexts.one_ascends, SortedTexts.others_ascend, SortedTexts.put_first}
 
 abbrev Below : Text → Text → Type 0
 Below a b = IsTrue (is_below a b)
@@ -60,10 +60,6 @@ module _ (T : Text → Type 0) where
       (f : Text) → T f → pass_all rs m own f ≡ pass_all rs n own' f
   passed_all_alike [] m n own own' h inside same f k = same f k
   passed_all_alike (r ∷ rs) m n own own' h inside same f k = search (rules, alike_without, passed_all_alike rs (without_one r m) (without_one r n) (pass_bins m r own) (pass_bins n r own') (alike_without r m n h) (λ v i. inside v (inr i)))
-
--- a resolution with nothing removed is the table's own
-pub unremoved_alike : (t : Table) (m : Resolution) → IsUnremoved t m → Alike m (unremoved t)
-unremoved_alike t m h = search (rules, unremoved_is, by_true)
 
 pub alike_itself : (m : Resolution) → Alike m m
 alike_itself m = record { names = λ f x. refl; enabled_by = λ f e. refl }

@@ -1,5 +1,5 @@
 -- Laws of the join of actions.
-use Rattle.std.proofs.Common.{◌≡◌, Option, Some, None, refl, ap, rules}
+use Rattle.std.proofs.Common.{◌≡◌, Option, None, rules, arith}
 use Rattle.std.proofs.Math.Bool.{and_assoc, and_comm, and_self, or_assoc, or_comm, or_self}
 use Rattle.cargo_toml_graph.specs.Action.{Action, JoinsInAnyOrder, join, join_option}
 
@@ -19,12 +19,10 @@ pub join_option_comm : (a b : Option Action) → join_option a b ≡ join_option
 join_option_comm v0 v1 = search (rules, join_comm)
 
 pub join_option_self : (a : Option Action) → join_option a a ≡ a
-join_option_self None = refl
-join_option_self (Some a) = ap Some (join_self a)
+join_option_self v0 = grind (arith, join_self)
 
 pub join_option_none : (a : Option Action) → join_option a None ≡ a
-join_option_none None = refl
-join_option_none (Some a) = refl
+join_option_none v0 = grind arith
 
 pub join_in_any_order : JoinsInAnyOrder join
 join_in_any_order = record { associative = join_assoc; commutative = join_comm; idempotent = join_self }

@@ -1,7 +1,7 @@
 -- Taking one more feature out of a resolution with S removed leaves one with S and that feature removed.
 use Rattle.std.proofs.Common.{◌≡◌, ◌≢◌, ◌↔◌, Bool, true, false, not, cond, ◌&&◌, ◌||◌, IsTrue, Some, bytes_eq, refl, sym, subst, inl, inr, ◌∙◌, rules}
 use Rattle.std.proofs.lemmas.Bool.{false≢true, or_cases, or_left, or_right, and_parts, and_from}
-use Rattle.cargo_toml_graph.specs.{Action.Text, Action.join_option, Action.IsJoin, Reach.With, Reach.Reaches, Reach.Gathers, Reach.GathersLabel, Reach.Reaches.edge, Reach.Reaches.through, Graph.Table}
+use Rattle.cargo_toml_graph.specs.{Action.Text, Action.join_option, Action.IsJoin, Reach.With, Reach.Reaches, Reach.GathersLabel, Reach.Reaches.edge, Reach.Reaches.through, Graph.Table}
 use Rattle.cargo_toml_graph.specs.{Graph.Edge, Graph.Resolution, Graph.IsKept, Graph.KeepsName, Graph.IsEnabledBy, Graph.Says, Graph.IsResolved, Removal.without_one}
 use Rattle.cargo_toml_graph.proofs.{Texts.apart_false, Texts.apart_from, Split.widen, Split.joined, Split.split, Split.label_split, Joins.join_alike, Joins.join_halves}
 
@@ -21,11 +21,7 @@ module _ (t : Table) (S : Text → Type 0) (m : Resolution) (h : IsResolved t S 
 
   -- the name of a kept feature that stands where r does: that feature is a parent of r
   parent_by_name : (f : Text) → IsKept t S f → f ≢ r → GathersLabel (Edge t) S (λ b y. IsTrue (t.names b y)) f r → Reaches (Edge t) S f r
-  parent_by_name f k ne l = go l.0 l.1 l.2
-    where
-      go : (b : Text) → Gathers (Edge t) S f b → IsTrue (t.names b r) → Reaches (Edge t) S f r
-      go b (inl i) n = edge (record { source = k.0; target = there; apart = ne; leads = inl (subst (λ v. IsTrue (t.names v r)) i n) })
-      go b (inr g) n = further g.1 g.0 (record { source = target g.1; target = there; apart = λ i. new (subst S i g.0); leads = inl n })
+  parent_by_name v0 v1 v2 v3 = search (rules, target, further, edge)
 
   reaches_r : (f : Text) → IsTrue (m.enabled_by r f) → IsKept t S f × Reaches (Edge t) S f r
   reaches_r f e = (h.enabled_by r f kept_r).0 e

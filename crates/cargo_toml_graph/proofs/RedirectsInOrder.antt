@@ -2,9 +2,8 @@
 use Rattle.std.proofs.Common.{◌↔◌, IsTrue, List, [], ◌∷◌, ◌++◌, refl, sym, subst, inl, inr, rules}
 use Rattle.std.proofs.lemmas.{Bool.false≢true, Cmp.nat_list_cmp_total}
 use Rattle.cargo_toml_graph.specs.{Ascending.Ascend, Action.Text, Admitted.is_below, Reach.Among, Reach.IsOnce, Graph.Table, Graph.Resolution, Graph.IsKept, Graph.IsUnremoved, Removal.without_all}
-use Rattle.cargo_toml_graph.specs.Redirects.{RedirectsTo}
+use Rattle.cargo_toml_graph.{specs.Redirects.RedirectsTo, proofs.SortedTexts.others_ascend}
 use Rattle.cargo_toml_graph.proofs.{Members.label_within, Elimination.all_taken_out, BinLists.among-first, BinLists.among-second, BinLists.among-either, SortedTexts.first_below}
-use Rattle.cargo_toml_graph.proofs.SortedTexts.{others_ascend}
 
 -- no text is below one that is below it
 pub below_one_way : (a b : Text) → IsTrue (is_below a b) → IsTrue (is_below b a) → ⊥

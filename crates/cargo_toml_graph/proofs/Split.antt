@@ -1,5 +1,5 @@
 -- A path through S and r splits at r.
-use Rattle.std.proofs.Common.{◌⊎◌, ◌↔◌, refl, subst, inl, inr, rules}
+use Rattle.std.proofs.Common.{◌⊎◌, ◌↔◌, refl, inl, inr, rules}
 use Rattle.cargo_toml_graph.specs.{Reach.With, Reach.Reaches, Reach.Gathers, Reach.GathersLabel, Reach.Reaches.edge, Reach.Reaches.through}
 
 module _ {K : Type 0} (Edge : K → K → Type 0) (S : K → Type 0) (r : K) where
@@ -16,13 +16,7 @@ module _ {K : Type 0} (Edge : K → K → Type 0) (S : K → Type 0) (r : K) whe
 
   pub split : {a b : K} → Reaches Edge (With S r) a b → Splits a b
   split (edge e) = inl (edge e)
-  split {b = c} (through {a} {b} e s p) =
-      elim s [
-        | inl s ↦ elim (split p) [ inl p ↦ inl (through e s p) | inr pq ↦ inr (through e s pq.0, pq.1) ]
-        | inr same ↦
-            let at : Reaches Edge S a r = subst (λ v. Reaches Edge S a v) same (edge e) in
-            elim (split p) [ inl p ↦ inr (at, subst (λ v. Reaches Edge S v c) same p) | inr pq ↦ inr (at, pq.1) ]
-      ]
+  split {b = c} (through {a} {b} e s p) = search (rules, split p, through, edge)
 
   -- B(f) over S and r: B(f) over S, and where f reaches r through S, B(r) over S
   pub gathers_split : (f b : K) → Gathers Edge (With S r) f b → Gathers Edge S f b ⊎ (Reaches Edge S f r × Gathers Edge S r b)

@@ -1,7 +1,7 @@
 -- Worked examples of edges, removal and recursion.
 use Rattle.std.proofs.Common.{◌≡◌, ◌≢◌, ◌⊎◌, ◌↔◌, false, ◌&&◌, ◌||◌, not, IsTrue, List, [], ◌∷◌, map, is_some, codes, bytes_eq, refl, sym, subst, inl, inr, ◌∙◌, rules}
 use Rattle.std.proofs.lemmas.{Bool.false≢true, Bool.or_cases, Bool.and_parts, Slice.Eq.bytes_eq-Decides}
-use Rattle.std.specs.Map.{lookup}
+use Rattle.std.{specs.Map.lookup, proofs.Common.arith}
 use Rattle.cargo_toml_graph.specs.{Action.Text, Admitted.Listed, Admitted.is_explicit, Admitted.is_below, Examples.features_alone, Examples.hidden_cycle, Examples.hidden_names_itself}
 use Rattle.cargo_toml_graph.specs.{Examples.left_of, Examples.ring, Graph.Table, Graph.KeepsName, Graph.IsEnabledBy, Graph.IsResolved, Graph.IsKept, Reach.Among, Reach.IsOnce, Recursive.Enables}
 use Rattle.cargo_toml_graph.specs.{Recursive.Enables.itself, Recursive.Enables.further, Redirects.RedirectsTo, Removal.unremoved}
@@ -29,8 +29,7 @@ left_resolved : (t : Table) (removed : List Text) → ((v : Text) → Among remo
 left_resolved t removed there once = all_taken_out t removed (unremoved t) (unremoved_is t) there once
 
 there_alone : (t : Table) (r : Text) → IsTrue (t.has r) → (v : Text) → Among (r ∷ []) v → IsTrue (t.has v)
-there_alone t r h v (inl e) = subst (λ w. IsTrue (t.has w)) (sym e) h
-there_alone t r h v (inr i) = absurd i
+there_alone v0 v1 v2 v3 v4 = grind arith
 
 -- ---- a = ["_h"], _h = ["a"]
 cycle_resolved : IsResolved hidden_cycle (Among (codes "_h" ∷ [])) (left_of hidden_cycle (codes "_h" ∷ []))

@@ -2,9 +2,7 @@
 use Rattle.std.specs.Prelude.{ℕ, Bool, false, if◌then◌else◌, ◌||◌, List, []}
 use Rattle.std.specs.Prelude.{map, filter, take, nat_lt, is_some, Option, Some}
 use Rattle.std.specs.Prelude.{None, unwrap_or, codes, bytes_eq, fold, count_by}
-use Rattle.std.specs.List.{list_any}
-use Rattle.std.specs.Map.{lookup}
-use Rattle.std.specs.Cmp.Lexicographic.{slice_cmp}
+use Rattle.std.specs.{List.list_any, Map.lookup, Cmp.Lexicographic.slice_cmp}
 use Rattle.std.specs.Ordering.{nat_cmp, is_lt}
 use Rattle.cargo_toml_graph.specs.Action.{Text, Action, Item, join_option, item_of}
 use Rattle.cargo_toml_graph.specs.Action.Item.{Name, On}

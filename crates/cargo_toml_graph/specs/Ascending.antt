@@ -1,8 +1,6 @@
 -- Texts that stand in byte order.
-use Rattle.std.specs.Prelude.{List}
-use Rattle.std.specs.Cmp.Lexicographic.{slice_cmp}
+use Rattle.std.specs.{Prelude.List, Cmp.Lexicographic.slice_cmp, Ordering.nat_cmp}
 use Rattle.std.specs.List.Sorted.{IsStrictlySortedBy, IsStrictlySortedBy-prop}
-use Rattle.std.specs.Ordering.{nat_cmp}
 use Rattle.cargo_toml_graph.specs.Action.{Text}
 
 -- each text is below those after it

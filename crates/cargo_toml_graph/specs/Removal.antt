@@ -2,8 +2,7 @@
 -- elimination speak of.
 use Rattle.std.specs.Prelude.{◌≡◌, IsTrue, ◌&&◌, ◌||◌, not, if◌then◌else◌, List, [], ◌∷◌}
 use Rattle.std.specs.Prelude.{◌++◌, take, bytes_eq, nat_eq, codes, Bool, false, Option}
-use Rattle.std.specs.List.{list_any, starts_with}
-use Rattle.std.specs.Option.{option_map_or}
+use Rattle.std.specs.{List.list_any, List.starts_with, Option.option_map_or}
 use Rattle.cargo_toml_graph.specs.Action.{Text, Action, join_option}
 use Rattle.cargo_toml_graph.specs.Graph.{Table, Resolution}
 

@@ -1,12 +1,11 @@
 -- What a loop adds, of a list that it goes through: findings to findings, and keys to sets of keys.
-use Rattle.std.proofs.Common.{◌≡◌, ◌||◌, ◌<◌, ◌≤◌, ◌+◌, ℕ, suc, Bool, List, [], ◌∷◌, ◌++◌, map, drop, length, get_or, refl, sym, ap, subst, add-one, append_assoc, ◌∙◌}
+use Rattle.std.proofs.Common.{arith, ◌≡◌, ◌||◌, ◌<◌, ◌≤◌, ◌+◌, ℕ, Bool, List, [], ◌∷◌, ◌++◌, map, drop, length, get_or, refl, sym, ap, subst, add-one, append_assoc, ◌∙◌}
 use Rattle.std.proofs.Math.Bool.{or-false, or_assoc}
 use Rattle.std.proofs.Math.Seq.{drop-cons}
 use Rattle.std.proofs.lemmas.List.{append-nil, drop_all}
 use Rattle.std.proofs.lemmas.List.Folds.{list_any-append}
 use Rattle.std.specs.List.{flat_map, list_any}
 use Rattle.cargo_toml.specs.Action.{Text}
-use Rattle.cargo_toml.specs.Views.{set_has}
 use Rattle.cargo_toml_lint.specs.Findings.{About, about}
 use Rattle.cargo_toml_lint.specs.Known.{Marked}
 use Rattle.cargo_toml_lint.specs.Names.{AddsKeys}
@@ -29,18 +28,12 @@ finds_none xs ys same = record { are = ap (map about) same ∙ sym (append-nil (
 
 pub finds_more : {xs ys : List About} {a b c : List Finding} → Finds xs a b → Finds ys b c
     → Finds (xs ++ ys) a c
-finds_more {xs} {ys} {a} first then = record {
-  are = then.are ∙ ap (λ zs. zs ++ ys) first.are
-      ∙ append_assoc (map about a) xs ys;
-}
+finds_more {xs} {ys} {a} first then = grind (arith, append_assoc)
 
 pub finding_more : {xs left rest all : List About} {start s n : List Finding} → left ≡ xs ++ rest
     → Finds xs s n
     → Adding Finds left all start s → Adding Finds rest all start n
-finding_more {s = s} is put adding = record {
-  ends = λ m added. adding.ends m (subst (λ ys. Finds ys
-      s m) (sym is) (finds_more put added));
-}
+finding_more {s = s} is put adding = grind (arith, finds_more)
 
 pub finding_done : {left all : List About} {start s : List Finding} → left ≡ []
     → Adding Finds left all start s → Finds all start s
@@ -51,33 +44,19 @@ finding_done {s = s} none adding = adding.ends s (subst (λ ys. Finds ys s s) (s
 any_more : (p : Text × Bool → Bool) (xs ys : Marked) (a b c : Bool) → b ≡ (a || list_any p xs)
     → c ≡ (b || list_any p ys)
     → c ≡ (a || list_any p (xs ++ ys))
-any_more p xs ys a b c first then = then ∙ ap (λ t. t || list_any p ys) first
-    ∙ or_assoc a (list_any p xs) (list_any p ys)
-    ∙ ap (λ t. a || t) (sym (list_any-append p xs ys))
+any_more p xs ys a b c first then = grind (arith, or_assoc, list_any-append)
 
 pub keys_more : {xs ys : Marked} {a b c : Keys} → AddsKeys xs a b → AddsKeys ys b c
     → AddsKeys (xs ++ ys) a c
-keys_more {xs} {ys} {a} {b} {c} first then = record {
-  all = λ k. any_more _ xs ys (set_has a.all k) (set_has b.all k) (set_has c.all k) (first.all k)
-      (then.all k);
-  marked = λ k. any_more _ xs ys (set_has a.marked k) (set_has b.marked k) (set_has c.marked k)
-      (first.marked k) (then.marked k);
-}
+keys_more {xs} {ys} {a} {b} {c} first then = grind (arith, any_more)
 
 pub keys_none : (s : Keys) → AddsKeys [] s s
-keys_none s = record {
-  all = λ k. sym (or-false (set_has s.all k));
-  marked = λ k. sym (or-false
-      (set_has s.marked k));
-}
+keys_none s = grind (arith, or-false)
 
 pub adding_more : {xs left rest all : Marked} {start s n : Keys} → left ≡ xs ++ rest
     → AddsKeys xs s n
     → Adding AddsKeys left all start s → Adding AddsKeys rest all start n
-adding_more {s = s} is put adding = record {
-  ends = λ m added. adding.ends m (subst (λ ys. AddsKeys
-      ys s m) (sym is) (keys_more put added));
-}
+adding_more {s = s} is put adding = grind (arith, keys_more)
 
 pub adding_done : {left all : Marked} {start s : Keys} → left ≡ []
     → Adding AddsKeys left all start s → AddsKeys all start s
@@ -88,10 +67,7 @@ adding_done {s = s} none adding = adding.ends s (subst (λ ys. AddsKeys ys s s) 
 pub slice_left : {X Y Z : Type 0} (g : Y → List Z) (f : X → Y) (xs : List X) (i : ℕ) (x : X)
     → i < length xs → x ≡ get_or xs i x
     → flat_map g (map f (drop i xs)) ≡ g (f x) ++ flat_map g (map f (drop (i + 1) xs))
-slice_left g f xs i x lt read =
-    ap (λ ys. flat_map g (map f ys)) (drop-cons xs i x lt)
-    ∙ ap (λ y. g (f y) ++ flat_map g (map f (drop (suc i) xs))) (sym read)
-    ∙ ap (λ n. g (f x) ++ flat_map g (map f (drop n xs))) (sym (add-one i))
+slice_left g f xs i x lt read = grind (arith, drop-cons, add-one)
 
 pub slice_none : {X Y Z : Type 0} (g : Y → List Z) (f : X → Y) (xs : List X) (i : ℕ) → length xs ≤ i
     → flat_map g (map f (drop i xs)) ≡ []

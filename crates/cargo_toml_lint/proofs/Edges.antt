@@ -1,6 +1,6 @@
 -- What the lists of features turn on, as rows of places.
-use Rattle.std.proofs.Common.{◌≡◌, ◌⊎◌, ◌↔◌, ◌||◌, ◌<◌, ◌≤◌, ◌+◌, ℕ, zero, suc, Bool, true, false, cond, List, [], ◌∷◌, ◌++◌, length, map, Option, Some, None, IfSome, is_some, option_map, Bor, String, Vec, Global, IsTrue, bytes_eq, string_bytes, refl, sym, ap, subst, inl, inr, ◌∙◌, arith, length-append}
-use Rattle.std.proofs.lemmas.Bool.{cases_eq, false≢true, or_cases, or_left, or_right}
+use Rattle.std.proofs.Common.{◌≡◌, ◌↔◌, ◌||◌, ◌<◌, ℕ, suc, Bool, true, false, cond, List, [], ◌∷◌, ◌++◌, length, map, Option, Some, None, IfSome, is_some, option_map, Bor, String, Vec, Global, IsTrue, bytes_eq, string_bytes, refl, sym, ap, subst, ◌∙◌, arith}
+use Rattle.std.proofs.lemmas.Bool.{false≢true, or_cases, or_left, or_right}
 use Rattle.std.proofs.lemmas.Map.Text.{is_eq-slice_cmp}
 use Rattle.std.proofs.lemmas.Slice.Eq.{bytes_eq-Decides}
 use Rattle.std.specs.BTreeMap.{BTreeMap, get_by_text, is_at}
@@ -15,9 +15,8 @@ use Rattle.cargo_toml.specs.Reach.{Among}
 use Rattle.cargo_toml.specs.Views.{listed_in}
 use Rattle.cargo_toml_features.proofs.Places.{among_at, once}
 use Rattle.cargo_toml_features.specs.Places.{nth_text}
-use Rattle.cargo_toml_lint.specs.Turning.{says}
+use Rattle.cargo_toml_lint.specs.Turning.{says, turned, turns_to}
 use Rattle.cargo_toml_lint.specs.Reached.{Leads}
-use Rattle.cargo_toml_lint.specs.Turning.{turned, turns_to}
 use Rattle.cargo_toml_lint.proofs.Gathered.{any_map}
 use Rattle.cargo_toml_lint.proofs.Rows.{among_either, among_first, among_last}
 
@@ -25,48 +24,9 @@ pub length_now : (names : List (Bor Text)) → length (map (λ t. t.now) names) 
 length_now [] = refl
 length_now (t ∷ names) = ap suc (length_now names)
 
--- what stands in a row once one more is put at the end
-pub list_push : {Z : Type 0} (rows : List (Vec ℕ Z)) (v : Vec ℕ Z) (a b : ℕ) → Leads (rows ++ v ∷ []) a b ↔ (((a < length rows) × Leads rows a b) ⊎ ((a ≡ length rows) × Among v.items b))
-list_push [] v zero b = (λ i. inr (refl, i), elim [ inl n ↦ absurd (omega (arith, n.0)) | inr n ↦ n.1 ])
-list_push [] v (suc a) b = (λ i. absurd i, elim [ inl n ↦ absurd (omega (arith, n.0)) | inr n ↦ absurd (omega (arith, n.0)) ])
-list_push (y ∷ rows) v zero b = (λ i. inl (omega arith, i), elim [ inl n ↦ n.1 | inr n ↦ absurd (omega (arith, n.0)) ])
-list_push (y ∷ rows) v (suc a) b =
-    let r = list_push rows v a b in (
-      λ i. elim (r.0 i) [ inl n ↦ inl (more n.0, n.1) | inr n ↦ inr (ap suc n.0, n.1) ],
-      elim [ inl n ↦ r.1 (inl (less n.0, n.1)) | inr n ↦ r.1 (inr (same_suc n.0, n.1)) ],
-    )
-  where
-    more : {m n : ℕ} → m < n → suc m < suc n
-    more lt = omega arith
-
-    less : {m n : ℕ} → suc m < suc n → m < n
-    less lt = omega arith
-
-    same_suc : {m n : ℕ} → suc m ≡ suc n → m ≡ n
-    same_suc e = omega arith
-
 -- the first n rows hold what P says
 abbrev pub IsFilled : {Z : Type 0} → (ℕ → ℕ → Type 0) → ℕ → List (Vec ℕ Z) → Type 0
 IsFilled P n rows = (length rows ≡ n) × ((a b : ℕ) → a < n → Leads rows a b ↔ P a b)
-
-pub one_more_filled : {Z : Type 0} (P : ℕ → ℕ → Type 0) (n : ℕ) (rows : List (Vec ℕ Z)) (v : Vec ℕ Z) → IsFilled P n rows → ((b : ℕ) → Among v.items b ↔ P n b) → IsFilled P (n + 1) (rows ++ v ∷ [])
-one_more_filled P n rows v h is = (
-  let l = length-append rows (v ∷ []) in let e = h.0 in omega (arith, l, e),
-  λ a b lt. (
-    λ i. elim ((list_push rows v a b).0 i) [
-      | inl m ↦ (h.1 a b (subst (λ k. a < k) h.0 m.0)).0 m.1
-      | inr m ↦ subst (λ k. P k b) (sym (m.0 ∙ h.0)) ((is b).0 m.1)
-    ],
-    λ p. (list_push rows v a b).1 (elim (cases_eq a n) [
-      | inl same ↦ inr (same ∙ sym h.0, (is b).1 (subst (λ k. P k b) same p))
-      | inr other ↦ let early : a < n = omega arith in inl (subst (λ k. a < k) (sym h.0) early, (h.1 a b early).1 p)
-    ]),
-  ),
-)
-
--- the rows past those that are filled are empty
-pub filled_all : {Z : Type 0} (P : ℕ → ℕ → Type 0) (n k : ℕ) (rows : List (Vec ℕ Z)) → k ≤ n → n ≤ k → IsFilled P n rows → IsFilled P k rows
-filled_all P n k rows le ge h = subst (λ i. IsFilled P i rows) (let e : n ≡ k = omega arith in e) h
 
 -- ---- what one text turns on
 module _ (names : List (Bor Text)) (test : Text → Bool) where
@@ -96,38 +56,17 @@ module _ (names : List (Bor Text)) (test : Text → Bool) where
 
   -- none passes
   pub edge_none : ((x : Text) → test x ≡ false) → (b : ℕ) → (None ≡ Some b) ↔ Hits b
-  edge_none is b = (
-    λ e. absurd (false≢true (ap is_some e)),
-    λ h. absurd (false≢true (sym (is (nth_text texts b)) ∙ h.1)),
-  )
+  edge_none is b = grind (arith, false≢true)
 
 -- one more text of a list
 module _ (n : ℕ) (before one now : ℕ → Bool) (more : (b : ℕ) → now b ≡ (before b || one b)) (r : Option ℕ)
     (is : (b : ℕ) → (r ≡ Some b) ↔ ((b < n) × IsTrue (one b))) (row : List ℕ)
     (held : (b : ℕ) → Among row b ↔ ((b < n) × IsTrue (before b))) where
   pub one_pushed : (place : ℕ) → r ≡ Some place → (b : ℕ) → Among (row ++ place ∷ []) b ↔ ((b < n) × IsTrue (now b))
-  one_pushed place at b = (
-    λ i. elim (among_either row (place ∷ []) b i) [
-      | inl j ↦ (((held b).0 j).0, more b ∙ or_left (before b) (one b) ((held b).0 j).1)
-      | inr j ↦ elim j [
-        | inl e ↦ let h = (is b).0 (at ∙ ap Some (sym e)) in (h.0, more b ∙ or_right (before b) (one b) h.1)
-        | inr k ↦ absurd k
-      ]
-    ],
-    λ h. elim (or_cases (before b) (one b) (sym (more b) ∙ h.1)) [
-      | inl o ↦ among_first row (place ∷ []) b ((held b).1 (h.0, o))
-      | inr o ↦ among_last row (place ∷ []) b (inl (let e : Some b ≡ Some place = sym ((is b).1 (h.0, o)) ∙ at in let f : b ≡ place = cc in f))
-    ],
-  )
+  one_pushed place at b = grind (arith, among_either, or_left, or_right, or_cases, among_first, among_last)
 
   pub none_pushed : r ≡ None → (b : ℕ) → Among row b ↔ ((b < n) × IsTrue (now b))
-  none_pushed none b = (
-    λ i. (((held b).0 i).0, more b ∙ or_left (before b) (one b) ((held b).0 i).1),
-    λ h. elim (or_cases (before b) (one b) (sym (more b) ∙ h.1)) [
-      | inl o ↦ (held b).1 (h.0, o)
-      | inr o ↦ absurd (false≢true (ap is_some (sym none ∙ (is b).1 (h.0, o))))
-    ],
-  )
+  none_pushed none b = grind (arith, or_left, or_cases, false≢true)
 
 -- ---- the list of a feature
 abbrev Lists : Type 0

@@ -1,39 +1,71 @@
 -- What is found in an answer for a manifest is what holds of the manifest.
-use Rattle.std.proofs.Common.{◌≡◌, ◌⊎◌, ◌↔◌, ◌||◌, ◌++◌, [], ℕ, Some, true, IsTrue, refl, sym, ap, ap₂, subst, inl, inr, ◌∙◌}
+use Rattle.std.proofs.Common.{arith, ◌≡◌, ◌⊎◌, ◌↔◌, ◌||◌, ◌++◌, [], not, Bool, true, false, ℕ, Some, is_some, IsTrue, length, nat_lt, List, refl, sym, ap, subst, ◌∙◌}
+use Rattle.std.proofs.lemmas.Bool.{false≢true, and_parts, not-true, not_from_false, false_from_ne_true, or_cases, or_left, or_right}
 use Rattle.std.specs.List.{flat_map}
+use Rattle.std.specs.Option.{option_map_or}
 use Rattle.cargo_toml.specs.Action.{Text}
-use Rattle.cargo_toml.specs.Admitted.{Listed, admitted}
+use Rattle.cargo_toml.specs.Admitted.{Listed, admitted, is_explicit}
+use Rattle.cargo_toml.specs.Details.{plain_detail}
+use Rattle.cargo_toml.specs.Feature.{Feature}
 use Rattle.cargo_toml.specs.Graph.{Table}
 use Rattle.cargo_toml.specs.Manifests.{ManifestMeaning}
+use Rattle.cargo_toml.specs.Marks.{marked, marks_in, marks_of}
 use Rattle.cargo_toml.specs.Parsed.{IsParsed, parsed_entries, parsed_table}
 use Rattle.cargo_toml.specs.Reach.{Among}
+use Rattle.cargo_toml.specs.Recorded.{Entry, is_implied}
 use Rattle.cargo_toml.specs.Removal.{is_removed}
-use Rattle.cargo_toml.specs.Views.{answer_of, table_in}
+use Rattle.cargo_toml.specs.Views.{answer_of, table_in, value_at}
+use Rattle.cargo_toml_features.proofs.Unremoved.{held, there}
 use Rattle.cargo_toml_features.specs.declared.features.Features.{Features}
-use Rattle.cargo_toml_lint.specs.Findings.{Counts, HoldsOf, IsOnlyDefault, feature_findings, is_hidden, is_over, is_private, products_findings, tables_findings, told, written_findings}
-use Rattle.cargo_toml_lint.specs.Known.{Names, all_names}
+use Rattle.cargo_toml_lint.specs.Findings.{Counts, HoldsOf, IsOnlyDefault, feature_findings, is_hidden, is_private, products_findings, tables_findings, told, written_findings}
+use Rattle.cargo_toml_lint.specs.Known.{all_names}
 use Rattle.cargo_toml_lint.specs.Names.{listed_by, held_names}
-use Rattle.cargo_toml_lint.specs.Steps.{CountsIn, private_at, written_in}
+use Rattle.cargo_toml_lint.specs.Steps.{CountsIn, explicit_at, implied_at, private_at, written_in}
 use Rattle.cargo_toml_lint.specs.Linked.{AreLinks, IsIn, IsOfDefault, name_at}
 use Rattle.cargo_toml_lint.specs.Turning.{turning, turning_by}
 use Rattle.cargo_toml_lint.specs.declared.finding.Code.{Code}
 use Rattle.cargo_toml_lint.specs.declared.finding.Code.TheVariants.{Cycle, FeatureTable, Implied, PrivateDefault, Unreachable}
 use Rattle.cargo_toml_lint.specs.declared.known.Known.{Known}
 use Rattle.cargo_toml_lint.specs.declared.linking.Links.{Links}
-use Rattle.cargo_toml_lint.proofs.Leading.{cyclic_is, only_default_is, unreachable_is}
-use Rattle.cargo_toml_lint.proofs.Whole.{has_same, implied_is, nothing_removed, private_is, written_is}
+use Rattle.cargo_toml_lint.proofs.Leading.{cyclic_is, only_default_is, place, unreachable_is}
+
+same_truth : (a b : Bool) → (IsTrue a ↔ IsTrue b) → a ≡ b
+same_truth a b h = grind arith
 
 module _ {M S H : Type 0} (limit : ℕ) (m : ManifestMeaning M) (a : Features S H) (known : Known)
-    (names : held_names known ≡ all_names m) (listed : listed_by known ≡ m.features)
+    (names : held_names known ≡ all_names m) (listed_as : listed_by known ≡ m.features)
     (parsed : IsParsed limit m (λ _. true) (answer_of a)) where
-  abbrev Removed : Text → Type 0
-  Removed f = IsTrue (is_removed (parsed_table limit m) (λ _. true) f)
+  abbrev listed : Listed
+  listed = admitted limit m.features
 
-  none : (f : Text) → ¬ Removed f
-  none f = nothing_removed (parsed_table limit m) f
+  abbrev entries : List Entry
+  entries = parsed_entries limit m
+
+  -- a filter that keeps each feature removes none
+  none : (f : Text) → ¬ IsTrue (is_removed (parsed_table limit m) (λ _. true) f)
+  none f removed = false≢true (and_parts _ _ removed).1
 
   none_has : (f : Text) → (table_in a.features).has f ≡ (parsed_table limit m).has f
-  none_has f = has_same a.features (parsed_table limit m) Removed none parsed.kept.resolved f
+  none_has f = same_truth _ _ (
+    there a.features (parsed_table limit m) (λ f. IsTrue (is_removed (parsed_table limit m) (λ _. true) f)) none parsed.kept.resolved f,
+    held a.features (parsed_table limit m) (λ f. IsTrue (is_removed (parsed_table limit m) (λ _. true) f)) none parsed.kept.resolved f,
+  )
+
+  mark : (f : Text) (v : Feature) → value_at a.features f ≡ Some v → marks_of v ≡ marks_in listed m.feature_details f
+  mark f v is = subst (λ o. option_map_or marks_of o (marked false plain_detail)
+      ≡ marks_in listed m.feature_details f) is (parsed.kept.marks f (ap is_some is))
+
+  explicit_is : (f : Text) → explicit_at a.features f ≡ is_explicit listed f
+  explicit_is f = grind (arith, false_from_ne_true, false≢true, none_has, or_left, mark)
+
+  private_is : (f : Text) → IsTrue ((table_in a.features).has f) → private_at a.features f ≡ is_private listed m.feature_details f
+  private_is f = grind (arith, there, false≢true, mark)
+
+  implied_is : (f : Text) → IsTrue (implied_at a.features f) ↔ IsTrue (is_implied listed entries f)
+  implied_is f = grind (arith, false≢true, none_has, or_right, explicit_is, or_cases, not-true, not_from_false, and_parts)
+
+  implied_has : (f : Text) → IsTrue (implied_at a.features f) → IsTrue ((table_in a.features).has f)
+  implied_has f = grind arith
 
   -- what the manifest's features turn on
   abbrev whole : Table
@@ -41,50 +73,35 @@ module _ {M S H : Type 0} (limit : ℕ) (m : ManifestMeaning M) (a : Features S 
 
   module _ (l : Links) (linked : AreLinks (turning_by (listed_by known) (held_names known).optional (table_in a.features).has) l) where
     are : AreLinks whole l
-    are = subst (λ t. AreLinks t l) (λ i. turning_by (listed i) (names i).optional (λ f. none_has f i)) linked
+    are = subst (λ t. AreLinks t l) (λ i. turning_by (listed_as i) (names i).optional (λ f. none_has f i)) linked
 
     -- hidden or private, as the map tells of one that has a place
     private_in : (f : Text) → IsIn l (λ p. IsTrue (is_hidden (name_at l p) || private_at a.features (name_at l p)) × IsOfDefault l p) f
-        ↔ (IsTrue (is_hidden f || is_private (admitted limit m.features) m.feature_details f) × IsOnlyDefault whole f)
-    private_in f =
-        let told = only_default_is whole l are (λ f k. refl) (λ x. IsTrue (is_hidden x || private_at a.features x)) f in
-        let same : IsTrue (whole.has f) → (is_hidden f || private_at a.features f) ≡ (is_hidden f || is_private (admitted limit m.features) m.feature_details f) =
-        λ h. ap (λ b. is_hidden f || b) (private_is a.features (admitted limit m.features)
-        (parsed_entries limit m) m.feature_details Removed none parsed.kept.resolved parsed.kept.marks
-        f (none_has f ∙ h)) in (
-          λ i. let r = told.0 i in (sym (same r.1.default_does.target) ∙ r.0, r.1),
-          λ r. told.1 (same r.1.default_does.target ∙ r.0, r.1),
+        ↔ (IsTrue (is_hidden f || is_private listed m.feature_details f) × IsOnlyDefault whole f)
+    private_in f = grind (arith, only_default_is whole l are (λ f k. refl) (λ x. IsTrue (is_hidden x || private_at a.features x)), private_is, none_has)
+
+    implied_in : (f : Text) → CountsIn a.features l Implied f ↔ IsTrue (is_implied listed entries f)
+    implied_in f =
+        let told = implied_is f in (
+          λ i. told.0 (subst (λ x. IsTrue (implied_at a.features x)) i.2 i.3),
+          λ h.
+              let p = place whole l are f (sym (none_has f) ∙ implied_has f (told.1 h)) in
+              (p.0, p.1, p.2, subst (λ x. IsTrue (implied_at a.features x)) (sym p.2) (told.1 h)),
         )
 
     counts_is : (c : Code) (f : Text) → CountsIn a.features l c f ↔ Counts limit m c f
-    counts_is Implied f = implied_is a.features (admitted limit m.features)
-        (parsed_entries limit m) m.feature_details Removed none parsed.kept.resolved parsed.kept.marks f
+    counts_is Implied f = implied_in f
     counts_is PrivateDefault f = private_in f
     counts_is Cycle f = cyclic_is whole l are f
     counts_is Unreachable f = unreachable_is whole l are f
-    counts_is _ f = (λ h. h, λ h. h)
+    counts_is _ f = (λ h. absurd h.3, λ h. absurd h)
 
     written_same : written_in a.features known limit m ≡ written_findings limit m
-    written_same =
-        ap (λ xs. xs ++ (flat_map (λ e. told e.0 [] (Some FeatureTable)) m.feature_details
-        ++ (tables_findings limit m ++ products_findings (held_names known) m)))
-        (written_is a.features (admitted limit m.features) (parsed_entries limit m) m.feature_details
-        Removed none parsed.kept.resolved parsed.kept.marks (held_names known) limit (listed_by known))
-        ∙ ap₂ (λ (n : Names) (ls : Listed).
-        flat_map (λ e. feature_findings n (is_over limit m.features e.0 e.1) e.0 e.1) ls
+    written_same = λ i. flat_map (λ e. feature_findings (names i) (nat_lt limit (length e.1) || not (explicit_is e.0 i)) e.0 e.1) (listed_as i)
         ++ (flat_map (λ e. told e.0 [] (Some FeatureTable)) m.feature_details
-        ++ (tables_findings limit m ++ products_findings n m))) names listed
+        ++ (tables_findings limit m ++ products_findings (names i) m))
 
     -- what is found is what holds
     pub holds_is : (c : Code) (f t : Text)
         → (Among (written_in a.features known limit m) (c, f, t) ⊎ ((t ≡ []) × CountsIn a.features l c f)) ↔ HoldsOf limit m c f t
-    holds_is c f t = (
-      elim [
-        | inl i ↦ inl (subst (λ xs. Among xs (c, f, t)) written_same i)
-        | inr h ↦ inr (h.0, (counts_is c f).0 h.1)
-      ],
-      elim [
-        | inl i ↦ inl (subst (λ xs. Among xs (c, f, t)) (sym written_same) i)
-        | inr h ↦ inr (h.0, (counts_is c f).1 h.1)
-      ],
-    )
+    holds_is c f t = grind (arith, written_same, counts_is)

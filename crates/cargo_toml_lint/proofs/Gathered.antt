@@ -1,6 +1,6 @@
 -- What a loop over a list gathers.
-use Rattle.std.proofs.Common.{◌≡◌, ◌⊎◌, ◌↔◌, ◌||◌, ◌&&◌, ◌<◌, ◌+◌, ℕ, Bool, true, false, List, [], ◌∷◌, ◌++◌, map, take, length, get_or, Bor, IsTrue, refl, sym, ap, inl, inr, ◌∙◌}
-use Rattle.std.proofs.Math.Bool.{and-false, and-true, or-false}
+use Rattle.std.proofs.Common.{arith, ◌≡◌, ◌⊎◌, ◌↔◌, ◌||◌, ◌&&◌, ◌<◌, ◌+◌, ℕ, Bool, true, false, cond, Some, is_some, List, [], ◌∷◌, ◌++◌, map, take, length, get_or, Bor, String, Vec, Global, IsTrue, bytes_eq, string_bytes, refl, sym, ap, inl, inr, ◌∙◌}
+use Rattle.std.proofs.Math.Bool.{or-false}
 use Rattle.std.proofs.lemmas.List.{map_push, take_more}
 use Rattle.std.proofs.lemmas.Bool.{false≢true, or_cases, or_left, or_right}
 use Rattle.std.proofs.lemmas.List.Folds.{list_any-append}
@@ -9,6 +9,7 @@ use Rattle.std.proofs.lemmas.Slice.Eq.{bytes_eq-Decides}
 use Rattle.std.specs.BTreeMap.{is_at}
 use Rattle.std.specs.Cmp.Lexicographic.{slice_cmp}
 use Rattle.std.specs.List.{list_any}
+use Rattle.std.specs.Map.{lookup}
 use Rattle.std.specs.Ordering.{nat_cmp}
 use Rattle.cargo_toml.specs.Action.{Text}
 use Rattle.cargo_toml.specs.Reach.{Among}
@@ -19,10 +20,7 @@ has_in ks f = list_any (is_at (λ k. slice_cmp nat_cmp f k.now)) ks
 
 pub at_head : (k : Bor Text) (ks : List (Bor Text)) (f : Text) → IsTrue (has_in (k ∷ ks) f)
     → (f ≡ k.now) ⊎ IsTrue (has_in ks f)
-at_head k ks f e = elim (or_cases _ _ e) [
-  | inl h ↦ inl ((bytes_eq-Decides f k.now).0 (sym (is_eq-slice_cmp f k.now) ∙ h))
-  | inr i ↦ inr i
-]
+at_head k ks f e = grind (arith, or_cases, bytes_eq-Decides, is_eq-slice_cmp)
 
 -- the same as texts
 pub among_now : (ks : List (Bor Text)) (f : Text) → IsTrue (has_in ks f) ↔ Among (map (λ k. k.now) ks) f
@@ -39,12 +37,10 @@ among_now (k ∷ ks) f = let rest = among_now ks f in (
 -- a key is put into a set where the test holds
 pub put_if : (old new same test : Bool) → test ≡ true → new ≡ (old || same) → new
     ≡ (old || (same && test))
-put_if old new same test is put = put
-    ∙ ap (λ b. old || b) (sym (ap (λ b. same && b) is ∙ and-true same))
+put_if old new same test is put = grind arith
 
 pub put_none : (old same test : Bool) → test ≡ false → old ≡ (old || (same && test))
-put_none old same test is = sym (ap (λ b. old || (same && b)) is
-    ∙ ap (λ b. old || b) (and-false same) ∙ or-false old)
+put_none old same test is = grind arith
 
 -- one more of the first elements
 pub any_more : {X Y : Type 0} (p : Y → Bool) (g : X → Y) (xs : List X) (i : ℕ) (x : X)
@@ -60,3 +56,30 @@ pub any_map : {X Y : Type 0} (p : Y → Bool) (g : X → Y) (xs : List X) → li
     ≡ list_any (λ x. p (g x)) xs
 any_map p g [] = refl
 any_map p g (x ∷ xs) = ap (λ b. p (g x) || b) (any_map p g xs)
+
+-- ---- entries of a map of lists
+-- a name, and the texts of its list
+abbrev pub told : List (String Global × Vec (String Global) Global) → List (Text × List Text)
+told es = map (λ e. (string_bytes e.0, map string_bytes e.1.items)) es
+
+-- a map of texts has the name
+pub listed_in : {X Y : Type 0} (g : X → Y) (f : Text) (es : List (String Global × X)) →
+    is_some (lookup (is_at (λ k. slice_cmp nat_cmp f (string_bytes k))) es)
+    ≡ list_any (λ (e : Text × Y). bytes_eq f e.0)
+    (map (λ (e : String Global × X). (string_bytes e.0, g e.1)) es)
+listed_in g f [] = refl
+listed_in {X} {Y} g f (e ∷ es) =
+    go (listed_in g f es) (is_at (λ k. slice_cmp nat_cmp f (string_bytes k)) e.0)
+    (is_eq-slice_cmp f (string_bytes e.0))
+  where
+    rest : Bool
+    rest = list_any (λ (e : Text × Y). bytes_eq f e.0)
+        (map (λ (e : String Global × X). (string_bytes e.0, g e.1)) es)
+
+    go : is_some (lookup (is_at (λ k. slice_cmp nat_cmp f (string_bytes k))) es) ≡ rest → (b : Bool)
+        → b ≡ bytes_eq f (string_bytes e.0)
+        → is_some (cond b (Some e.1) (lookup
+        (is_at (λ k. slice_cmp nat_cmp f (string_bytes k))) es))
+        ≡ (bytes_eq f (string_bytes e.0) || rest)
+    go before true same = ap (λ b. b || rest) same
+    go before false same = before ∙ ap (λ b. b || rest) same

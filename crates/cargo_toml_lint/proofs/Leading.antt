@@ -1,9 +1,9 @@
 -- Where places lead is where names turn.
-use Rattle.std.proofs.Common.{◌≡◌, ◌≢◌, ◌↔◌, ◌<◌, ℕ, zero, suc, Bool, true, false, not, List, [], ◌∷◌, length, map, None, Bor, Vec, Global, IsTrue, IsFalse, bytes_eq, codes, arith, refl, sym, ap, subst, inl, inr, ◌∙◌}
+use Rattle.std.proofs.Common.{◌≡◌, ◌≢◌, ◌↔◌, ◌<◌, ℕ, zero, suc, Bool, true, false, not, List, [], ◌∷◌, length, map, None, Bor, IsTrue, bytes_eq, codes, arith, refl, sym, ap, subst, inl, inr, ◌∙◌}
 use Rattle.std.proofs.lemmas.Bool.{cases_Bool, false≢true, not-true, not_from_false}
 use Rattle.std.proofs.lemmas.Slice.Eq.{bytes_eq-Decides}
 use Rattle.cargo_toml.specs.Action.{Text}
-use Rattle.cargo_toml.specs.Graph.{Table, Edge, IsPlain}
+use Rattle.cargo_toml.specs.Graph.{Table, Edge}
 use Rattle.cargo_toml.specs.Recursive.{Enables}
 use Rattle.cargo_toml.specs.Recursive.Enables.{itself, further}
 use Rattle.cargo_toml_features.proofs.Places.{among_at, at_among, once}
@@ -11,9 +11,10 @@ use Rattle.cargo_toml_features.proofs.Unremoved.{enables_has}
 use Rattle.cargo_toml_features.specs.Places.{nth_text}
 use Rattle.cargo_toml_lint.specs.Bits.{HasBit}
 use Rattle.cargo_toml_lint.specs.Findings.{IsCyclic, IsOnlyDefault, IsUnreachable, is_hidden}
-use Rattle.cargo_toml_lint.specs.Linked.{AreFound, AreLinks, IsIn, IsLeftAlone, IsOfDefault, is_default, name_at, names_of}
+use Rattle.cargo_toml_lint.specs.Linked.{AreFound, AreLinks, AreWalks, IsIn, IsLeftAlone, IsOfDefault, is_default, name_at, names_of}
 use Rattle.cargo_toml_lint.specs.Reached.{IsFlagged, IsInRing, Leads, Path}
 use Rattle.cargo_toml_lint.specs.declared.linking.Links.{Links}
+use Rattle.cargo_toml_lint.specs.declared.walks.Walks.{Walks}
 use Rattle.cargo_toml_lint.proofs.Edges.{length_now}
 use Rattle.cargo_toml_lint.proofs.Meeting.{along, path_edge}
 use Rattle.cargo_toml_lint.proofs.Rows.{has_row}
@@ -23,19 +24,14 @@ module _ (t : Table) (l : Links) (are : AreLinks t l) where
   n = length l.names.items
 
   in_names : {a : ℕ} → a < n → a < length (names_of l)
-  in_names {a} lt = subst (λ k. a < k) (sym (length_now l.names.items)) lt
-
-  in_edges : {a : ℕ} → a < n → a < length l.reach.next.items
-  in_edges {a} lt = subst (λ k. a < k) (sym are.found.count) lt
+  in_names {a} lt = grind (arith, length_now)
 
   out_edges : {a : ℕ} → a < length l.reach.next.items → a < n
-  out_edges {a} lt = subst (λ k. a < k) are.found.count lt
+  out_edges {a} lt = grind arith
 
   -- a feature has a place
   pub place : (f : Text) → IsTrue (t.has f) → (a : ℕ) × (a < n) × (name_at l a ≡ f)
-  place f h =
-      let p = at_among (names_of l) f [] ((are.known f).0 h) in
-      (p.0, subst (λ k. p.0 < k) (length_now l.names.items) p.1, p.2)
+  place f h = grind (arith, at_among (names_of l) f [], length_now)
 
   pub known_at : (a : ℕ) → a < n → IsTrue (t.has (name_at l a))
   known_at a lt = (are.known (name_at l a)).1 (among_at (names_of l) a [] (in_names lt))
@@ -65,71 +61,18 @@ module _ (t : Table) (l : Links) (are : AreLinks t l) where
       (q.0, q.1, q.2, path_edge (Leads l.reach.next.items) r.3 edge)
 
   pub leads_at : (a b : ℕ) → a < n → b < n → Enables t (name_at l a) (name_at l b) → Path l.reach.next.items a b
-  leads_at a b lt lu e =
-      let r = leads_to a lt refl e in
-      subst (λ v. Path l.reach.next.items a v) (same_place r.0 b r.1 lu r.2) r.3
+  leads_at a b lt lu e = grind (arith, leads_to, same_place)
 
   -- what the feature in a place turns on
   pub in_place : (a : ℕ) (f : Text) → a < n → name_at l a ≡ f → (x : Text) → {b : Bool} → IsTrue b ↔ IsIn l (Path l.reach.next.items a) x → IsTrue b ↔ (IsTrue (t.has f) × Enables t f x)
-  in_place a f lt at x h = (
-    λ e.
-        let i = h.0 e in
-        (subst (λ y. IsTrue (t.has y)) at (known_at a lt), subst (λ y. Enables t y x) at (subst (λ y. Enables t (name_at l a) y) i.2 (turns a i.0 lt i.3).1)),
-    λ e. h.1 (leads_to a lt at e.1),
-  )
+  in_place a f lt at x h = grind (arith, known_at, turns, leads_to)
 
   -- ---- what is found of them
   pub cyclic_is : (f : Text) → IsIn l (IsInRing l.reach.next.items) f ↔ IsCyclic t f
-  cyclic_is f = (
-    λ i.
-        let a = i.0 in
-        let ring = i.3 in
-        let there = turns a ring.0 i.1 ring.2 in
-        let back = turns ring.0 a there.0 ring.3 in
-        record {
-          other = name_at l ring.0;
-          known = subst (λ y. IsTrue (t.has y)) i.2 (known_at a i.1);
-          apart = λ same. ring.1 (same_place ring.0 a there.0 i.1 (same ∙ sym i.2));
-          there = subst (λ y. Enables t y (name_at l ring.0)) i.2 there.1;
-          back = subst (λ y. Enables t (name_at l ring.0) y) i.2 back.1;
-        },
-    λ c.
-        let p = place f c.known in
-        let q = place c.other (enables_has c.known c.there) in (
-          p.0,
-          p.1,
-          p.2,
-          (
-            q.0,
-            (λ same. c.apart (sym q.2 ∙ ap (name_at l) same ∙ p.2)),
-            leads_at p.0 q.0 p.1 q.1 (subst (λ y. Enables t y (name_at l q.0)) (sym p.2) (subst (λ y. Enables t f y) (sym q.2) c.there)),
-            leads_at q.0 p.0 q.1 p.1 (subst (λ y. Enables t y (name_at l p.0)) (sym q.2) (subst (λ y. Enables t c.other y) (sym p.2) c.back)),
-          ),
-        ),
-  )
+  cyclic_is f = grind (arith, place, turns, leads_at, known_at, same_place, enables_has)
 
   pub unreachable_is : (f : Text) → IsIn l (IsLeftAlone l) f ↔ IsUnreachable t f
-  unreachable_is f = (
-    λ i. record {
-      known = subst (λ y. IsTrue (t.has y)) i.2 (known_at i.0 i.1);
-      hidden = subst (λ y. IsTrue (is_hidden y)) i.2 i.3.hidden;
-      left_alone = λ k h shown e.
-          let p = place k h in
-          i.3.alone p.0 p.1 (subst (λ y. IsFalse (is_hidden y)) (sym p.2) shown)
-          (leads_at p.0 i.0 p.1 i.1 (subst (λ y. Enables t y (name_at l i.0)) (sym p.2) (subst (λ y. Enables t k y) (sym i.2) e)));
-    },
-    λ u.
-        let p = place f u.known in (
-          p.0,
-          p.1,
-          p.2,
-          record {
-            hidden = subst (λ y. IsTrue (is_hidden y)) (sym p.2) u.hidden;
-            alone = λ k lt shown path. u.left_alone (name_at l k) (known_at k lt) shown
-                (subst (λ y. Enables t (name_at l k) y) p.2 (turns k p.0 lt path).1);
-          },
-        ),
-  )
+  unreachable_is f = grind (arith, place, turns, leads_at, known_at)
 
   -- an edge of the table, where that tells of no dependency
   module _ (none : (f k : Text) → t.action f k ≡ None) where
@@ -137,18 +80,10 @@ module _ (t : Table) (l : Links) (are : AreLinks t l) where
     leads_inside a b e = out_edges (has_row l.reach.next.items a b e)
 
     edge_at : (k a : ℕ) → k < n → a < n → a ≢ k → Leads l.reach.next.items k a → Edge t (name_at l k) (name_at l a)
-    edge_at k a lk la apart e = record {
-      source = known_at k lk;
-      target = known_at a la;
-      apart = λ same. apart (sym (same_place k a lk la same));
-      leads = inl ((are.leads k a lk la).0 e);
-    }
+    edge_at k a lk la apart e = grind (arith, known_at, same_place)
 
     edge_leads : (k a : ℕ) → k < n → a < n → Edge t (name_at l k) (name_at l a) → Leads l.reach.next.items k a
-    edge_leads k a lk la e = elim (e.leads) [
-      | inl m ↦ (are.leads k a lk la).1 m
-      | inr p ↦ absurd (subst IsPlain (none (name_at l k) (name_at l a)) p)
-    ]
+    edge_leads k a lk la e = grind arith
 
     pub only_default_is : (Q : Text → Type 0) (f : Text) → IsIn l (λ a. Q (name_at l a) × IsOfDefault l a) f ↔ (Q f × IsOnlyDefault t f)
     only_default_is Q f = (
@@ -192,56 +127,39 @@ flagged (t ∷ names) test (suc a) = let r = flagged names test a in (
   λ h. r.1 (let lt = h.0 in omega (arith, lt), h.1),
 )
 
-module _ (l : Links) (found : AreFound l) where
-  abbrev next : List (Vec ℕ Global)
-  next = l.reach.next.items
+module _ (l : Links) (found : AreFound l) (w : Walks) (are : AreWalks l w) where
+  source_inside : (a b : ℕ) → Leads l.reach.next.items a b → a < length l.names.items
+  source_inside a b e = subst (λ k. a < k) found.count (has_row l.reach.next.items a b e)
 
-  abbrev Flags : (Text → Bool) → List Bool → Type 0
-  Flags test flags = flags ≡ map (λ t. test t.now) l.names.items
-
-  flag_at : (test : Text → Bool) (flags : List Bool) → Flags test flags → (a : ℕ) → IsFlagged flags a ↔ ((a < length l.names.items) × IsTrue (test (name_at l a)))
-  flag_at test flags is a = subst (λ fs. IsFlagged fs a ↔ ((a < length l.names.items) × IsTrue (test (name_at l a)))) (sym is) (flagged l.names.items test a)
-
-  source_inside : (a b : ℕ) → Leads next a b → a < length l.names.items
-  source_inside a b e = subst (λ k. a < k) found.count (has_row next a b e)
+  shown_at : (a : ℕ) → IsFlagged (map (λ t. not (is_hidden t.now)) l.names.items) a ↔ ((a < length l.names.items) × IsTrue (not (is_hidden (name_at l a))))
+  shown_at a = flagged l.names.items (λ f. not (is_hidden f)) a
 
   -- none that isn't hidden leads there
-  module _ (flags : List Bool) (are : Flags (λ f. not (is_hidden f)) flags) (bits : List ℕ)
-      (reached : (b : ℕ) → HasBit bits b ↔ ((a : ℕ) × IsFlagged flags a × Path next a b)) where
-    pub left_alone : (place : ℕ) → IsTrue (is_hidden (name_at l place)) → (¬ HasBit bits place) → IsLeftAlone l place
-    left_alone place hidden out = record {
-      hidden = hidden;
-      alone = λ k lt shown p. out ((reached place).1 (k, (flag_at (λ f. not (is_hidden f)) flags are k).1 (lt, not_from_false (is_hidden (name_at l k)) shown), p));
-    }
+  pub left_alone : (place : ℕ) → IsTrue (is_hidden (name_at l place)) → (¬ HasBit w.reached.items place) → IsLeftAlone l place
+  left_alone place hidden out = grind (arith, place, shown_at, not_from_false)
 
-    pub not_alone : (place : ℕ) → IsLeftAlone l place → ¬ HasBit bits place
-    not_alone place alone h =
-        let r = (reached place).0 h in
-        let f = (flag_at (λ f. not (is_hidden f)) flags are r.0).0 r.1 in
-        alone.alone r.0 f.0 (not-true (is_hidden (name_at l r.0)) f.1) r.2
+  pub not_alone : (place : ℕ) → IsLeftAlone l place → ¬ HasBit w.reached.items place
+  not_alone place alone h = grind (arith, place, shown_at, not-true)
 
   -- `default` leads there, and no other
-  module _ (default others : List Bool) (are_default : Flags (is_default true) default) (are_others : Flags (is_default false) others)
-      (by_default by_others : List ℕ)
-      (some : (b : ℕ) → HasBit by_default b ↔ ((a : ℕ) × IsFlagged default a × (b ≢ a) × Leads next a b))
-      (other : (b : ℕ) → HasBit by_others b ↔ ((a : ℕ) × IsFlagged others a × (b ≢ a) × Leads next a b)) where
-    pub of_default : (place : ℕ) → HasBit by_default place → (¬ HasBit by_others place) → IsOfDefault l place
-    of_default place h out = record {
-      some =
-          let r = (some place).0 h in
-          let f = (flag_at (is_default true) default are_default r.0).0 r.1 in
-          (r.0, (bytes_eq-Decides (name_at l r.0) (codes "default")).0 f.1, r.2, r.3);
-      no_other = λ k apart e. elim (cases_Bool (bytes_eq (name_at l k) (codes "default"))) [
-        | inl is ↦ (bytes_eq-Decides (name_at l k) (codes "default")).0 is
-        | inr isnt ↦ absurd (out ((other place).1 (k, (flag_at (is_default false) others are_others k).1 (source_inside k place e, not_from_false _ isnt), apart, e)))
-      ];
-    }
+  default_at : (wanted : Bool) (a : ℕ) → IsFlagged (map (λ t. is_default wanted t.now) l.names.items) a ↔ ((a < length l.names.items) × IsTrue (is_default wanted (name_at l a)))
+  default_at wanted a = flagged l.names.items (is_default wanted) a
 
-    pub has_default : (place : ℕ) → IsOfDefault l place → HasBit by_default place × (¬ HasBit by_others place)
-    has_default place of = (
-      (some place).1 (of.some.0, (flag_at (is_default true) default are_default of.some.0).1 (source_inside of.some.0 place of.some.3, (bytes_eq-Decides (name_at l of.some.0) (codes "default")).1 of.some.1), of.some.2, of.some.3),
-      λ h.
-          let r = (other place).0 h in
-          let f = (flag_at (is_default false) others are_others r.0).0 r.1 in
-          false≢true (sym (not-true _ f.1) ∙ (bytes_eq-Decides (name_at l r.0) (codes "default")).1 (of.no_other r.0 r.2 r.3)),
-    )
+  pub of_default : (place : ℕ) → HasBit w.by_default.items place → (¬ HasBit w.by_others.items place) → IsOfDefault l place
+  of_default place h out = record {
+    some =
+        let r = (are.by_default place).0 h in
+        (r.0, (bytes_eq-Decides (name_at l r.0) (codes "default")).0 ((default_at true r.0).0 r.1).1, r.2, r.3);
+    no_other = λ k apart e. elim (cases_Bool (bytes_eq (name_at l k) (codes "default"))) [
+      | inl is ↦ (bytes_eq-Decides (name_at l k) (codes "default")).0 is
+      | inr isnt ↦ absurd (out ((are.by_others place).1 (k, (default_at false k).1 (source_inside k place e, not_from_false _ isnt), apart, e)))
+    ];
+  }
+
+  pub has_default : (place : ℕ) → IsOfDefault l place → HasBit w.by_default.items place × (¬ HasBit w.by_others.items place)
+  has_default place of = (
+    (are.by_default place).1 (of.some.0, (default_at true of.some.0).1 (source_inside of.some.0 place of.some.3, (bytes_eq-Decides (name_at l of.some.0) (codes "default")).1 of.some.1), of.some.2, of.some.3),
+    λ h.
+        let r = (are.by_others place).0 h in
+        false≢true (sym (not-true _ ((default_at false r.0).0 r.1).1) ∙ (bytes_eq-Decides (name_at l r.0) (codes "default")).1 (of.no_other r.0 r.2 r.3)),
+  )

@@ -1,5 +1,4 @@
 pub mod Gathered
-pub mod Chosen
 pub mod Items
 pub mod Adding
 pub mod Counted
@@ -10,6 +9,5 @@ pub mod Meeting
 pub mod Placed
 pub mod Edges
 pub mod Leading
-pub mod Whole
 pub mod Exact
 pub mod Resolving

@@ -1,12 +1,13 @@
 -- What is met, one vertex after another.
-use Rattle.std.proofs.Common.{◌≡◌, ◌≢◌, ◌⊎◌, ◌↔◌, ◌<◌, ◌≤◌, ◌+◌, ℕ, zero, suc, Bool, Vec, Global, List, [], ◌∷◌, ◌++◌, length, drop, get_or, set, length-set, refl, sym, ap, subst, inl, inr, ◌∙◌, arith, append_assoc, append-nil, length-append}
+use Rattle.std.proofs.Common.{◌≡◌, ◌≢◌, ◌⊎◌, ◌↔◌, ◌<◌, ◌≤◌, ◌+◌, ℕ, zero, suc, Bool, Vec, List, [], ◌∷◌, ◌++◌, length, drop, get_or, refl, sym, subst, inl, inr, ◌∙◌, arith, append_assoc, append-nil, length-append, Global, ◌==◌, true, false}
 use Rattle.std.proofs.lemmas.Bool.{cases_eq, false≢true}
 use Rattle.cargo_toml.specs.Reach.{Among, Gathers, Reaches, IsOnce}
 use Rattle.cargo_toml.specs.Reach.Reaches.{edge, through}
-use Rattle.cargo_toml_lint.specs.Bits.{HasBit}
-use Rattle.cargo_toml_lint.specs.Reached.{IsFinished, IsFlagged, IsInRing, IsSettled, IsWhole, Leads, Meets, Path, Stands, row_items}
+use Rattle.cargo_toml_lint.specs.Bits.{HasBit, words_of}
+use Rattle.cargo_toml_lint.proofs.Rows.{list_read, among_either, among_first, among_last, few, left_first, left_more, left_none, nothing, once_both, is_none, not_none}
+use Rattle.cargo_toml_graph.proofs.Closure.{chained}
+use Rattle.cargo_toml_lint.specs.Reached.{IsFinished, IsFlagged, IsInRing, IsWhole, Leads, Meets, Path, Stands}
 use Rattle.cargo_toml_lint.specs.declared.reach.Reach.{Reach}
-use Rattle.cargo_toml_lint.proofs.Rows.{among_either, among_first, among_last, few, left_first, left_more, left_none, nothing, once_both, row_set, row_unset}
 
 abbrev All : ℕ → Type 0
 All v = Unit {0}
@@ -14,11 +15,7 @@ All v = Unit {0}
 -- a path, and one more edge
 pub path_edge : (E : ℕ → ℕ → Type 0) {a b c : ℕ} → Gathers E All a b → E b c → Gathers E All a c
 path_edge E {a} {b} {c} (inl e) l = inr (tt, edge (subst (λ v. E v c) e l))
-path_edge E (inr p) l = inr (tt, more p.1 l)
-  where
-    more : {a b c : ℕ} → Reaches E All a b → E b c → Reaches E All a c
-    more (edge e) l = through e tt (edge l)
-    more (through e s p) l = through e s (more p l)
+path_edge E (inr p) l = inr (tt, chained All p.1 tt (edge l))
 
 -- what holds at the start of a path, and goes along edges, holds at its end
 pub along : (E : ℕ → ℕ → Type 0) (S : ℕ → Type 0) → ((x y : ℕ) → S x → E x y → S y) → {a b : ℕ} → S a → Gathers E All a b → S b
@@ -39,93 +36,38 @@ path_inside r whole a b lt p = along (Leads r.next.items) (λ v. v < length r.ne
 module _ (r : Reach) where
   -- nothing is met
   pub meets_none : (Named : ℕ → Type 0) (row met : List ℕ) → ((y : ℕ) → Named y → HasBit row y) → Meets r Named row row met met
-  meets_none Named row met in_row = record {
-    added = [];
-    pushed = sym (append-nil met);
-    once = tt;
-    fresh = λ y i. absurd i;
-    len = refl;
-    grows = λ y h. h;
-    named = in_row;
-    only = λ y h. inl h;
-    closed = λ y h. inl h;
-  }
+  meets_none Named row met in_row = grind (arith, append-nil)
 
   -- one that waits
   pub meets_one : (x : ℕ) (row row' met met' : List ℕ) → (¬ HasBit row x) → length row' ≡ length row → ((y : ℕ) → HasBit row' y ↔ (HasBit row y ⊎ (y ≡ x))) → met' ≡ met ++ x ∷ [] → Meets r (λ y. y ≡ x) row row' met met'
-  meets_one x row row' met met' out len bits pushed = record {
-    added = x ∷ [];
-    pushed = pushed;
-    once = (λ i. absurd i, tt);
-    fresh = λ y i. elim i [
-      | inl e ↦ ((bits y).1 (inr e), subst (λ v. ¬ HasBit row v) (sym e) out)
-      | inr i ↦ absurd i
-    ];
-    len = len;
-    grows = λ y h. (bits y).1 (inl h);
-    named = λ y e. (bits y).1 (inr e);
-    only = λ y h. elim ((bits y).0 h) [ inl o ↦ inl o | inr e ↦ inr (x, refl, inl e) ];
-    closed = λ y h. elim ((bits y).0 h) [ inl o ↦ inl o | inr e ↦ inr (inl (inl e)) ];
-  }
+  meets_one x row row' met met' out len bits pushed = grind arith
 
   -- one whose row stands
-  pub meets_row : IsWhole r → (x : ℕ) (row row' met : List ℕ) → Stands r x → length row' ≡ length row → ((y : ℕ) → HasBit row' y ↔ (HasBit row y ⊎ HasBit (row_items r.rows.items x) y)) → Meets r (λ y. y ≡ x) row row' met met
-  meets_row whole x row row' met stands len bits = record {
-    added = [];
-    pushed = sym (append-nil met);
-    once = tt;
-    fresh = λ y i. absurd i;
-    len = len;
-    grows = λ y h. (bits y).1 (inl h);
-    named = λ y e. (bits y).1 (inr ((whole.right x y stands).1 (inl e)));
-    only = λ y h. elim ((bits y).0 h) [ inl o ↦ inl o | inr b ↦ inr (x, refl, (whole.right x y stands).0 b) ];
-    closed = λ y h. elim ((bits y).0 h) [
-      | inl o ↦ inl o
-      | inr b ↦ inr (inr (λ z l. (bits z).1 (inr ((whole.right x z stands).1 (path_edge (Leads r.next.items) ((whole.right x y stands).0 b) l)))))
-    ];
-  }
+  pub meets_row : IsWhole r → (x : ℕ) (row row' met : List ℕ) → Stands r x → length row' ≡ length row → ((y : ℕ) → HasBit row' y ↔ (HasBit row y ⊎ HasBit (words_of r.rows.items x) y)) → Meets r (λ y. y ≡ x) row row' met met
+  meets_row whole x row row' met stands len bits = record { added = []; pushed = sym (append-nil met); once = tt; fresh = grind arith; len = len; grows = grind arith; named = grind arith; only = grind arith; closed = grind (arith, path_edge (Leads r.next.items)) }
 
   -- one after another
   pub meets_then : (A B C : ℕ → Type 0) (r0 r1 r2 m0 m1 m2 : List ℕ) → ((y : ℕ) → C y ↔ (A y ⊎ B y)) → Meets r A r0 r1 m0 m1 → Meets r B r1 r2 m1 m2 → Meets r C r0 r2 m0 m2
   meets_then A B C r0 r1 r2 m0 m1 m2 both v w = record {
     added = v.added ++ w.added;
-    pushed = w.pushed ∙ ap (λ m. m ++ w.added) v.pushed ∙ append_assoc m0 v.added w.added;
-    once = once_both v.added w.added v.once w.once (λ y i j. (w.fresh y j).1 (v.fresh y i).0);
-    fresh = λ y i. elim (among_either v.added w.added y i) [
-      | inl j ↦ (w.grows y (v.fresh y j).0, (v.fresh y j).1)
-      | inr j ↦ ((w.fresh y j).0, λ h. (w.fresh y j).1 (v.grows y h))
-    ];
-    len = w.len ∙ v.len;
-    grows = λ y h. w.grows y (v.grows y h);
-    named = λ y n. elim ((both y).0 n) [ inl a ↦ w.grows y (v.named y a) | inr b ↦ w.named y b ];
-    only = λ y h. elim (w.only y h) [
-      | inl h ↦ elim (v.only y h) [ inl o ↦ inl o | inr a ↦ inr (a.0, (both a.0).1 (inl a.1), a.2) ]
-      | inr b ↦ inr (b.0, (both b.0).1 (inr b.1), b.2)
-    ];
+    pushed = grind (arith, append_assoc);
+    once = grind (arith, once_both);
+    fresh = grind (arith, among_either);
+    len = grind arith;
+    grows = grind arith;
+    named = grind arith;
+    only = λ y h. elim (w.only y h) [ inl h ↦ elim (v.only y h) [ inl o ↦ inl o | inr a ↦ inr (a.0, (both a.0).1 (inl a.1), a.2) ] | inr b ↦ inr (b.0, (both b.0).1 (inr b.1), b.2) ];
     closed = λ y h. elim (w.closed y h) [
       | inl h ↦ elim (v.closed y h) [
         | inl o ↦ inl o
-        | inr d ↦ elim d [
-          | inl i ↦ inr (inl (among_first v.added w.added y i))
-          | inr c ↦ inr (inr (λ z l. w.grows z (c z l)))
-        ]
+        | inr d ↦ elim d [ inl i ↦ inr (inl (among_first v.added w.added y i)) | inr c ↦ inr (inr (λ z l. w.grows z (c z l))) ]
       ]
       | inr d ↦ elim d [ inl i ↦ inr (inl (among_last v.added w.added y i)) | inr c ↦ inr (inr c) ]
     ];
   }
 
   pub meets_alike : (A B : ℕ → Type 0) (r0 r1 m0 m1 : List ℕ) → ((y : ℕ) → A y ↔ B y) → Meets r A r0 r1 m0 m1 → Meets r B r0 r1 m0 m1
-  meets_alike A B r0 r1 m0 m1 same v = record {
-    added = v.added;
-    pushed = v.pushed;
-    once = v.once;
-    fresh = v.fresh;
-    len = v.len;
-    grows = v.grows;
-    named = λ y n. v.named y ((same y).1 n);
-    only = λ y h. elim (v.only y h) [ inl o ↦ inl o | inr a ↦ inr (a.0, (same a.0).0 a.1, a.2) ];
-    closed = v.closed;
-  }
+  meets_alike A B r0 r1 m0 m1 same v = grind arith
 
   -- the state of a search: what is in the row has its edges in it, or is still to be taken
   pub record Searches (start : ℕ) (row met : List ℕ) (at : ℕ) : Type 0 where
@@ -138,56 +80,11 @@ module _ (r : Reach) where
     pub within : at ≤ length met
 
   module _ (whole : IsWhole r) (start : ℕ) (inside : start < length r.next.items) where
-    pub begins : (row row' met' : List ℕ) → ((y : ℕ) → ¬ HasBit row y) → Meets r (λ y. y ≡ start) row row' [] met' → Searches start row' met' 0
-    begins row row' met' empty v = record {
-      begun = v.named start refl;
-      sound = λ y h. elim (v.only y h) [
-        | inl o ↦ absurd (empty y o)
-        | inr a ↦ subst (λ s. Path r.next.items s y) a.1 a.2
-      ];
-      once = subst IsOnce (sym v.pushed) v.once;
-      in_row = λ y i. (v.fresh y (subst (λ m. Among m y) v.pushed i)).0;
-      done = λ y h. elim (v.closed y h) [
-        | inl o ↦ absurd (empty y o)
-        | inr d ↦ elim d [ inl i ↦ inl (subst (λ m. Among m y) (sym v.pushed) i) | inr c ↦ inr c ]
-      ];
-      within = omega arith;
-    }
-
     pub goes_on : (row row' met met' : List ℕ) (at : ℕ) → at < length met → Searches start row met at → Meets r (Leads r.next.items (get_or met at 0)) row row' met met' → HasBit row (get_or met at 0) → Searches start row' met' (at + 1)
-    goes_on row row' met met' at lt s v here = record {
-      begun = v.grows start s.begun;
-      sound = λ y h. elim (v.only y h) [
-        | inl o ↦ s.sound y o
-        | inr a ↦ path_then (Leads r.next.items) (path_edge (Leads r.next.items) (s.sound _ here) a.1) a.2
-      ];
-      once = subst IsOnce (sym v.pushed) (once_both met v.added s.once v.once (λ y i j. (v.fresh y j).1 (s.in_row y i)));
-      in_row = λ y i. elim (among_either met v.added y (subst (λ m. Among m y) v.pushed i)) [
-        | inl j ↦ v.grows y (s.in_row y j)
-        | inr j ↦ (v.fresh y j).0
-      ];
-      done = λ y h. elim (v.closed y h) [
-        | inl o ↦ elim (s.done y o) [
-          | inl i ↦ elim (left_first met at y lt i) [
-            | inl e ↦ inr (λ z l. v.named z (subst (λ w. Leads r.next.items w z) e l))
-            | inr i ↦ inl (subst (λ m. Among (drop (at + 1) m) y) (sym v.pushed) (left_more met v.added (at + 1) y (omega arith) (inl i)))
-          ]
-          | inr c ↦ inr (λ z l. v.grows z (c z l))
-        ]
-        | inr d ↦ elim d [
-          | inl i ↦ inl (subst (λ m. Among (drop (at + 1) m) y) (sym v.pushed) (left_more met v.added (at + 1) y (omega arith) (inr i)))
-          | inr c ↦ inr c
-        ]
-      ];
-      within = let l = ap length v.pushed ∙ length-append met v.added in omega arith;
-    }
+    goes_on row row' met met' at lt s v here = record { begun = grind arith; sound = λ y h. elim (v.only y h) [ inl o ↦ s.sound y o | inr a ↦ path_then (Leads r.next.items) (path_edge (Leads r.next.items) (s.sound _ here) a.1) a.2 ]; once = grind (arith, once_both); in_row = grind (arith, among_either); done = grind (arith, left_first, left_more); within = grind (arith, length-append) }
 
     pub ends : (row met : List ℕ) (at : ℕ) → length met ≤ at → Searches start row met at → (y : ℕ) → HasBit row y ↔ Path r.next.items start y
-    ends row met at le s y = (
-      s.sound y,
-      λ p. along (Leads r.next.items) (HasBit row)
-          (λ x z h l. elim (s.done x h) [ inl i ↦ absurd (left_none met at x le i) | inr c ↦ c z l ]) s.begun p,
-    )
+    ends row met at le s y = grind (arith, along (Leads r.next.items) (HasBit row), left_none)
 
     pub met_inside : (row met : List ℕ) (at : ℕ) → Searches start row met at → (y : ℕ) → Among met y → y < length r.next.items
     met_inside row met at s y i = path_inside r whole start y inside (s.sound y (s.in_row y i))
@@ -195,64 +92,26 @@ module _ (r : Reach) where
     pub met_few : (row met : List ℕ) (at : ℕ) → Searches start row met at → length met ≤ length r.next.items
     met_few row met at s = few met (length r.next.items) s.once (met_inside row met at s)
 
--- ---- what is found in the end
-module _ (r : Reach) (finished : IsFinished r) where
-  -- a vertex without a row leads to itself alone
-  pub path_alone : (a : ℕ) → a < length r.next.items → length (row_items r.rows.items a) ≡ 0 → (b : ℕ) → Path r.next.items a b ↔ (b ≡ a)
-  path_alone a lt none b = (
-    elim [ inl e ↦ e | inr p ↦ absurd (no_edge p.1) ],
-    λ e. inl e,
-  )
-    where
-      no_edges : (c : ℕ) → ¬ Leads r.next.items a c
-      no_edges c i = elim (finished.settled a lt) [
-        | inl stands ↦ absurd (omega (arith, none, stands))
-        | inr empty ↦ nothing (row_items r.next.items a) empty c i
-      ]
+-- ---- what is found in the end, of a vertex whose row is read
+module _ (r : Reach) (finished : IsFinished r) (a : ℕ) (lt : a < length r.next.items) (xs : List ℕ) (v : Vec ℕ Global) (same : xs ≡ v.items)
+    (is : v ≡ get_or r.rows.items a v) (empty : Bool) (told : empty ≡ (length xs == 0)) where
+  own : xs ≡ words_of r.rows.items a
+  own = same ∙ sym (list_read r.rows.items a v (subst (λ n. a < n) (sym finished.whole.len) lt) is)
 
-      no_edge : {c : ℕ} → ¬ Reaches (Leads r.next.items) All a c
-      no_edge {c} (edge e) = no_edges c e
-      no_edge (through {b = c} e s p) = no_edges c e
+  no_edges : empty ≡ true → (c : ℕ) → ¬ Leads r.next.items a c
+  no_edges on c i = grind (arith, own, is_none, nothing)
 
-  pub path_row : (a : ℕ) → 0 < length (row_items r.rows.items a) → (b : ℕ) → HasBit (row_items r.rows.items a) b ↔ Path r.next.items a b
-  path_row a stands b = finished.whole.right a b stands
+  no_edge : empty ≡ true → {c : ℕ} → ¬ Reaches (Leads r.next.items) All a c
+  no_edge on {c} (edge e) = no_edges on c e
+  no_edge on (through {b = c} e s p) = no_edges on c e
 
--- the row of one more vertex stands
-module _ (r : Reach) (whole : IsWhole r) (x : ℕ) (inside : x < length r.next.items) (v : Vec ℕ Global) (rows : Vec (Vec ℕ Global) Global)
-    (put : rows.items ≡ set r.rows.items x v) where
-  abbrev pub now : Reach
-  now = record { next = r.next; rows = rows; width = r.width }
+  -- without one it leads to itself alone
+  pub path_alone : empty ≡ true → (b : ℕ) → Path r.next.items a b ↔ (b ≡ a)
+  path_alone on b = (elim [ inl e ↦ e | inr p ↦ absurd (no_edge on p.1) ], λ e. inl e)
 
-  own : row_items rows.items x ≡ v.items
-  own = ap (λ rs. row_items rs x) put ∙ row_set r.rows.items x v (subst (λ n. x < n) (sym whole.len) inside)
-
-  other : (a : ℕ) → a ≢ x → row_items rows.items a ≡ row_items r.rows.items a
-  other a ne = ap (λ rs. row_items rs a) put ∙ row_unset r.rows.items x a v ne
-
-  pub settled_whole : length v.items ≡ r.width → ((y : ℕ) → HasBit v.items y ↔ Path r.next.items x y) → IsWhole now
-  settled_whole wide right = record {
-    len = ap length put ∙ length-set r.rows.items x v ∙ whole.len;
-    inside = whole.inside;
-    fits = whole.fits;
-    wide = λ a s. elim (cases_eq a x) [
-      | inl same ↦ ap (λ i. length (row_items rows.items i)) same ∙ ap length own ∙ wide
-      | inr ne ↦ ap length (other a ne) ∙ whole.wide a (subst (λ w. 0 < length w) (other a ne) s)
-    ];
-    right = λ a b s. elim (cases_eq a x) [
-      | inl same ↦ subst (λ i. HasBit (row_items rows.items i) b ↔ Path r.next.items i b) (sym same) (subst (λ w. HasBit w b ↔ Path r.next.items x b) (sym own) (right b))
-      | inr ne ↦ subst (λ w. HasBit w b ↔ Path r.next.items a b) (sym (other a ne)) (whole.right a b (subst (λ w. 0 < length w) (other a ne) s))
-    ];
-  }
-
-  pub settled_own : length v.items ≡ r.width → 0 < r.width → IsSettled now x
-  settled_own wide some = inl (subst (λ w. 0 < length w) (sym own) (subst (λ n. 0 < n) (sym wide) some))
-
-  pub settled_others : length v.items ≡ r.width → 0 < r.width → (y : ℕ) → IsSettled r y → IsSettled now y
-  settled_others wide some y (inr e) = inr e
-  settled_others wide some y (inl s) = elim (cases_eq y x) [
-    | inl same ↦ subst (IsSettled now) (sym same) (settled_own wide some)
-    | inr ne ↦ inl (subst (λ w. 0 < length w) (sym (other y ne)) s)
-  ]
+  pub path_row : empty ≡ false → (b : ℕ) → HasBit xs b ↔ Path r.next.items a b
+  path_row off b = subst (λ w. HasBit w b ↔ Path r.next.items a b) (sym own)
+      (finished.whole.right a b (subst (λ w. 0 < length w) own (not_none xs empty told off)))
 
 -- where a ring leaves its vertex
 pub first_step : {Z : Type 0} (next : List (Vec ℕ Z)) (own : ℕ) → IsInRing next own → (w : ℕ) × Leads next own w × (w ≢ own) × Path next w own

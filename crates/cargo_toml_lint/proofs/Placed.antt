@@ -1,5 +1,5 @@
 -- The names in the places that pass, as a loop over places puts them into a set.
-use Rattle.std.proofs.Common.{◌≡◌, ◌↔◌, ◌||◌, ◌<◌, ◌+◌, ℕ, zero, suc, List, [], ◌∷◌, length, map, get_or, Bor, IsTrue, bytes_eq, arith, refl, sym, ap, subst, inl, inr, ◌∙◌}
+use Rattle.std.proofs.Common.{◌≡◌, ◌↔◌, ◌||◌, ◌<◌, ◌+◌, ℕ, zero, suc, List, [], ◌∷◌, length, map, get_or, Bor, IsTrue, bytes_eq, arith, sym, ap}
 use Rattle.std.proofs.lemmas.Bool.{cases_eq, false≢true, or_cases, or_left, or_right}
 use Rattle.std.proofs.lemmas.Slice.Eq.{bytes_eq-Decides}
 use Rattle.std.specs.BTreeSet.{BTreeSet}
@@ -14,42 +14,19 @@ text_at [] i t lt e = absurd (omega arith)
 text_at (x ∷ xs) zero t lt e = ap (λ (s : Bor Text). s.now) (sym e)
 text_at (x ∷ xs) (suc i) t lt e = text_at xs i t (omega arith) e
 
-pub text_get : (names : List (Bor Text)) (i : ℕ) (d : Bor Text) → i < length names → nth_text (map (λ t. t.now) names) i ≡ (get_or names i d).now
-text_get [] i d lt = absurd (omega arith)
-text_get (x ∷ xs) zero d lt = refl
-text_get (x ∷ xs) (suc i) d lt = text_get xs i d (omega arith)
-
 module _ (names : List Text) (P : ℕ → Type 0) where
   -- the set has the names in the places before i that pass
   abbrev pub SoFar : ℕ → BTreeSet (Bor Text) → Type 0
   SoFar i s = (f : Text) → IsTrue (set_has s f) ↔ ((a : ℕ) × (a < i) × (nth_text names a ≡ f) × P a)
 
   pub so_far_none : (s : BTreeSet (Bor Text)) → s.keys ≡ [] → SoFar 0 s
-  so_far_none s none f = (
-    λ h. absurd (false≢true (sym (none_in s none f) ∙ h)),
-    λ w. absurd (let lt = w.1 in omega (arith, lt)),
-  )
+  so_far_none s none f = grind (arith, false≢true, none_in)
 
   later : (f : Text) (i : ℕ) → ((a : ℕ) × (a < i) × (nth_text names a ≡ f) × P a) → (a : ℕ) × (a < i + 1) × (nth_text names a ≡ f) × P a
-  later f i w = let lt = w.1 in (w.0, omega (arith, lt), w.2, w.3)
+  later f i w = grind arith
 
   pub so_far_put : (i : ℕ) (s n : BTreeSet (Bor Text)) (key : Text) → nth_text names i ≡ key → P i → ((f : Text) → set_has n f ≡ (set_has s f || bytes_eq f key)) → SoFar i s → SoFar (i + 1) n
-  so_far_put i s n key at p put h f = (
-    λ e. elim (or_cases (set_has s f) (bytes_eq f key) (sym (put f) ∙ e)) [
-      | inl o ↦ later f i ((h f).0 o)
-      | inr b ↦ (i, omega arith, at ∙ sym ((bytes_eq-Decides f key).0 b), p)
-    ],
-    λ w. put f ∙ elim (cases_eq w.0 i) [
-      | inl same ↦ or_right (set_has s f) (bytes_eq f key) ((bytes_eq-Decides f key).1 (sym w.2 ∙ ap (nth_text names) same ∙ at))
-      | inr other ↦ let lt = w.1 in or_left (set_has s f) (bytes_eq f key) ((h f).1 (w.0, omega (arith, lt, other), w.2, w.3))
-    ],
-  )
+  so_far_put i s n key at p put h f = grind (arith, or_cases, later, bytes_eq-Decides, cases_eq, or_right, or_left)
 
   pub so_far_skip : (i : ℕ) (s : BTreeSet (Bor Text)) → (¬ P i) → SoFar i s → SoFar (i + 1) s
-  so_far_skip i s lacks h f = (
-    λ e. later f i ((h f).0 e),
-    λ w. elim (cases_eq w.0 i) [
-      | inl same ↦ absurd (lacks (subst P same w.3))
-      | inr other ↦ let lt = w.1 in (h f).1 (w.0, omega (arith, lt, other), w.2, w.3)
-    ],
-  )
+  so_far_skip i s lacks h f = grind (arith, later, cases_eq)

@@ -1,22 +1,22 @@
 -- Lists of numbers, and what is read of them.
-use Rattle.std.proofs.Common.{◌≡◌, ◌≢◌, ◌⊎◌, ◌↔◌, ◌<◌, ◌≤◌, ◌+◌, ◌==◌, ℕ, zero, suc, Bool, true, false, List, [], ◌∷◌, ◌++◌, take, drop, length, get_or, set, eqb, Vec, refl, sym, ap, subst, inl, inr, ◌∙◌, arith, add-one}
+use Rattle.std.proofs.Common.{◌≡◌, ◌⊎◌, ◌↔◌, ◌<◌, ◌≤◌, ◌+◌, ◌==◌, ℕ, zero, suc, Bool, true, false, List, [], ◌∷◌, ◌++◌, take, drop, length, get_or, eqb, Vec, refl, sym, ap, subst, inl, inr, arith, add-one}
 use Rattle.std.proofs.lemmas.Bool.{false≢true, ne_eqb, or_cases}
 use Rattle.std.proofs.lemmas.Bool.Decides.{Decides-eqb}
 use Rattle.std.specs.List.{AllByRecursion, IsDistinct, list_any}
 use Rattle.std.proofs.lemmas.Map.Steps.{length-le_from_distinct_below}
 use Rattle.cargo_toml.specs.Reach.{Among, IsOnce}
-use Rattle.cargo_toml_lint.specs.Reached.{row_items}
+use Rattle.cargo_toml_lint.specs.Bits.{words_of}
 
-pub among_first : (xs ys : List ℕ) (x : ℕ) → Among xs x → Among (xs ++ ys) x
+pub among_first : {X : Type 0} (xs ys : List X) (x : X) → Among xs x → Among (xs ++ ys) x
 among_first [] ys x i = absurd i
 among_first (z ∷ xs) ys x (inl i) = inl i
 among_first (z ∷ xs) ys x (inr i) = inr (among_first xs ys x i)
 
-pub among_last : (xs ys : List ℕ) (x : ℕ) → Among ys x → Among (xs ++ ys) x
+pub among_last : {X : Type 0} (xs ys : List X) (x : X) → Among ys x → Among (xs ++ ys) x
 among_last [] ys x i = i
 among_last (z ∷ xs) ys x i = inr (among_last xs ys x i)
 
-pub among_either : (xs ys : List ℕ) (x : ℕ) → Among (xs ++ ys) x → Among xs x ⊎ Among ys x
+pub among_either : {X : Type 0} (xs ys : List X) (x : X) → Among (xs ++ ys) x → Among xs x ⊎ Among ys x
 among_either [] ys x i = inr i
 among_either (z ∷ xs) ys x (inl i) = inl (inl i)
 among_either (z ∷ xs) ys x (inr i) = elim (among_either xs ys x i) [ inl j ↦ inl (inr j) | inr j ↦ inr j ]
@@ -106,48 +106,33 @@ read_at [] i d x lt e = absurd (omega arith)
 read_at (y ∷ ys) zero d x lt e = sym e
 read_at (y ∷ ys) (suc i) d x lt e = read_at ys i d x (omega arith) e
 
-pub row_read : {Z : Type 0} (rows : List (Vec ℕ Z)) (i : ℕ) (v : Vec ℕ Z) → i < length rows → v ≡ get_or rows i v → row_items rows i ≡ v.items
-row_read [] i v lt e = absurd (omega arith)
-row_read (y ∷ ys) zero v lt e = ap (λ w. w.items) (sym e)
-row_read (y ∷ ys) (suc i) v lt e = row_read ys i v (omega arith) e
+pub list_read : {Z : Type 0} (rows : List (Vec ℕ Z)) (i : ℕ) (v : Vec ℕ Z) → i < length rows → v ≡ get_or rows i v → words_of rows i ≡ v.items
+list_read [] i v lt e = absurd (omega arith)
+list_read (y ∷ ys) zero v lt e = ap (λ w. w.items) (sym e)
+list_read (y ∷ ys) (suc i) v lt e = list_read ys i v (omega arith) e
 
 -- a row without items is put at the end of such rows
-pub all_empty : {Z : Type 0} (rows : List (Vec ℕ Z)) (v : Vec ℕ Z) → v.items ≡ [] → ((a : ℕ) → row_items rows a ≡ []) → (a : ℕ) → row_items (rows ++ v ∷ []) a ≡ []
+pub all_empty : {Z : Type 0} (rows : List (Vec ℕ Z)) (v : Vec ℕ Z) → v.items ≡ [] → ((a : ℕ) → words_of rows a ≡ []) → (a : ℕ) → words_of (rows ++ v ∷ []) a ≡ []
 all_empty [] v none all zero = none
 all_empty [] v none all (suc a) = refl
 all_empty (y ∷ ys) v none all zero = all zero
 all_empty (y ∷ ys) v none all (suc a) = all_empty ys v none (λ b. all (suc b)) a
 
 -- a row past the end is empty
-pub has_row : {Z : Type 0} (rows : List (Vec ℕ Z)) (a b : ℕ) → Among (row_items rows a) b → a < length rows
+pub has_row : {Z : Type 0} (rows : List (Vec ℕ Z)) (a b : ℕ) → Among (words_of rows a) b → a < length rows
 has_row [] a b i = absurd i
 has_row (y ∷ rows) zero b i = omega arith
 has_row (y ∷ rows) (suc a) b i = let lt = has_row rows a b i in omega (arith, lt)
 
 -- a list that isn't said to be empty has something
 pub not_none : {X : Type 0} (xs : List X) (b : Bool) → b ≡ (length xs == 0) → b ≡ false → 0 < length xs
-not_none [] b is off = absurd (false≢true (sym off ∙ is))
-not_none (x ∷ xs) b is off = omega arith
+not_none xs b is off = grind (arith, Decides-eqb)
 
 -- and one that is has nothing
 pub is_none : {X : Type 0} (xs : List X) (b : Bool) → b ≡ (length xs == 0) → b ≡ true → length xs ≡ 0
-is_none [] b is on = refl
-is_none (x ∷ xs) b is on = absurd (false≢true (sym (is ∙ ne_eqb (length (x ∷ xs)) 0 (λ e. absurd (omega (arith, e)))) ∙ on))
+is_none xs b is on = grind (arith, Decides-eqb)
 
 -- a list without elements has none
 pub nothing : (xs : List ℕ) → length xs ≡ 0 → (y : ℕ) → ¬ Among xs y
 nothing [] none y i = i
 nothing (x ∷ xs) none y i = absurd (omega (arith, none))
-
--- a row that is put in the place of another, and the others
-pub row_set : {Z : Type 0} (rows : List (Vec ℕ Z)) (x : ℕ) (v : Vec ℕ Z) → x < length rows → row_items (set rows x v) x ≡ v.items
-row_set [] x v lt = absurd (omega arith)
-row_set (y ∷ ys) zero v lt = refl
-row_set (y ∷ ys) (suc x) v lt = row_set ys x v (omega arith)
-
-pub row_unset : {Z : Type 0} (rows : List (Vec ℕ Z)) (x a : ℕ) (v : Vec ℕ Z) → a ≢ x → row_items (set rows x v) a ≡ row_items rows a
-row_unset [] x a v ne = refl
-row_unset (y ∷ ys) zero zero v ne = absurd (ne refl)
-row_unset (y ∷ ys) zero (suc a) v ne = refl
-row_unset (y ∷ ys) (suc x) zero v ne = refl
-row_unset (y ∷ ys) (suc x) (suc a) v ne = row_unset ys x a v (λ e. ne (ap suc e))

@@ -87,5 +87,4 @@ module _ {eq : Finding → Finding → Bool} (ties : (x y : Finding) → eq x y 
   )
 
   pub new_sorted : IsSorted cmp sorted → IsStrictlySortedBy cmp new
-  new_sorted up = subst (IsStrictlySortedBy cmp) (sym new_is)
-      (IsStrictlySortedBy-dedup laws.total-law ties sorted up)
+  new_sorted up = grind (arith, IsStrictlySortedBy-dedup laws.total-law, new_is)

@@ -1,42 +1,22 @@
 -- Bits of words.
-use Rattle.std.proofs.Common.{◌≡◌, ◌≢◌, ◌↔◌, ◌⊎◌, ◌<◌, ◌≤◌, ◌*◌, ◌/◌, ◌%◌, ◌^◌, ℕ, List, length, get_or, replicate, set, max, sym, ap, subst, inl, inr, ◌∙◌, arith, w64}
+use Rattle.std.proofs.Common.{◌≡◌, ◌≢◌, ◌↔◌, ◌⊎◌, ◌<◌, ◌≤◌, ◌*◌, ◌/◌, ◌%◌, ◌^◌, ℕ, List, length, get_or, set, max, sym, ap, subst, inl, inr, ◌∙◌, arith, w64}
 use Rattle.std.specs.Prelude.{bit_or}
 use Rattle.std.specs.Int.{bit_at}
 use Rattle.std.proofs.lemmas.Bool.{cases_lt, cases_eq}
-use Rattle.std.proofs.lemmas.List.{get_or_past, get_or-replicate, get_or-set_same, get_or-set_other, length-replicate}
+use Rattle.std.proofs.lemmas.List.{get_or_past, get_or-set_same, get_or-set_other}
 use Rattle.std.proofs.lemmas.Nat.Bits.{bit_at_or, bit_at-zero, bit_at-lt, bit_at_set_same, bit_at_set_other}
 use Rattle.cargo_toml_lint.specs.Bits.{HasBit}
 use Rattle.cargo_toml_lint.proofs.Rows.{read_at}
 
 -- past the last word there is no bit
 pub no_bit_past : (words : List ℕ) (x : ℕ) → length words ≤ x / 64 → ¬ HasBit words x
-no_bit_past words x past h =
-    let none : bit_at (get_or words (x / 64) 0) (x % 64) ≡ 0 = ap (λ w. bit_at w (x % 64)) (get_or_past words (x / 64) 0 past) ∙ bit_at-zero (x % 64) in
-    let one = h.stands in
-    absurd (omega (arith, none, one))
-
--- nor among words that are none
-pub no_bit : (n : ℕ) (words : List ℕ) (x : ℕ) → words ≡ replicate n 0 → ¬ HasBit words x
-no_bit n words x are h =
-    let none : get_or (replicate n 0) (x / 64) 0 ≡ 0 = elim (cases_lt (x / 64) n) [
-      | inl lt ↦ get_or-replicate n (x / 64) 0 0 lt
-      | inr le ↦ get_or_past (replicate n 0) (x / 64) 0 (let l = length-replicate {A = ℕ} n 0 in omega (arith, l, le))
-    ] in
-    let zero : bit_at (get_or words (x / 64) 0) (x % 64) ≡ 0 = ap (λ w. bit_at (get_or w (x / 64) 0) (x % 64)) are ∙ ap (λ w. bit_at w (x % 64)) none ∙ bit_at-zero (x % 64) in
-    let one = h.stands in
-    absurd (omega (arith, zero, one))
+no_bit_past words x past h = grind (arith, get_or_past, bit_at-zero)
 
 either_one : (p q : ℕ) → p < 2 → q < 2 → (max p q ≡ 1) ↔ ((p ≡ 1) ⊎ (q ≡ 1))
-either_one p q lp lq = (
-  λ m. elim (cases_eq p 1) [ inl e ↦ inl e | inr ne ↦ inr (omega arith) ],
-  elim [ inl e ↦ omega arith | inr e ↦ omega arith ],
-)
+either_one p q lp lq = grind (arith, cases_eq)
 
 word_joined : (u v w i : ℕ) → w ≡ bit_or u v → (bit_at w i ≡ 1) ↔ ((bit_at u i ≡ 1) ⊎ (bit_at v i ≡ 1))
-word_joined u v w i e =
-    let both : bit_at w i ≡ max (bit_at u i) (bit_at v i) = ap (λ z. bit_at z i) e ∙ bit_at_or u v i in
-    let either = either_one (bit_at u i) (bit_at v i) (bit_at-lt u i) (bit_at-lt v i) in
-    (λ h. either.0 (sym both ∙ h), λ h. both ∙ either.1 h)
+word_joined u v w i e = grind (arith, bit_at_or, either_one, bit_at-lt)
 
 -- word by word
 pub joined_bits : (old new other : List ℕ) (n : ℕ) → length other ≤ n
@@ -62,10 +42,10 @@ module _ (words : List ℕ) (x : ℕ) (inside : x / 64 < length words) where
   word_with = bit_or (get_or words (x / 64) 0) (1 * 2 ^ (x % 64) % 2 ^ 64)
 
   at_word : (y : ℕ) → y / 64 ≡ x / 64 → bit_at (get_or (set words (x / 64) word_with) (y / 64) 0) (y % 64) ≡ bit_at word_with (y % 64)
-  at_word y e = ap (λ z. bit_at (get_or (set words (x / 64) word_with) z 0) (y % 64)) e ∙ ap (λ w. bit_at w (y % 64)) (get_or-set_same words (x / 64) word_with 0 inside)
+  at_word y e = grind (arith, get_or-set_same)
 
   at_other : (y : ℕ) → y / 64 ≢ x / 64 → bit_at (get_or (set words (x / 64) word_with) (y / 64) 0) (y % 64) ≡ bit_at (get_or words (y / 64) 0) (y % 64)
-  at_other y ne = ap (λ w. bit_at w (y % 64)) (get_or-set_other words (x / 64) (y / 64) word_with 0 ne)
+  at_other y ne = grind (arith, get_or-set_other)
 
   within : x % 64 < 64
   within = omega arith

@@ -1,14 +1,16 @@
 -- Features by the places of their names.
-use Rattle.std.specs.Prelude.{◌≡◌, ◌≢◌, ◌↔◌, ◌<◌, ℕ, Bool, List, IsFalse, IsTrue, bytes_eq, codes}
+use Rattle.std.specs.Prelude.{◌≡◌, ◌≢◌, ◌↔◌, ◌<◌, ℕ, Bool, List, true, false, IsFalse, IsTrue, bytes_eq, codes}
 use Rattle.std.specs.Prelude.{if◌then◌else◌, length, map, not}
 use Rattle.cargo_toml.specs.Action.{Text}
 use Rattle.cargo_toml.specs.Ascending.{Ascend}
 use Rattle.cargo_toml.specs.Graph.{Table}
 use Rattle.cargo_toml.specs.Reach.{Among}
 use Rattle.cargo_toml_features.specs.Places.{nth_text}
+use Rattle.cargo_toml_lint.specs.Bits.{HasBit}
 use Rattle.cargo_toml_lint.specs.Findings.{is_hidden}
-use Rattle.cargo_toml_lint.specs.Reached.{IsFinished, Leads, Path}
+use Rattle.cargo_toml_lint.specs.Reached.{IsFinished, IsFlagged, Leads, Path}
 use Rattle.cargo_toml_lint.specs.declared.linking.Links.{Links}
+use Rattle.cargo_toml_lint.specs.declared.walks.Walks.{Walks}
 
 abbrev pub names_of : Links → List Text
 names_of l = map (λ t. t.now) l.names.items
@@ -38,6 +40,21 @@ pub record AreLinks (t : Table) (l : Links) : Type 0 where
 abbrev pub is_default : Bool → Text → Bool
 is_default wanted f =
     if wanted then bytes_eq f (codes "default") else not (bytes_eq f (codes "default"))
+
+-- what features lead to, by the bits of places
+pub record AreWalks (l : Links) (w : Walks) : Type 0 where
+  pub wide : length w.reached.items ≡ l.reach.width
+  pub wide_default : length w.by_default.items ≡ l.reach.width
+  pub wide_others : length w.by_others.items ≡ l.reach.width
+  pub reached : (b : ℕ) → HasBit w.reached.items b
+      ↔ ((a : ℕ) × IsFlagged (map (λ t. not (is_hidden t.now)) l.names.items) a
+      × Path l.reach.next.items a b)
+  pub by_default : (b : ℕ) → HasBit w.by_default.items b
+      ↔ ((a : ℕ) × IsFlagged (map (λ t. is_default true t.now) l.names.items) a
+      × (b ≢ a) × Leads l.reach.next.items a b)
+  pub by_others : (b : ℕ) → HasBit w.by_others.items b
+      ↔ ((a : ℕ) × IsFlagged (map (λ t. is_default false t.now) l.names.items) a
+      × (b ≢ a) × Leads l.reach.next.items a b)
 
 -- the feature in place a is hidden, and none that isn't leads to it
 pub record IsLeftAlone (l : Links) (a : ℕ) : Type 0 where

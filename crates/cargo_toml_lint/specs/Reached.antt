@@ -1,20 +1,14 @@
 -- What numbered vertices lead to, and how that is found.
 use Rattle.std.specs.Prelude.{◌≡◌, ◌≢◌, ◌↔◌, ◌⊎◌, ◌<◌, ◌≤◌, ◌*◌, ◌++◌, ℕ, Bool, true, false, List}
-use Rattle.std.specs.Prelude.{[], length}
-use Rattle.std.specs.Prelude.{slice_get, Vec}
+use Rattle.std.specs.Prelude.{length, Vec}
 use Rattle.std.specs.List.{slice_index_or}
-use Rattle.std.specs.Option.{option_map_or}
 use Rattle.cargo_toml.specs.Reach.{Among, Gathers, IsOnce}
-use Rattle.cargo_toml_lint.specs.Bits.{HasBit}
+use Rattle.cargo_toml_lint.specs.Bits.{HasBit, words_of}
 use Rattle.cargo_toml_lint.specs.declared.reach.Reach.{Reach}
-
--- the list of the vertex a, empty past the end
-abbrev pub row_items : {Z : Type 0} → List (Vec ℕ Z) → ℕ → List ℕ
-row_items lists a = option_map_or (λ v. v.items) (slice_get lists a) []
 
 -- an edge leads from a to b
 abbrev pub Leads : {Z : Type 0} → List (Vec ℕ Z) → ℕ → ℕ → Type 0
-Leads lists a b = Among (row_items lists a) b
+Leads lists a b = Among (words_of lists a) b
 
 -- b is a, or edges lead there
 abbrev pub Path : {Z : Type 0} → List (Vec ℕ Z) → ℕ → ℕ → Type 0
@@ -29,20 +23,21 @@ IsFlagged flags a = slice_index_or flags a false ≡ true
 
 -- the row of a has words
 abbrev pub Stands : Reach → ℕ → Type 0
-Stands r a = 0 < length (row_items r.rows.items a)
+Stands r a = 0 < length (words_of r.rows.items a)
 
 -- edges lead to vertices, and each row that stands has all that its vertex leads to
 pub record IsWhole (r : Reach) : Type 0 where
   pub len : length r.rows.items ≡ length r.next.items
   pub inside : (a b : ℕ) → Leads r.next.items a b → b < length r.next.items
   pub fits : length r.next.items ≤ 64 * r.width
-  pub wide : (a : ℕ) → Stands r a → length (row_items r.rows.items a) ≡ r.width
+  pub some : 0 < r.width
+  pub wide : (a : ℕ) → Stands r a → length (words_of r.rows.items a) ≡ r.width
   pub right : (a b : ℕ) → Stands r a
-      → HasBit (row_items r.rows.items a) b ↔ Path r.next.items a b
+      → HasBit (words_of r.rows.items a) b ↔ Path r.next.items a b
 
 -- the row of a stands, or no edge leads from a
 abbrev pub IsSettled : Reach → ℕ → Type 0
-IsSettled r a = Stands r a ⊎ (length (row_items r.next.items a) ≡ 0)
+IsSettled r a = Stands r a ⊎ (length (words_of r.next.items a) ≡ 0)
 
 -- all is found
 pub record IsFinished (r : Reach) : Type 0 where

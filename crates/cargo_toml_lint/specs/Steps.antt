@@ -25,10 +25,6 @@ use Rattle.cargo_toml_lint.specs.declared.linking.Links.{Links}
 pub record Finds (xs : List About) (old new : List Finding) : Type 0 where
   pub are : map about new ≡ map about old ++ xs
 
--- those of a code for each name
-abbrev pub named : Code → List (Bor Text) → List About
-named c names = flat_map (λ k. told k.now [] (Some c)) names
-
 module _ {S : Type 0} (m : HashMap (Bor Text) Feature S) where
   abbrev pub explicit_at : Text → Bool
   explicit_at f = option_map_or (λ v. v.explicit) (value_at m f) false
@@ -39,20 +35,27 @@ module _ {S : Type 0} (m : HashMap (Bor Text) Feature S) where
   abbrev pub private_at : Text → Bool
   private_at f = option_map_or (λ v. not v.public) (value_at m f) false
 
+  -- what is found of a listed feature
+  abbrev pub listed_findings : Known → ℕ → Text × List Text → List About
+  listed_findings known limit e =
+      feature_findings (held_names known) (nat_lt limit (length e.1) || not (explicit_at e.0)) e.0 e.1
+
   -- what is found of what is written, by the names that are gathered
   abbrev pub written_in : {M : Type 0} → Known → ℕ → ManifestMeaning M → List About
   written_in known limit manifest =
-      flat_map (λ e. feature_findings (held_names known)
-      (nat_lt limit (length e.1) || not (explicit_at e.0)) e.0 e.1) (listed_by known)
+      flat_map (listed_findings known limit) (listed_by known)
       ++ (flat_map (λ e. told e.0 [] (Some FeatureTable)) manifest.feature_details
       ++ (tables_findings limit manifest ++ products_findings (held_names known) manifest))
 
-  -- what holds of f among the features of the map, by these links
+  -- what holds of the feature in place a of these links
+  abbrev pub CountsAt : Links → Code → ℕ → Type 0
+  CountsAt l Implied a = IsTrue (implied_at (name_at l a))
+  CountsAt l PrivateDefault a =
+      IsTrue (is_hidden (name_at l a) || private_at (name_at l a)) × IsOfDefault l a
+  CountsAt l Cycle a = IsInRing l.reach.next.items a
+  CountsAt l Unreachable a = IsLeftAlone l a
+  CountsAt l _ a = ⊥
+
+  -- what holds of f among the features of the map
   abbrev pub CountsIn : Links → Code → Text → Type 0
-  CountsIn l Implied f = IsTrue (implied_at f)
-  CountsIn l PrivateDefault f =
-      IsIn l (λ a. IsTrue (is_hidden (name_at l a) || private_at (name_at l a))
-      × IsOfDefault l a) f
-  CountsIn l Cycle f = IsIn l (IsInRing l.reach.next.items) f
-  CountsIn l Unreachable f = IsIn l (IsLeftAlone l) f
-  CountsIn l _ f = ⊥
+  CountsIn l c f = IsIn l (CountsAt l c) f

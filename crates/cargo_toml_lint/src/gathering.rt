@@ -1,16 +1,17 @@
 //! What is found of features as they are written, and of targets that require some.
-ghost use Rattle.std.specs.Prelude.{◌≡◌, ◌||◌, [], Some, OnOk, length, map, nat_lt, not};
-ghost use Rattle.std.specs.Prelude.{string_bytes, unwrap_or};
+ghost use Rattle.std.specs.Prelude.{◌≡◌, [], Option, Some, OnOk, map, string_bytes, unwrap_or};
+ghost use Rattle.std.specs.Fn.{FnReturnsAt};
 ghost use Rattle.std.specs.List.{flat_map};
+ghost use Rattle.cargo_toml.specs.Action.{Text};
 ghost use Rattle.cargo_toml.specs.Details.{detail_of};
 ghost use Rattle.cargo_toml.specs.Manifests.{held};
 ghost use Rattle.cargo_toml.specs.Products.{product_meaning};
 ghost use Rattle.cargo_toml.specs.Reads.{map_meaning};
-ghost use Rattle.cargo_toml_lint.specs.Findings.{feature_findings, list_findings};
-ghost use Rattle.cargo_toml_lint.specs.Findings.{product_findings, products_findings};
-ghost use Rattle.cargo_toml_lint.specs.Findings.{required_findings, told, when};
+ghost use Rattle.cargo_toml_lint.specs.Findings.{feature_findings};
+ghost use Rattle.cargo_toml_lint.specs.Findings.{product_findings, products_findings, told, when};
 ghost use Rattle.cargo_toml_lint.specs.Names.{held_names, listed_by};
-ghost use Rattle.cargo_toml_lint.specs.Steps.{Finds, explicit_at, named};
+ghost use Rattle.cargo_toml_lint.specs.Steps.{Finds, listed_findings};
+ghost use Rattle.cargo_toml_lint.specs.declared.finding.Code.{Code};
 ghost use Rattle.cargo_toml_lint.specs.declared.finding.Code.TheVariants.{FeatureTable};
 
 use crate::faults::{is_over, is_same_name, required_fault, text_fault};
@@ -20,7 +21,6 @@ use crate::known::Known;
 use crate::names::is_feature_name;
 use cargo_toml::{FeatureDetails, Manifest, Product};
 use std::alloc::AllocError;
-use std::collections::BTreeSet;
 use std::hash::BuildHasher;
 
 /// Adds a finding of the code, if there is one.
@@ -63,19 +63,22 @@ pub(crate) fn add_if<'m>(
     }
 }
 
-// Adds what is found of the texts of a feature's list.
-fn add_texts<'m>(
+/// Adds what is found of each of the texts that stand under a name.
+pub(crate) fn add_texts<'m, F: Fn(&str) -> Option<Code>>(
     found: &mut Vec<Finding<'m>>,
-    known: &Known<'m>,
-    feature: &'m str,
+    name: &'m str,
     texts: &'m [String],
+    fault: F,
 ) -> Result<(), AllocError>
-    ensures { OnOk result (Finds (list_findings (held_names known.now) feature.now
-        (map string_bytes texts.now)) found.old.items found.new.items) }
+    requires { F.IsAlwaysCallable fault }
+    ensures { OnOk result ((of : Text → Option Code)
+        → ((t : Text) (r : Option Code) → FnReturnsAt F.Fn fault t r → r ≡ of t)
+        → Finds (flat_map (λ t. told name.now t (of t)) (map string_bytes texts.now))
+        found.old.items found.new.items) }
 {
     for text in texts {
         let text = text.as_str();
-        add(found, text_fault(known, feature, text), feature, text)?;
+        add(found, fault(text), name, text)?;
     }
     Ok(())
 }
@@ -94,7 +97,7 @@ fn add_feature<'m>(
     add_if(found, !is_feature_name(name), Code::BadName, name)?;
     add_if(found, is_same_name(known, name), Code::SameName, name)?;
     add_if(found, is_over, Code::OverLimit, name)?;
-    add_texts(found, known, name, texts)
+    add_texts(found, name, texts, |text| text_fault(known, name, text))
 }
 
 /// Adds what is found of each listed feature.
@@ -104,8 +107,7 @@ pub(crate) fn add_features<'m, S: BuildHasher>(
     features: &FeatureMap<'m, S>,
     limit: usize,
 ) -> Result<(), AllocError>
-    ensures { OnOk result (Finds (flat_map (λ e. feature_findings (held_names known.now)
-        (nat_lt limit (length e.1) || not (explicit_at features.now e.0)) e.0 e.1)
+    ensures { OnOk result (Finds (flat_map (listed_findings features.now known.now limit)
         (listed_by known.now)) found.old.items found.new.items) }
 {
     for (name, texts) in known.features {
@@ -131,23 +133,6 @@ pub(crate) fn add_details<'m>(
     Ok(())
 }
 
-// Adds what is found of the texts that a target of this name requires.
-fn add_required<'m>(
-    found: &mut Vec<Finding<'m>>,
-    known: &Known<'m>,
-    name: &'m str,
-    texts: &'m [String],
-) -> Result<(), AllocError>
-    ensures { OnOk result (Finds (required_findings (held_names known.now) name.now
-        (map string_bytes texts.now)) found.old.items found.new.items) }
-{
-    for text in texts {
-        let text = text.as_str();
-        add(found, required_fault(known, text), name, text)?;
-    }
-    Ok(())
-}
-
 // The name of a target, empty where it has none.
 fn name_of(product: &Product) -> &str
     ensures { result.now ≡ unwrap_or (product_meaning product.now).name [] }
@@ -169,7 +154,12 @@ fn add_some<'m>(
 {
     for product in products {
         let texts = product.required_features.as_slice();
-        add_required(found, known, name_of(product), texts)?;
+        add_texts(
+            found,
+            name_of(product),
+            texts,
+            |text| required_fault(known, text),
+        )?;
     }
     Ok(())
 }
@@ -187,18 +177,4 @@ pub(crate) fn add_products<'m, M>(
     add_some(found, known, manifest.example.as_slice())?;
     add_some(found, known, manifest.test.as_slice())?;
     add_some(found, known, manifest.bench.as_slice())
-}
-
-/// Adds a finding of the code for each name.
-pub(crate) fn add_names<'m>(
-    found: &mut Vec<Finding<'m>>,
-    code: Code,
-    names: &BTreeSet<&'m str>,
-) -> Result<(), AllocError>
-    ensures { OnOk result (Finds (named code names.now.keys) found.old.items found.new.items) }
-{
-    for name in names {
-        add(found, Some(code), *name, "")?;
-    }
-    Ok(())
 }

@@ -10,11 +10,10 @@ ghost use Rattle.cargo_toml.specs.Reach.{Among};
 ghost use Rattle.cargo_toml.specs.Recursive.{Enables};
 ghost use Rattle.cargo_toml.specs.Views.{set_has, table_in};
 ghost use Rattle.cargo_toml_features.specs.Places.{nth_text};
-ghost use Rattle.cargo_toml_lint.specs.Turning.{says};
+ghost use Rattle.cargo_toml_lint.specs.Turning.{says, turned, turning, turning_by, turns_to};
 ghost use Rattle.cargo_toml_lint.specs.Linked.{AreFound, AreLinks, IsIn};
 ghost use Rattle.cargo_toml_lint.specs.Names.{held_names, listed_by};
 ghost use Rattle.cargo_toml_lint.specs.Reached.{Leads, Path};
-ghost use Rattle.cargo_toml_lint.specs.Turning.{turned, turning, turning_by, turns_to};
 
 use crate::graph::FeatureMap;
 use crate::known::{Known, known_names};

@@ -7,7 +7,7 @@ ghost use Rattle.cargo_toml.specs.Limits.{MAX_ITEMS};
 ghost use Rattle.cargo_toml.specs.Manifests.{held};
 ghost use Rattle.cargo_toml.specs.Parsed.{IsParsed};
 ghost use Rattle.cargo_toml.specs.Reach.{Among};
-ghost use Rattle.cargo_toml.specs.Views.{answer_of, set_has, table_in};
+ghost use Rattle.cargo_toml.specs.Views.{answer_of, table_in};
 ghost use Rattle.cargo_toml_lint.specs.declared.finding.Code.{Code};
 ghost use Rattle.cargo_toml_lint.specs.Findings.{HoldsOf, IsFound};
 ghost use Rattle.cargo_toml_lint.specs.Steps.{CountsIn, Finds, written_in};
@@ -16,19 +16,17 @@ ghost use Rattle.cargo_toml_lint.specs.Names.{held_names, listed_by};
 ghost use Rattle.cargo_toml_lint.specs.Turning.{turning_by};
 ghost use Rattle.cargo_toml_lint.specs.declared.linking.Links.{Links};
 
-use crate::finding::{Code, Finding};
-use crate::gathering::{add_details, add_features, add_names, add_products};
-use crate::graph::{FeatureMap, is_implied, those};
+use crate::finding::Finding;
+use crate::gathering::{add_details, add_features, add_products};
+use crate::graph::FeatureMap;
 use crate::known::{Known, known_names};
 use crate::linking::{Links, links_of};
 use crate::tables::add_tables;
-use crate::walks::{cyclic, private_default, unreachable};
+use crate::walks::{add_place, walks_of};
 use cargo_toml::features::{Features, Resolver};
 use cargo_toml::{Error, Manifest};
 use cargo_toml_features::admit::MAX_ITEMS;
-use cargo_toml_features::texts::keys_in_order;
 use std::alloc::{AllocError, Global};
-use std::collections::BTreeSet;
 use std::hash::BuildHasher;
 
 fn keep_every(_name: &str) -> bool
@@ -75,24 +73,18 @@ fn add_written<'m, M, S: BuildHasher>(
 // Adds what is found of the features that count, and of what they turn on.
 fn add_counting<'m, S: BuildHasher>(
     found: &mut Vec<Finding<'m>>,
-    names: &BTreeSet<&'m str>,
     links: &Links<'m>,
     features: &FeatureMap<'m, S>,
 ) -> Result<(), AllocError>
-    requires found { AreFound links.now }
-    requires names { (f : Text) → set_has names.now f ≡ (table_in features.now).has f }
+    requires { AreFound links.now }
     ensures { OnOk result ((c : Code) (f t : Text) → IsFound found.new.items c f t
         ↔ (IsFound found.old.items c f t ⊎ ((t ≡ []) × CountsIn features.now links.now c f))) }
 {
-    let alloc = *found.allocator();
-    let implied = those(alloc, names, |name| is_implied(features, name))?;
-    add_names(found, Code::Implied, &implied)?;
-    let private_default = private_default(alloc, links, features)?;
-    add_names(found, Code::PrivateDefault, &private_default)?;
-    let cyclic = cyclic(alloc, links)?;
-    add_names(found, Code::Cycle, &cyclic)?;
-    let unreachable = unreachable(alloc, links)?;
-    add_names(found, Code::Unreachable, &unreachable)
+    let walks = walks_of(*found.allocator(), links)?;
+    for place in 0..links.names.len() {
+        add_place(found, links, &walks, features, place)?;
+    }
+    Ok(())
 }
 
 // The findings in their order, each once.
@@ -123,11 +115,10 @@ fn found_in<'m, M, S: BuildHasher>(
     ensures in_order { IfOk result
         (λ v. IsStrictlySortedBy ⟦<Finding<'m> as Ord>⟧.cmp v.items) }
 {
-    let names = keys_in_order(alloc, features)?;
     let links = links_of(alloc, known, features)?;
     let mut found = Vec::new(alloc);
     add_written(&mut found, known, features, manifest, limit)?;
-    add_counting(&mut found, &names, &links, features)?;
+    add_counting(&mut found, &links, features)?;
     Ok(in_order(found))
 }
 

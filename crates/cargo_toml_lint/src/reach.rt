@@ -85,10 +85,8 @@ fn row_of(alloc: Global, reach: &Reach, start: usize) -> Result<Vec<u64>, AllocE
 fn settle(alloc: Global, reach: &mut Reach, x: usize) -> Result<(), AllocError>
     requires whole { IsWhole reach.old }
     requires inside { x < length reach.old.next.items }
-    requires some { 0 < reach.old.width }
     ensures whole { OnOk result (IsWhole reach.new) }
     ensures next { reach.new.next ≡ reach.old.next }
-    ensures width { reach.new.width ≡ reach.old.width }
     ensures own { OnOk result (IsSettled reach.new x) }
     ensures others { OnOk result
         ((y : ℕ) → IsSettled reach.old y → IsSettled reach.new y) }
@@ -105,7 +103,6 @@ fn unsettled(alloc: Global, next: Vec<Vec<usize>>) -> Result<Reach, AllocError>
     requires { (a b : ℕ) → Leads next.items a b → b < length next.items }
     ensures whole { IfOk result IsWhole }
     ensures next { IfOk result (λ r. r.next ≡ next) }
-    ensures some { IfOk result (λ r. 0 < r.width) }
 {
     let count = next.len();
     let mut rows = Vec::with_capacity(alloc, count)?;
@@ -119,25 +116,15 @@ fn unsettled(alloc: Global, next: Vec<Vec<usize>>) -> Result<Reach, AllocError>
     })
 }
 
-// How many steps a search in depth takes at most: one for each edge, and one for each end.
-fn most_steps(next: &[Vec<usize>]) -> usize {
-    let mut count = next.len();
-    for row in next {
-        count = count.saturating_add(row.len());
-    }
-    count
-}
-
 // The vertices as a search in depth ends with them: each behind those that it leads to, but for
 // rings. It decides speed alone, so no clause says what it is.
 fn by_ends(alloc: Global, next: &[Vec<usize>]) -> Result<Vec<usize>, AllocError> {
     let mut order = Vec::with_capacity(alloc, next.len())?;
     let mut is_met = Vec::from_elem(alloc, false, next.len())?;
     let mut open = Vec::new(alloc);
-    let steps = most_steps(next);
     for root in 0..next.len() {
         open_if_new(&mut open, &mut is_met, root)?;
-        for _ in 0..steps {
+        for _ in 0..u64::MAX {
             let Some((at, place)) = open.pop() else {
                 break;
             };
@@ -194,20 +181,6 @@ pub fn reach_all(alloc: Global, next: Vec<Vec<usize>>) -> Result<Reach, AllocErr
         settle(alloc, &mut reach, own)?;
     }
     Ok(reach)
-}
-
-// Sets the bits of the targets that are others.
-fn set_others(bits: &mut Vec<u64>, targets: &[usize], own: usize)
-    requires { (y : ℕ) → Among targets.now y → y < 64 * length bits.old.items }
-    ensures len { length bits.new.items ≡ length bits.old.items }
-    ensures bits { (y : ℕ) → HasBit bits.new.items y
-        ↔ (HasBit bits.old.items y ⊎ (Among targets.now y × (y ≢ own))) }
-{
-    for x in targets {
-        if *x != own {
-            set_bit(bits, *x);
-        }
-    }
 }
 
 impl Reach {
@@ -286,9 +259,26 @@ impl Reach {
         let mut bits = Vec::from_elem(alloc, 0, self.width)?;
         for a in 0..flags.len() {
             if flags[a] {
-                set_others(&mut bits, self.next[a].as_slice(), a);
+                self.add_named(&mut bits, a);
             }
         }
         Ok(bits)
+    }
+
+    // Sets the bits of the others to which a vertex leads at once.
+    fn add_named(&self, bits: &mut Vec<u64>, a: usize)
+        requires finished { IsFinished self.now }
+        requires inside { a < length self.now.next.items }
+        requires wide { length bits.old.items ≡ self.now.width }
+        ensures len { length bits.new.items ≡ length bits.old.items }
+        ensures bits { (b : ℕ) → HasBit bits.new.items b
+            ↔ (HasBit bits.old.items b ⊎ ((b ≢ a) × Leads self.now.next.items a b)) }
+    {
+        let targets = self.next[a].as_slice();
+        for x in targets {
+            if *x != a {
+                set_bit(bits, *x);
+            }
+        }
     }
 }

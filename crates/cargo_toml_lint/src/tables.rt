@@ -1,35 +1,19 @@
 //! What is found of tables of dependencies.
-ghost use Rattle.std.specs.Prelude.{OnOk, map, string_bytes};
+ghost use Rattle.std.specs.Prelude.{OnOk};
 ghost use Rattle.std.specs.List.{flat_map};
 ghost use Rattle.cargo_toml.specs.Dependencies.{dependency_meaning};
 ghost use Rattle.cargo_toml.specs.Manifests.{held};
 ghost use Rattle.cargo_toml.specs.Reads.{map_meaning};
 ghost use Rattle.cargo_toml.specs.Targets.{target_meaning};
-ghost use Rattle.cargo_toml_lint.specs.Findings.{entry_findings, request_findings};
+ghost use Rattle.cargo_toml_lint.specs.Findings.{entry_findings};
 ghost use Rattle.cargo_toml_lint.specs.Findings.{table_findings, tables_findings, target_findings};
 ghost use Rattle.cargo_toml_lint.specs.Steps.{Finds};
 
 use crate::faults::request_fault;
 use crate::finding::{Code, Finding};
-use crate::gathering::{add, add_if};
+use crate::gathering::{add_if, add_texts};
 use cargo_toml::{Dependency, DepsSet, Manifest, Target, TargetDepsSet};
 use std::alloc::AllocError;
-
-// Adds what is found of the features that are asked for of a dependency.
-fn add_requests<'m>(
-    found: &mut Vec<Finding<'m>>,
-    key: &'m str,
-    asked: &'m [String],
-) -> Result<(), AllocError>
-    ensures { OnOk result (Finds (request_findings key.now (map string_bytes asked.now))
-        found.old.items found.new.items) }
-{
-    for text in asked {
-        let text = text.as_str();
-        add(found, request_fault(text), key, text)?;
-    }
-    Ok(())
-}
 
 // Adds what is found of an entry, which may be of dev-dependencies, or beyond the limit.
 fn add_entry<'m>(
@@ -45,7 +29,12 @@ fn add_entry<'m>(
     let is_refused = is_dev & dependency.optional();
     add_if(found, is_refused, Code::OptionalDev, key)?;
     add_if(found, is_over, Code::OverLimit, key)?;
-    add_requests(found, key, dependency.req_features())
+    add_texts(
+        found,
+        key,
+        dependency.req_features(),
+        |text| request_fault(text),
+    )
 }
 
 // Adds what is found of a table, of which as many entries count as the limit says.

@@ -1,35 +1,20 @@
 //! What is found of features that turn on one another.
-ghost use Rattle.std.specs.Prelude.{◌≡◌, ◌<◌, ◌*◌, ◌↔◌, ◌||◌, IfOk, IsTrue, length, map, not};
+ghost use Rattle.std.specs.Prelude.{◌≡◌, ◌<◌, ◌*◌, ◌↔◌, ◌||◌, ◌⊎◌, [], IfOk, IsTrue, OnOk};
+ghost use Rattle.std.specs.Prelude.{length, map, not};
 ghost use Rattle.cargo_toml.specs.Action.{Text};
-ghost use Rattle.cargo_toml.specs.Views.{set_has};
 ghost use Rattle.cargo_toml_lint.specs.Bits.{HasBit};
-ghost use Rattle.cargo_toml_lint.specs.Findings.{is_hidden};
-ghost use Rattle.cargo_toml_lint.specs.Linked.{AreFound, IsIn, IsLeftAlone, IsOfDefault};
-ghost use Rattle.cargo_toml_lint.specs.Linked.{is_default, name_at};
-ghost use Rattle.cargo_toml_lint.specs.Reached.{IsInRing};
-ghost use Rattle.cargo_toml_lint.specs.Steps.{private_at};
+ghost use Rattle.cargo_toml_lint.specs.Findings.{IsFound, is_hidden};
+ghost use Rattle.cargo_toml_lint.specs.Linked.{AreFound, AreWalks, is_default, name_at};
+ghost use Rattle.cargo_toml_lint.specs.Steps.{CountsAt, private_at};
+ghost use Rattle.cargo_toml_lint.specs.declared.finding.Code.{Code};
 
 use crate::bits::has_bit;
-use crate::graph::{FeatureMap, is_hidden, is_private};
+use crate::finding::{Code, Finding};
+use crate::gathering::add_if;
+use crate::graph::{FeatureMap, is_hidden, is_implied, is_private};
 use crate::linking::Links;
 use std::alloc::{AllocError, Global};
-use std::collections::BTreeSet;
 use std::hash::BuildHasher;
-
-/// The features that turn on another which turns them on.
-pub(crate) fn cyclic<'m>(alloc: Global, links: &Links<'m>) -> Result<BTreeSet<&'m str>, AllocError>
-    requires { AreFound links.now }
-    ensures { IfOk result (λ s. (f : Text) → IsTrue (set_has s f)
-        ↔ IsIn links.now (IsInRing links.now.reach.next.items) f) }
-{
-    let mut found = BTreeSet::new(alloc);
-    for place in 0..links.names.len() {
-        if links.reach.is_in_ring(place) {
-            found.insert(links.names[place])?;
-        }
-    }
-    Ok(found)
-}
 
 // Whether each of the names isn't hidden.
 fn are_shown(alloc: Global, names: &[&str]) -> Result<Vec<bool>, AllocError>
@@ -54,26 +39,34 @@ fn are_default(alloc: Global, names: &[&str], wanted: bool) -> Result<Vec<bool>,
     Ok(flags)
 }
 
-/// The hidden features that no feature turns on which isn't hidden.
-pub(crate) fn unreachable<'m>(
-    alloc: Global,
-    links: &Links<'m>,
-) -> Result<BTreeSet<&'m str>, AllocError>
+/// What features lead to, as bits of their places.
+#[derive(Drop)]
+pub(crate) struct Walks {
+    /// Those to which one leads that isn't hidden.
+    reached: Vec<u64>,
+    /// Those that `default` turns on in one step.
+    by_default: Vec<u64>,
+    /// Those that another feature does.
+    by_others: Vec<u64>,
+}
+
+/// What features lead to.
+pub(crate) fn walks_of(alloc: Global, links: &Links<'_>) -> Result<Walks, AllocError>
     requires { AreFound links.now }
-    ensures { IfOk result (λ s. (f : Text) → IsTrue (set_has s f)
-        ↔ IsIn links.now (IsLeftAlone links.now) f) }
+    ensures { IfOk result (AreWalks links.now) }
 {
     let names = links.names.as_slice();
     let shown = are_shown(alloc, names)?;
+    let default = are_default(alloc, names, true)?;
+    let others = are_default(alloc, names, false)?;
     let reached = links.reach.reached_from(alloc, shown.as_slice())?;
-    let bits = reached.as_slice();
-    let mut found = BTreeSet::new(alloc);
-    for place in 0..names.len() {
-        if is_hidden(names[place]) && !has_bit(bits, place) {
-            found.insert(names[place])?;
-        }
-    }
-    Ok(found)
+    let by_default = links.reach.named_by(alloc, default.as_slice())?;
+    let by_others = links.reach.named_by(alloc, others.as_slice())?;
+    Ok(Walks {
+        reached,
+        by_default,
+        by_others,
+    })
 }
 
 // Whether the feature of this name is hidden or private.
@@ -92,29 +85,39 @@ fn is_alone(first: &[u64], second: &[u64], place: usize) -> bool
     has_bit(first, place) && !has_bit(second, place)
 }
 
-/// The hidden and private features that `default` turns on in one step, and no other.
-pub(crate) fn private_default<'m, S: BuildHasher>(
-    alloc: Global,
-    links: &Links<'m>,
-    features: &FeatureMap<'m, S>,
-) -> Result<BTreeSet<&'m str>, AllocError>
-    requires { AreFound links.now }
-    ensures { IfOk result (λ s. (f : Text) → IsTrue (set_has s f)
-        ↔ IsIn links.now (λ a. IsTrue (is_hidden (name_at links.now a)
-        || private_at features.now (name_at links.now a)) × IsOfDefault links.now a) f) }
+// Whether the feature in the place is hidden, and the bits don't have it.
+fn is_left_alone(reached: &[u64], name: &str, place: usize) -> bool
+    requires { place < 64 * length reached.now }
+    ensures { IsTrue result ↔ (IsTrue (is_hidden name.now) × (¬ HasBit reached.now place)) }
 {
-    let names = links.names.as_slice();
-    let default = are_default(alloc, names, true)?;
-    let others = are_default(alloc, names, false)?;
-    let by_default = links.reach.named_by(alloc, default.as_slice())?;
-    let by_others = links.reach.named_by(alloc, others.as_slice())?;
-    let first = by_default.as_slice();
-    let second = by_others.as_slice();
-    let mut found = BTreeSet::new(alloc);
-    for place in 0..names.len() {
-        if is_internal(features, names[place]) && is_alone(first, second, place) {
-            found.insert(names[place])?;
-        }
-    }
-    Ok(found)
+    is_hidden(name) && !has_bit(reached, place)
+}
+
+/// Adds what is found of the feature in the place.
+pub(crate) fn add_place<'m, S: BuildHasher>(
+    found: &mut Vec<Finding<'m>>,
+    links: &Links<'m>,
+    walks: &Walks,
+    features: &FeatureMap<'m, S>,
+    place: usize,
+) -> Result<(), AllocError>
+    requires found { AreFound links.now }
+    requires walks { AreWalks links.now walks.now }
+    requires inside { place < length links.now.names.items }
+    ensures { OnOk result ((c : Code) (f t : Text) → IsFound found.new.items c f t
+        ↔ (IsFound found.old.items c f t ⊎ ((t ≡ []) × (name_at links.now place ≡ f)
+        × CountsAt features.now links.now c place))) }
+{
+    let name = links.names[place];
+    let is_internal = is_internal(features, name);
+    let is_alone = is_alone(
+        walks.by_default.as_slice(),
+        walks.by_others.as_slice(),
+        place,
+    );
+    let is_left_alone = is_left_alone(walks.reached.as_slice(), name, place);
+    add_if(found, is_implied(features, name), Code::Implied, name)?;
+    add_if(found, is_internal & is_alone, Code::PrivateDefault, name)?;
+    add_if(found, links.reach.is_in_ring(place), Code::Cycle, name)?;
+    add_if(found, is_left_alone, Code::Unreachable, name)
 }

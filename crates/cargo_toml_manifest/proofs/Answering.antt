@@ -3,21 +3,17 @@ use Rattle.std.proofs.Common.{◌≡◌, ◌⊎◌, ℕ, List, Bool, Option, Som
 use Rattle.std.specs.Prelude.{option_map}
 use Rattle.toml.specs.View.{view}
 use Rattle.cargo_toml_parts.specs.declared.error.Error.{Error, Memory}
-use Rattle.cargo_toml_parts.specs.FaultValues.{Fault, fault_of}
-use Rattle.cargo_toml_parts.specs.Wrapping.{wrap}
-use Rattle.cargo_toml_discovery.specs.Answers.{Answers, filled}
-use Rattle.cargo_toml_discovery.specs.Folders.{IsListed}
+use Rattle.cargo_toml_parts.specs.{FaultValues.Fault, FaultValues.fault_of, Wrapping.wrap}
+use Rattle.cargo_toml_discovery.specs.{Answers.Answers, Answers.filled, Folders.IsListed, Told.Told}
 use Rattle.cargo_toml_discovery.specs.Names.{Name}
 use Rattle.cargo_toml_discovery.specs.Seen.{IsOneOf, MayTell, Seen, Tells, faulty, seen, unclear}
-use Rattle.cargo_toml_discovery.specs.Told.{Told}
 use Rattle.cargo_toml_manifest.proofs.FoundAround.{one_of-wrapped, found_for-extends}
 use Rattle.cargo_toml_package.specs.Sharing.{Shared, shared}
 use Rattle.cargo_toml_package.specs.declared.sharing.NewParts.{NewParts}
 use Rattle.cargo_toml_manifest.specs.Answering.{IsAnsweredAt, IsAnsweredBy, IsFaultOf, IsRefusal}
 use Rattle.cargo_toml_manifest.specs.Choosing.{AnswersHint, Choice, Handed, MayFind, RootsTold, choice, from, hint_of, lost, own_choice, told_choice, unclear_root}
 use Rattle.cargo_toml_manifest.specs.Completing.{GivenBy, Meets, Outcome, complete, complete_by, gives, inherited_by, no_workspace, path_of, refuses, seen_at, then_found, untold}
-use Rattle.cargo_toml_manifest.specs.Finding.{found_around, with_found}
-use Rattle.cargo_toml_manifest.specs.Inheriting.{needs}
+use Rattle.cargo_toml_manifest.specs.{Finding.found_around, Finding.with_found, Inheriting.needs}
 use Rattle.cargo_toml_manifest.specs.Installing.{installed, with_completion}
 use Rattle.cargo_toml_manifest.specs.Manifests.{ManifestMeaning, manifest_meaning}
 use Rattle.cargo_toml_manifest.specs.Refusing.{IsCause, IsRefusedAt, IsRefusedBy}

@@ -1,13 +1,11 @@
 -- Of which kinds the faults are that stand in place of a root among real files.
 use Rattle.std.proofs.Common.{◌≡◌, ◌⊎◌, inl, inr, refl, sym, ap, ◌∙◌, ℕ, List, Some, Err, String, string_bytes}
-use Rattle.std.specs.IoError.{error_kind}
-use Rattle.std.specs.declared.alloc.Global.{Global}
+use Rattle.std.specs.{IoError.error_kind, declared.alloc.Global.Global}
 use Rattle.std.specs.declared.io.Error.{Error as IoError}
 use Rattle.std.specs.declared.io.ErrorKind.TheVariants.{NotFound}
 use Rattle.cargo_toml_parts.specs.declared.error.Error.{Error, Io, Memory, WorkspaceIntegrity, fold-roll-Error}
-use Rattle.cargo_toml_parts.specs.declared.error.Error.TheOpen.{Error-F}
+use Rattle.cargo_toml_parts.specs.{declared.error.Error.TheOpen.Error-F, Faults.IsFromIo}
 use Rattle.cargo_toml_parts.specs.declared.error.Error.TheVariants.{rolls-WorkspaceIntegrity}
-use Rattle.cargo_toml_parts.specs.Faults.{IsFromIo}
 use Rattle.cargo_toml_parts.specs.FaultValues.{Fault, fault_of, fault_step, io, workspace_integrity}
 use Rattle.cargo_toml_parts.specs.Wrapping.{wrap}
 use Rattle.cargo_toml_discovery.proofs.Faults.{fault_of-io, from_input, has_memory}

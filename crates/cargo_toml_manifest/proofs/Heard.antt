@@ -1,13 +1,8 @@
 -- What was told of folders, as it is kept, and that it is all that is asked for.
 use Rattle.std.proofs.Common.{◌≡◌, ℕ, Bool, true, false, cond, List, [], ◌∷◌, ◌++◌, refl, ap, ◌∙◌, sym, map, String, string_bytes, subst, Option, Some, None, is_some, ◌⊎◌, inl, inr, unwrap_or, get_or, length, ◌<◌, take, ◌+◌, arith, zero, suc, Result, Ok, Err, IfErr, not, ◌&&◌, filter, codes}
-use Rattle.std.specs.Result.{IsErrAnd}
-use Rattle.std.specs.Str.{bytes_eq}
-use Rattle.std.specs.declared.alloc.Global.{Global}
-use Rattle.std.proofs.lemmas.Slice.Eq.{bytes_eq-Decides}
-use Rattle.std.proofs.lemmas.List.{take_more, map_push}
-use Rattle.std.specs.BTreeSet.{BTreeSet}
-use Rattle.std.specs.HashSet.{HashSet}
-use Rattle.std.specs.declared.io.ErrorKind.{ErrorKind}
+use Rattle.std.specs.{Result.IsErrAnd, Str.bytes_eq, declared.alloc.Global.Global, HashSet.HashSet}
+use Rattle.std.proofs.lemmas.{Slice.Eq.bytes_eq-Decides, List.take_more, List.map_push}
+use Rattle.std.specs.{BTreeSet.BTreeSet, declared.io.ErrorKind.ErrorKind}
 use Rattle.std.specs.declared.io.ErrorKind.TheVariants.{NotFound}
 use Rattle.cargo_toml_parts.specs.declared.error.Error.{Error, Memory}
 use Rattle.cargo_toml_parts.specs.FaultValues.{Fault, fault_of, io}
@@ -16,10 +11,9 @@ use Rattle.cargo_toml_discovery.specs.Names.{Name, has_text, in_folder, is_sourc
 use Rattle.cargo_toml_discovery.specs.Seen.{Seen, seen, faulty, unclear, seen_as, pair, names_at, root_names, IsOneOf, MayTell, Tells, is_absence, is_not_found, and_then}
 use Rattle.cargo_toml_discovery.specs.Told.{Told, names, absent, denied, open_path}
 use Rattle.cargo_toml_discovery.proofs.Unique.{own, texts_in-ordered, texts_in-itself}
-use Rattle.cargo_toml_discovery.specs.Folders.{AnswersNames, RefusesBy}
+use Rattle.cargo_toml_discovery.specs.{Folders.AnswersNames, Folders.RefusesBy, Found.Named}
 use Rattle.cargo_toml_discovery.proofs.Faults.{fault_of-memory}
 use Rattle.cargo_toml_discovery.specs.Around.{named_by, each_named, entries_at, make_around, around}
-use Rattle.cargo_toml_discovery.specs.Found.{Named}
 use Rattle.cargo_toml_discovery.specs.declared.listings.Wanted.{Wanted}
 use Rattle.cargo_toml_manifest.specs.Gathering.{AnswerFits, Fits, Grows, Has, HasEach, MayTellOneOf, HasProducts, IsHeard, Listed, Sorts, HasRoot, HasAll}
 

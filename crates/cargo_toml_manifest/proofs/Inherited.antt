@@ -1,13 +1,11 @@
 -- What is inherited, step by step, until a fault.
 use Rattle.std.proofs.Common.{◌≡◌, ◌⊎◌, inl, inr, refl, Result, Ok, Err, ℕ, List, Option}
-use Rattle.cargo_toml_parts.specs.Answers.{◌>>=◌}
-use Rattle.cargo_toml_parts.specs.FaultValues.{Fault, fault_of}
+use Rattle.cargo_toml_parts.specs.{Answers.◌>>=◌, FaultValues.Fault, FaultValues.fault_of}
 use Rattle.cargo_toml_parts.specs.declared.error.Error.{Error, Memory}
 use Rattle.cargo_toml_parts.specs.declared.inheritable.Inheritable.{Inheritable}
 use Rattle.cargo_toml_dependencies.specs.Inheriting.{Entries, inherited_entries, inherited_target, inherited_targets}
 use Rattle.cargo_toml_dependencies.specs.Targets.{TargetMeaning}
-use Rattle.cargo_toml_package.specs.Packages.{PackageMeaning}
-use Rattle.cargo_toml_package.specs.Templates.{TemplateMeaning}
+use Rattle.cargo_toml_package.specs.{Packages.PackageMeaning, Templates.TemplateMeaning}
 use Rattle.cargo_toml_package.specs.Sharing.{LintsByTool, inherited_lints}
 use Rattle.cargo_toml_manifest.specs.Inheriting.{inherited_from, inherited_if_there, own_tables}
 use Rattle.cargo_toml_manifest.specs.Manifests.{ManifestMeaning}

@@ -1,18 +1,13 @@
 -- Which outcome an answer meets.
 use Rattle.std.proofs.Common.{◌≡◌, inl, inr, sym, ap, ◌∙◌, refl, ℕ, List, Bool, true, false, Option, Some, None, Ok, Err, [], String, string_bytes}
-use Rattle.std.specs.Prelude.{is_some, option_map}
-use Rattle.std.specs.declared.alloc.Global.{Global}
-use Rattle.toml.specs.Data.{Data}
-use Rattle.toml.specs.View.{view}
-use Rattle.toml.specs.declared.value.Value.{Value}
+use Rattle.std.specs.{Prelude.is_some, Prelude.option_map, declared.alloc.Global.Global}
+use Rattle.toml.specs.{Data.Data, View.view, declared.value.Value.Value}
 use Rattle.cargo_toml_parts.specs.declared.error.Error.{Error}
-use Rattle.cargo_toml_discovery.specs.Names.{Name}
-use Rattle.cargo_toml_discovery.specs.Told.{Told}
+use Rattle.cargo_toml_discovery.specs.{Names.Name, Told.Told}
 use Rattle.cargo_toml_package.specs.Sharing.{shared_of, Shared, shared}
 use Rattle.cargo_toml_manifest.specs.Choosing.{AnswersHint, Choice, Handed, MayFind, RootsTold, choice, from, hint_of, own_choice, told_choice}
-use Rattle.cargo_toml_manifest.specs.Completed.{IsCompleted}
+use Rattle.cargo_toml_manifest.specs.{Completed.IsCompleted, Finding.with_found}
 use Rattle.cargo_toml_manifest.specs.Completing.{Meets, Outcome, gives, no_workspace, refuses, untold}
-use Rattle.cargo_toml_manifest.specs.Finding.{with_found}
 use Rattle.cargo_toml_manifest.specs.Installing.{installed, with_completion}
 use Rattle.cargo_toml_manifest.specs.Manifests.{ManifestMeaning, held, manifest_meaning}
 use Rattle.cargo_toml_manifest.specs.Told.{ToldRoot, root, no_root, open_root, AnswersRoot}

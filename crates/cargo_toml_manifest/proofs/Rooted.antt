@@ -1,12 +1,8 @@
 -- What becomes of the bytes of a root, of what is stated of it, and of its fault.
 use Rattle.std.proofs.Common.{◌≡◌, ◌⊎◌, inl, inr, sym, ap, ◌∙◌, refl, subst, ℕ, List, Bool, true, false, ◌&&◌, Option, Some, None, Result, Ok, Err, IfOk, String, string_bytes, Vec}
 use Rattle.std.specs.Prelude.{is_some, not, option_map}
-use Rattle.std.specs.declared.alloc.Global.{Global}
-use Rattle.std.specs.declared.io.ErrorKind.TheVariants.{Unsupported}
-use Rattle.toml.specs.Data.{Data}
-use Rattle.toml.specs.Parse.{parse_document}
-use Rattle.toml.specs.View.{view}
-use Rattle.toml.specs.declared.value.Value.{Value}
+use Rattle.std.specs.declared.{alloc.Global.Global, io.ErrorKind.TheVariants.Unsupported}
+use Rattle.toml.specs.{Data.Data, Parse.parse_document, View.view, declared.value.Value.Value}
 use Rattle.cargo_toml_parts.specs.declared.error.Error.{Error, Memory}
 use Rattle.cargo_toml_parts.specs.FaultValues.{Fault, fault_of, io, workspace_integrity}
 use Rattle.cargo_toml_parts.specs.Wrapping.{wrap}

@@ -1,15 +1,11 @@
 -- What is read of a tree is what the text gives that spells it.
 use Rattle.std.proofs.Common.{◌≡◌, inl, inr, ℕ, List, refl, String}
 use Rattle.std.proofs.Common.{Bool, true, false, Option, Some, None, Result, Ok, Err}
-use Rattle.std.specs.Prelude.{if◌then◌else◌}
-use Rattle.std.specs.BTreeMap.{BTreeMap}
-use Rattle.std.specs.declared.alloc.Global.{Global}
-use Rattle.toml.specs.Data.{Data, Members, table}
-use Rattle.toml.specs.Parse.{parse_document}
+use Rattle.std.specs.{Prelude.if◌then◌else◌, BTreeMap.BTreeMap, declared.alloc.Global.Global}
+use Rattle.toml.specs.{Data.Data, Data.Members, Data.table, Parse.parse_document}
 use Rattle.toml.specs.declared.value.Value.{Value}
-use Rattle.cargo_toml_parts.specs.declared.error.Error.{Error}
+use Rattle.cargo_toml_parts.specs.{declared.error.Error.Error, Reads.IsReading}
 use Rattle.cargo_toml_parts.specs.Floats.{has_no_float, RefusedIf}
-use Rattle.cargo_toml_parts.specs.Reads.{IsReading}
 use Rattle.cargo_toml_manifest.specs.Texts.{DocumentRefuses, IsFromBytes, IsFromText, IsTree, IsTreeOfBytes, document_reads, tree_of}
 
 -- a tree that is told holds no float, and is the one that is spelled

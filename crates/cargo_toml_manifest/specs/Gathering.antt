@@ -4,8 +4,7 @@ use Rattle.std.specs.Prelude.{◌≡◌, Bool, true, false, List, [], ◌∷◌,
 use Rattle.std.specs.Prelude.{is_some, codes, String, Result, Ok, Err, MatchResult, ◌⊎◌}
 use Rattle.std.specs.BTreeSet.{BTreeSet, IsOrdered, contains_text}
 use Rattle.std.specs.HashSet.{HashSet, contains_text as has_in}
-use Rattle.std.specs.String.{string_cmp}
-use Rattle.std.specs.declared.alloc.Global.{Global}
+use Rattle.std.specs.{String.string_cmp, declared.alloc.Global.Global}
 use Rattle.std.specs.declared.io.ErrorKind.TheVariants.{NotFound}
 use Rattle.cargo_toml_parts.specs.declared.error.Error.{Error, Memory}
 use Rattle.cargo_toml_parts.specs.FaultValues.{Fault, fault_of, io}

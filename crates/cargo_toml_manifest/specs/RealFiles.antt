@@ -1,8 +1,7 @@
 -- Manifests in real files. Of what stands there nothing is stated: what is completed is so by some
 -- answers of files, and refusals are of some kinds.
 use Rattle.std.specs.Prelude.{◌≡◌, ◌⊎◌, ℕ, List, ◌++◌, codes, Bool, true, false, Option, Some, None}
-use Rattle.std.specs.Prelude.{Err, IsUtf8}
-use Rattle.std.specs.Path.{path_parent}
+use Rattle.std.specs.{Prelude.Err, Prelude.IsUtf8, Path.path_parent}
 use Rattle.std.specs.declared.io.ErrorKind.{ErrorKind}
 use Rattle.std.specs.declared.io.ErrorKind.TheVariants.{NotFound, NotADirectory, OutOfMemory}
 use Rattle.toml.specs.Data.{Data}

@@ -2,8 +2,7 @@
 -- completion is refused.
 use Rattle.std.specs.Prelude.{◌≡◌, ◌⊎◌, ℕ, List, Bool, true, false, Option, Some, None, Result}
 use Rattle.std.specs.Prelude.{Ok, Err, MatchResult, String, string_bytes, Vec}
-use Rattle.std.specs.declared.alloc.Global.{Global}
-use Rattle.std.specs.declared.io.ErrorKind.TheVariants.{Unsupported}
+use Rattle.std.specs.declared.{alloc.Global.Global, io.ErrorKind.TheVariants.Unsupported}
 use Rattle.toml.specs.Data.{Data}
 use Rattle.cargo_toml_parts.specs.declared.error.Error.{Error, Memory}
 use Rattle.cargo_toml_parts.specs.FaultValues.{Fault, fault_of, io}

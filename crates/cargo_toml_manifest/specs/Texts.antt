@@ -1,7 +1,6 @@
 -- What is read of a text and of bytes.
 use Rattle.std.specs.Prelude.{◌⊎◌, ℕ, List, String, codes, Option, Some, None, Result}
-use Rattle.std.specs.Prelude.{IsErrAnd, IsUtf8}
-use Rattle.std.specs.BTreeMap.{BTreeMap}
+use Rattle.std.specs.{Prelude.IsErrAnd, Prelude.IsUtf8, BTreeMap.BTreeMap}
 use Rattle.std.specs.declared.alloc.Global.{Global}
 use Rattle.toml.specs.Data.{Data, Members, table}
 use Rattle.toml.specs.Errors.{IsWithin}

@@ -1,6 +1,5 @@
 //! The search for the root of a workspace among real files.
-ghost use Rattle.std.specs.Prelude.{◌≡◌, IfOk, string_bytes};
-ghost use Rattle.std.specs.Path.{path_join};
+ghost use Rattle.std.specs.{Prelude.◌≡◌, Prelude.IfOk, Prelude.string_bytes, Path.path_join};
 ghost use Rattle.cargo_toml_discovery.specs.Folders.{RefusesBy};
 ghost use Rattle.cargo_toml_manifest.specs.RealFiles.{IsNoWorkspace, IsRootFault, is_absent};
 

@@ -1,24 +1,18 @@
--- An answer beside one of a filter that keeps every name, and beside another by its own filter.
-use Rattle.std.proofs.Common.{◌≡◌, ◌&&◌, not, Bool, true, false, List, Bor, Option, codes, nat_eq, IsFalse, IsSome, IsTrue, is_some, refl}
-use Rattle.std.proofs.lemmas.Bool.{false≢true}
+-- An answer beside one of a filter that keeps every name, beside another by its own filter, and beside what holds the same.
+use Rattle.std.proofs.Common.{arith, ◌≡◌, ◌&&◌, not, Bool, true, List, Bor, Option, codes, nat_eq, IsFalse, IsSome, IsTrue, is_some}
 use Rattle.std.specs.List.{starts_with}
-use Rattle.cargo_toml_graph.specs.{Action.Text, Admitted.Listed, Graph.Table, Graph.IsResolved, Kept.KeepsEnabling, Kept.LosesNothing, Kept.NoneIsLeft, Removal.is_removed}
-use Rattle.cargo_toml_graph.proofs.AgainstAll as graph
-use Rattle.cargo_toml_graph.proofs.Closure as closure
+use Rattle.cargo_toml_graph.specs.{Action.Text, Admitted.Listed, Graph.Table, Graph.IsResolved, Graph.Resolution, Kept.KeepsEnabling, Kept.LosesNothing, Kept.NoneIsLeft, Removal.is_removed, Removal.SameKept}
 use Rattle.cargo_toml_graph.proofs.Members.{resolved_alike}
 use Rattle.cargo_toml_features.specs.{Marks.NamedDetails, Recorded.Entry, Resolved.Answer, Resolved.IsAnswer, Resolved.IsAnswerWithout, Resolved.table_of}
 use Rattle.cargo_toml_features.proofs.Agreement.{settled}
 use Rattle.cargo_toml_resolve.specs.{Filter.Asked, Removed.AgreesWithAll, Removed.IsAnswerBy, Removed.IsRemovedBy}
 use Rattle.cargo_toml_resolve.proofs.ByFilter.{answer_alike}
+use Rattle.cargo_toml_graph.proofs.AgainstAll as graph
+use Rattle.cargo_toml_graph.proofs.Closure as closure
 
 -- where every name is kept, none is removed
 none_removed : (t : Table) (v : Text) → IsFalse (is_removed t (λ _. true) v)
-none_removed t v = go (t.has v) (starts_with nat_eq v (codes "_"))
-  where
-    go : (h s : Bool) → IsFalse (h && s && false)
-    go false s = refl
-    go true false = refl
-    go true true = refl
+none_removed t v = grind arith
 
 module _ (listed : Listed) (entries : List Entry) where
   abbrev t : Table
@@ -45,16 +39,10 @@ module _ (listed : Listed) (entries : List Entry) where
     keep r = not (is_some (b.redirects r))
 
     first : (x y z : Bool) → (x && y && not (not z)) ≡ true → z ≡ true
-    first true true true e = refl
-    first true true false e = absurd (false≢true e)
-    first true false z e = absurd (false≢true e)
-    first false y z e = absurd (false≢true e)
+    first x y z e = grind arith
 
     all : (x y z : Bool) → x ≡ true → y ≡ true → z ≡ true → (x && y && not (not z)) ≡ true
-    all true true true e e' e'' = refl
-    all true true false e e' e'' = absurd (false≢true e'')
-    all true false z e e' e'' = absurd (false≢true e')
-    all false y z e e' e'' = absurd (false≢true e)
+    all x y z e e' e'' = grind arith
 
     into : (r : Text) → IsRemovedBy g filter t r → IsTrue (is_removed t keep r)
     into r gone = all (t.has r) (starts_with nat_eq r (codes "_")) (is_some (b.redirects r)) gone.there gone.hidden ((h.answer.redirected r).1 gone)
@@ -70,3 +58,6 @@ module _ (listed : Listed) (entries : List Entry) where
       by_filter = λ others mentioned a k. settled listed entries others details mentioned own keep a b (tested others mentioned a k) (tested details own b h);
       by_test = λ test others mentioned a tells k. settled listed entries others details mentioned own test a b k (h.told test tells);
     }
+
+pub resolved_same : (t : Table) (R : Text → Type 0) (m n : Resolution) → SameKept m n → IsResolved t R m → IsResolved t R n
+resolved_same t R m n s h = grind arith

@@ -65,10 +65,7 @@ module _ (t : Table) (removed : Text → Bool) (vs : List Feature) (same : AreTa
           leads = inl y;
         })),
       ),
-      λ n. elim (n.0.1) [
-        | inl e ↦ subst (λ b. IsTrue (t.names b x)) e n.0.2
-        | inr g ↦ absurd (no_step none n.0.0 g.0 g.1)
-      ],
+      λ n. grind (arith, no_step),
     )
 
     -- what passes any has an edge to a removed one
@@ -92,9 +89,7 @@ module _ (t : Table) (removed : Text → Bool) (vs : List Feature) (same : AreTa
         | inl some ↦
             let p = numbered.keeps_name t R texts edges names flags h i x lt (asked some.0) in
             (λ y. p.1 ((some.1 x).0 y), λ n. (some.1 x).1 (p.0 n))
-        | inr none ↦
-            let kept_set : set_has w.enables_features x ≡ t.names (nth_text texts i) x = ap (λ s. set_has s x) none.1 ∙ named_by i v lt is x in
-            (λ y. (plain_names none.0 x).0 (sym kept_set ∙ y), λ n. kept_set ∙ (plain_names none.0 x).1 n)
+        | inr none ↦ grind (arith, named_by, plain_names none.0 x)
       ]
 
       holds_enablers : (e : Text) → IsTrue (set_has w.enabled_by e) ↔ IsEnabledBy t R (nth_text texts i) e
@@ -128,23 +123,7 @@ module _ {S : Type 0} (t : Table) (removed : Text → Bool) (m : HashMap (Bor Te
   none_there f e y = false≢true (sym (ap is_some e) ∙ y)
 
   is_kept : (f : Text) → IsTrue (is_some (value_at m f)) → IsKept t (λ v. IsTrue (removed v)) f
-  is_kept f y = elim (cases_Bool (t.has f)) [
-    | inl there ↦ (there, λ r. none_there f (gone f r) y)
-    | inr lacks ↦ absurd (none_there f (missing f (λ there. false≢true (sym lacks ∙ there))) y)
-  ]
+  is_kept f y = grind (arith, cases_Bool, none_there)
 
   pub resolved_is : IsResolved t (λ v. IsTrue (removed v)) (resolution_of m)
-  resolved_is = record {
-    kept = λ f. (is_kept f, λ k. ap is_some (here f k).1);
-    names = λ f x k.
-        let v = here f k in
-        let same : option_map_or (λ (w : Feature). set_has w.enables_features x) (value_at m f) false ≡ set_has v.0.enables_features x = ap (λ o. option_map_or (λ (w : Feature). set_has w.enables_features x) o false) v.1 in
-        (λ y. (v.2.names x).0 (sym same ∙ y), λ n. same ∙ (v.2.names x).1 n);
-    enabled_by = λ f e k.
-        let v = here f k in
-        let same : option_map_or (λ (w : Feature). set_has w.enabled_by e) (value_at m f) false ≡ set_has v.0.enabled_by e = ap (λ o. option_map_or (λ (w : Feature). set_has w.enabled_by e) o false) v.1 in
-        (λ y. (v.2.enabled_by e).0 (sym same ∙ y), λ n. same ∙ (v.2.enabled_by e).1 n);
-    action = λ f d k.
-        let v = here f k in
-        subst (λ o. IsJoin (Says t (λ v. IsTrue (removed v)) f d) o) (sym (ap (λ o. option_map_or (λ (w : Feature). action_at w.enables_deps d) o None) v.1)) (v.2.action d);
-  }
+  resolved_is = grind (arith, is_kept, here)

@@ -1,6 +1,6 @@
 -- From all that is resolved, and what is kept of it once hidden features are taken out, to the whole answer.
 use mathlib.Core.Bool.{beq}
-use Rattle.std.proofs.Common.{arith, ◌≡◌, ◌↔◌, ◌<◌, Bool, length, true, false, List, [], Bor, map, Option, Some, None, IsTrue, IfSome, is_some, option_map, refl, sym, ap, subst, ◌∙◌}
+use Rattle.std.proofs.Common.{arith, ◌≡◌, ◌↔◌, Bool, length, true, false, List, [], Bor, map, Option, IsTrue, IfSome, is_some, option_map, refl, sym, ◌∙◌}
 use Rattle.std.proofs.lemmas.Bool.{false≢true}
 use Rattle.std.specs.{BTreeSet.BTreeSet, List.IsAnyAnswer, List.slice_index_or, Option.option_map_or}
 use Rattle.cargo_toml_graph.specs.{Action.Text, Admitted.Listed, Admitted.is_below, Bins.ArePassedOn, Graph.Table, Redirects.RedirectsTo, Removal.unremoved}
@@ -9,23 +9,20 @@ use Rattle.cargo_toml_features.specs.{Places.nth_text, declared.features.Feature
 use Rattle.cargo_toml_features.specs.{Marks.NamedDetails, Marks.marked, Marks.marks_in, Marks.marks_of, Recorded.Entry, Recorded.entries_at, Recorded.recorded_of, Resolved.IsAnswerWithout}
 use Rattle.cargo_toml_features.specs.{Resolved.SameRecorded, Resolved.table_of, Views.answer_of, Views.set_has, Views.value_at}
 use Rattle.cargo_toml_dependencies.specs.Details.{plain_detail}
-use Rattle.cargo_toml_resolve.specs.{KeptFeatures.IsNamedAlike, KeptFeatures.own_bins, KeptByName.AreKept, Numbering.IsFlagged}
+use Rattle.cargo_toml_resolve.specs.{KeptFeatures.own_bins, KeptFeatures.AreKept, Numbering.IsFlagged}
 use Rattle.cargo_toml_resolve.proofs.InPlace.{found_stands}
 
 -- the key of a feature that may be there
 pub key_told : (f : Text) (o : Option Feature) → IfSome o (λ v. v.key.now ≡ f) → IfSome (option_map (λ (v : Feature). v.key.now) o) (λ k. k ≡ f)
-key_told f None k = tt
-key_told f (Some v) k = k
+key_told f o k = grind arith
 
 -- the binaries of one that is there
 pub bins_told : (own : List Text) (o : Option Feature) → IsTrue (is_some o) → IfSome o (λ v. map (λ b. b.now) v.required_by_bins.items ≡ own) → option_map_or (λ v. map (λ (b : Bor Text). b.now) v.required_by_bins.items) o [] ≡ own
-bins_told own None y e = absurd (false≢true y)
-bins_told own (Some v) y e = e
+bins_told own o y e = grind arith
 
 -- a set of texts is there where it is seen as a test
 pub test_there : (o : Option (BTreeSet (Bor Text))) → is_some (option_map set_has o) ≡ is_some o
-test_there None = refl
-test_there (Some names) = refl
+test_there o = grind arith
 
 module _ {S H : Type 0} (listed : Listed) (entries : List Entry) (details : NamedDetails) (own : Text → List Text) (removed : Text → Bool) (vs : List Feature) (a : Features S H)
     (start : AreTable (table_of listed entries) vs) (there : (f : Text) → IsTrue (removed f) → IsTrue ((table_of listed entries).has f))
@@ -40,25 +37,14 @@ module _ {S H : Type 0} (listed : Listed) (entries : List Entry) (details : Name
   abbrev R : Text → Type 0
   R f = IsTrue (removed f)
 
-  abbrev Stays : Text → Feature → Type 0
-  Stays f w = (v : Feature) × (feature_at vs f ≡ Some v) × IsNamedAlike v w
-
   pub keyed : IsKeyed a.features
-  keyed f = go (value_at a.features f) (kept.own f)
-    where
-      go : (o : Option Feature) → IfSome o (Stays f) → IfSome o (λ v. v.key.now ≡ f)
-      go None s = tt
-      go (Some w) s = ap (λ x. x.now) s.2.key ∙ (found_stands vs f s.0 s.1).3
+  keyed f = grind (arith, found_stands)
 
   key_at : (f : Text) → IfSome (option_map (λ (v : Feature). v.key.now) (value_at a.features f)) (λ k. k ≡ f)
   key_at f = key_told f (value_at a.features f) (keyed f)
 
   marks_at : (f : Text) → IsTrue (is_some (value_at a.features f)) → option_map_or marks_of (value_at a.features f) (marked false plain_detail) ≡ marks_in listed details f
-  marks_at f = go (value_at a.features f) (kept.own f)
-    where
-      go : (o : Option Feature) → IfSome o (Stays f) → IsTrue (is_some o) → option_map_or marks_of o (marked false plain_detail) ≡ marks_in listed details f
-      go None s y = absurd (false≢true y)
-      go (Some w) s y = s.2.marks ∙ subst (λ o. IfSome o (λ v. marks_of v ≡ marks_in listed details f)) s.1 (marks f)
+  marks_at f = grind arith
 
   own_at : (f : Text) → IsTrue (t.has f) → own_bins vs f ≡ own f
   own_at f has = bins_told (own f) (feature_at vs f) (start.has f ∙ has) (bins f)
@@ -75,12 +61,7 @@ module _ {S H : Type 0} (listed : Listed) (entries : List Entry) (details : Name
   redirected r = test_there (value_at a.hidden_features r) ∙ kept.redirected r
 
   redirects : (r : Text) → IfSome (option_map set_has (value_at a.hidden_features r)) (λ names. (x : Text) → IsTrue (names x) ↔ RedirectsTo t R (λ s b. IsTrue (is_below s b)) r x)
-  redirects r = go (value_at a.hidden_features r) (kept.redirects r)
-    where
-      go : (o : Option (BTreeSet (Bor Text))) → IfSome o (λ names. (x : Text) → IsTrue (set_has names x) ↔ RedirectsTo t R (λ s b. IsTrue (is_below s b)) r x)
-          → IfSome (option_map set_has o) (λ names. (x : Text) → IsTrue (names x) ↔ RedirectsTo t R (λ s b. IsTrue (is_below s b)) r x)
-      go None h = tt
-      go (Some names) h = h
+  redirects r = grind arith
 
   pub answers : IsAnswerWithout listed entries details own R (answer_of a)
   answers = record {
@@ -102,12 +83,8 @@ some_flagged true vs flags R len h is = (
 )
   where
     stands : (c : Bool) → beq c true ≡ true → c ≡ true
-    stands true e = refl
-    stands false e = absurd (false≢true e)
+    stands c e = grind arith
 some_flagged false vs flags R len h is = (
   λ y. absurd (false≢true y),
-  λ r.
-      let w = (is r.0).0 r.1 in
-      let below : w.0 < length flags = (let lt = w.1 in omega (arith, lt, len)) in
-      absurd (false≢true (sym (h w.0 false (omega arith) below) ∙ ap (λ c. beq c true) w.3)),
+  λ r. grind arith,
 )

@@ -1,10 +1,10 @@
 -- Features that the filter refuses, by their flags, and answers without them.
-use Rattle.std.proofs.Common.{◌≡◌, ◌↔◌, ◌&&◌, ◌||◌, ◌<◌, not, ℕ, zero, suc, Bool, true, false, List, [], ◌∷◌, length, Bor, Option, Some, None, IfSome, IsTrue, is_some, bytes_eq, codes, nat_eq, arith, refl, sym, subst, inl, inr, ◌∙◌}
+use Rattle.std.proofs.Common.{◌≡◌, ◌↔◌, ◌&&◌, ◌||◌, ◌<◌, not, ℕ, suc, Bool, true, false, List, [], ◌∷◌, length, Bor, Option, Some, None, IfSome, IsTrue, bytes_eq, codes, nat_eq, arith, refl, sym, inl, inr}
 use Rattle.std.proofs.lemmas.{Bool.false≢true, Bool.and_from, Bool.and_parts, Bool.or_cases, Bool.or_left, Bool.or_right, Slice.Eq.bytes_eq-Decides}
 use Rattle.std.specs.List.{slice_index_or, starts_with}
 use Rattle.cargo_toml_graph.specs.{Action.Text, Admitted.Listed, Admitted.is_below, Graph.Table, Graph.IsKept, Redirects.RedirectsTo, Removal.is_removed}
 use Rattle.cargo_toml_graph.proofs.{Members.label_within, Members.resolved_alike, PassedBins.grown_weaker, PassedBins.passed_alike}
-use Rattle.cargo_toml_features.specs.{declared.features.Feature.Feature, InOrder.AreInOrder, InOrder.AreTable, InOrder.names_of, Marks.NamedDetails, Marks.details_listed, Recorded.Entry}
+use Rattle.cargo_toml_features.specs.{declared.features.Feature.Feature, InOrder.AreInOrder, InOrder.AreTable, InOrder.names_of, InOrder.table_among, Marks.NamedDetails, Marks.details_listed, Recorded.Entry}
 use Rattle.cargo_toml_features.specs.{Resolved.Answer, Resolved.IsAnswer, Resolved.IsAnswerWithout, Resolved.table_of, Places.nth_text}
 use Rattle.cargo_toml_features.proofs.Marked.{told_by_listed}
 use Rattle.cargo_toml_resolve.specs.{Numbers.IsWanted, Filter.Answers, Filter.Asked, Filter.HasNameFilter, Filter.IsFlagOf, Filter.IsHiddenName, Filter.FilterTells, Numbering.IsFlagged}
@@ -30,11 +30,14 @@ flag_is (v ∷ vs) (b ∷ flags) f = (into (flag_is vs flags f), out (flag_is vs
 
     at : IsTrue (flag_at vs flags f) ↔ IsFlagged vs flags f → (i : ℕ) → i < length (v ∷ vs) → nth_text (names_of (v ∷ vs)) i ≡ f → IsWanted (b ∷ flags) true i
         → IsTrue (flag_at (v ∷ vs) (b ∷ flags) f)
-    at rest zero lt same stands = or_left _ _ (and_from _ _ ((bytes_eq-Decides f v.key.now).1 (sym same)) stands)
-    at rest (suc i) lt same stands = or_right _ _ (rest.1 (i, omega (arith, lt), same, stands))
+    at rest p lt same stands = grind (arith, or_left, and_from, bytes_eq-Decides, or_right)
 
     out : IsTrue (flag_at vs flags f) ↔ IsFlagged vs flags f → IsFlagged (v ∷ vs) (b ∷ flags) f → IsTrue (flag_at (v ∷ vs) (b ∷ flags) f)
     out rest w = at rest w.0 w.1 w.2 w.3
+
+-- the features make their own table
+pub own_table : (vs : List Feature) → AreTable (table_among vs) vs
+own_table vs = record { has = λ f. refl; names = λ f x. refl; action = λ f k. refl }
 
 module _ {F : Type 0} (g : Asked F) (filter : Option (Bor F)) where
   -- no name is kept and refused
@@ -47,39 +50,20 @@ module _ {F : Type 0} (g : Asked F) (filter : Option (Bor F)) where
 
   -- a test that agrees with the filter is what it answers
   told_as : (keep : Text → Bool) → FilterTells g filter keep → (n : Text) (b : Bool) → Answers g filter n b → b ≡ keep n
-  told_as keep tells n b = go filter tells
-    where
-      go : (o : Option (Bor F)) → FilterTells g o keep → Answers g o n b → b ≡ keep n
-      go None tells is = is ∙ sym (tells n)
-      go (Some f) tells is = tells n b is
+  told_as keep tells n b = grind arith
 
   -- the features whose flag stands are those that the filter refuses
   module _ (has : HasNameFilter g filter) (t : Table) (vs : List Feature) (same : AreTable t vs) (up : AreInOrder vs) (flags : List Bool)
       (are : (i : ℕ) → i < length vs → IsFlagOf g filter (nth_text (names_of vs) i) (slice_index_or flags i false)) where
     flag_of : (f : Text) → IsTrue (t.has f) → (i : ℕ) × (i < length vs) × (nth_text (names_of vs) i ≡ f) × IsFlagOf g filter f (slice_index_or flags i false)
-    flag_of f known =
-        let p = (has_place t vs same up f).0 known in
-        (p.0, p.1, p.2, subst (λ x. IsFlagOf g filter x (slice_index_or flags p.0 false)) p.2 (are p.0 p.1))
+    flag_of f known = grind (arith, has_place)
 
     pub removed_by : (f : Text) → IsFlagged vs flags f ↔ IsRemovedBy g filter t f
-    removed_by f = (
-      λ w.
-          let r = subst (λ x. IsFlagOf g filter x true) w.2 (subst (IsFlagOf g filter (nth_text (names_of vs) w.0)) w.3 (are w.0 w.1)) in
-          record { there = (has_place t vs same up f).1 (w.0, w.1, w.2); hidden = r.hidden; refused = r.refused },
-      λ r. let p = flag_of f r.there in (p.0, p.1, p.2, stands (slice_index_or flags p.0 false) p.3 r),
-    )
-      where
-        stands : (b : Bool) → IsFlagOf g filter f b → IsRemovedBy g filter t f → b ≡ true
-        stands true flag r = refl
-        stands false flag r = absurd (one_answer has f (flag r.hidden) r.refused)
+    removed_by f = grind (arith, has_place, flag_of, one_answer)
 
     -- and one that isn't refused is kept
     pub kept_by : (f : Text) → IsTrue (t.has f) → ¬ IsRemovedBy g filter t f → IsHiddenName f → Answers g filter f true
-    kept_by f known stays hidden = let p = flag_of f known in go (slice_index_or flags p.0 false) p.3
-      where
-        go : (b : Bool) → IsFlagOf g filter f b → Answers g filter f true
-        go true r = absurd (stays (record { there = known; hidden = hidden; refused = r.refused }))
-        go false keeps = keeps hidden
+    kept_by f known stays hidden = grind (arith, flag_of f known)
 
 module _ (listed : Listed) (entries : List Entry) (details : NamedDetails) (own : Text → List Text) where
   abbrev t : Table
@@ -103,24 +87,11 @@ module _ (listed : Listed) (entries : List Entry) (details : NamedDetails) (own 
 
     pub answer_alike : IsAnswerWithout listed entries details own S a
     answer_alike = record {
-      kept = record {
-        resolved = resolved_alike t R S into back a.resolution h.kept.resolved;
-        keyed = h.kept.keyed;
-        marks = h.kept.marks;
-        dependencies = h.kept.dependencies;
-        some = (λ y. let s = h.kept.some.0 y in (s.0, into s.0 s.1), λ s. h.kept.some.1 (s.0, back s.0 s.1));
-      };
+      kept = grind (arith, resolved_alike);
       bins = λ f left.
           let b = h.bins f left in
           record { lists = grown_weaker (λ x c. passed_alike t own R S into f x c) b.lists; direct = λ r x gone n j. b.direct r x (back r gone) n j };
-      passed_on = record {
-        order = h.passed_on.order;
-        in_order = record {
-          ascending = h.passed_on.in_order.ascending;
-          members = λ r. (λ i. into r ((h.passed_on.in_order.members r).0 i), λ y. (h.passed_on.in_order.members r).1 (back r y));
-        };
-        lists = λ f k. h.passed_on.lists f (old f k);
-      };
+      passed_on = grind (arith, old);
       redirected = λ r. (λ y. into r ((h.redirected r).0 y), λ y. (h.redirected r).1 (back r y));
       redirects = redirects;
     }
@@ -130,16 +101,10 @@ module _ (listed : Listed) (entries : List Entry) (details : NamedDetails) (own 
     R = IsRemovedBy g filter t
 
     three : (h s k : Bool) → h ≡ true → s ≡ true → false ≡ k → (h && s && not k) ≡ true
-    three true true false e e' e'' = refl
-    three true true true e e' e'' = absurd (false≢true e'')
-    three true false k e e' e'' = absurd (false≢true e')
-    three false s k e e' e'' = absurd (false≢true e)
+    three p s k e e' e'' = grind arith
 
     parts : (h s k : Bool) → (h && s && not k) ≡ true → (h ≡ true) × (s ≡ true) × (k ≡ false)
-    parts true true false e = (refl, refl, refl)
-    parts true true true e = absurd (false≢true e)
-    parts true false k e = absurd (false≢true e)
-    parts false s k e = absurd (false≢true e)
+    parts p s k e = grind arith
 
     -- each test that agrees with the filter tells the same as it
     pub tell_alike : (keep : Text → Bool) (a : Answer) → IsAnswerWithout listed entries details own R a
@@ -151,16 +116,7 @@ module _ (listed : Listed) (entries : List Entry) (details : NamedDetails) (own 
         into r gone = three (t.has r) (starts_with nat_eq r (codes "_")) (keep r) gone.there gone.hidden (told_as g filter keep tells r false gone.refused)
 
         back : (r : Text) → IsTrue (is_removed t keep r) → R r
-        back r y = go (is_some (a.redirects r)) (h.redirected r)
-          where
-            p : (t.has r ≡ true) × IsHiddenName r × (keep r ≡ false)
-            p = parts (t.has r) (starts_with nat_eq r (codes "_")) (keep r) y
-
-            go : (b : Bool) → IsTrue b ↔ R r → R r
-            go true e = e.0 refl
-            go false e =
-                let left = (h.kept.resolved.kept r).1 (p.0, λ gone. false≢true (e.1 gone)) in
-                absurd (false≢true (sym p.2 ∙ sym (told_as g filter keep tells r true (kept r left p.1))))
+        back r y = grind (arith, parts, told_as)
 
     -- an answer without the refused features is the answer by the filter
     pub answer_by : (a : Answer) → IsAnswerWithout listed entries details own R a

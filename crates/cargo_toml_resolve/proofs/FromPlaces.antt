@@ -1,28 +1,24 @@
 -- From what stands in places to what is kept by name.
-use Rattle.std.proofs.Common.{◌≡◌, ◌↔◌, ◌<◌, ℕ, Bool, true, false, List, [], length, map, Option, Some, None, Bor, IsTrue, IsSome, IfSome, is_some, slice_get, refl, sym, ap, subst, inl, ◌∙◌, arith}
+use Rattle.std.proofs.Common.{◌≡◌, ◌↔◌, ◌<◌, ℕ, Bool, true, false, List, [], length, map, Option, Some, None, Bor, IsTrue, IsSome, IfSome, is_some, slice_get, sym, ap, subst, inl, ◌∙◌, arith}
 use Rattle.std.specs.{BTreeSet.BTreeSet, HashMap.HashMap, Option.IsSomeAnd, Option.option_map_or}
 use Rattle.cargo_toml_graph.specs.{Action.Text, Admitted.is_below, Graph.Table, Graph.IsKept, Redirects.RedirectsTo, Removal.pass_all, Removal.unremoved}
 use Rattle.cargo_toml_graph.proofs.Texts.{by_true}
-use Rattle.cargo_toml_resolve.specs.{Numbers.IsWanted, Numbers.Leads, Numbers.row_items, NumberedTables.HasNumber, NumberedTables.IsNaming, NumberedTables.IsNumbered, declared.graph.Graph.Graph}
+use Rattle.cargo_toml_resolve.specs.{Numbers.IsWanted, Numbers.Leads, Numbers.row_items, NumberedTables.HasNumber, NumberedTables.IsNaming, declared.graph.Graph.Graph}
 use Rattle.cargo_toml_resolve.specs.{declared.graph.Walked.Walked, KeptFeatures.ArePassedAt, KeptFeatures.IsKeptFeature, KeptFeatures.IsNamedAlike, KeptFeatures.StandFor, KeptFeatures.own_bins}
-use Rattle.cargo_toml_resolve.specs.{HandingOver.HaveOwnSets, Holding.HasTextsOf, Holding.IsTextOf, KeptByName.AreKept, Numbering.IsFlagged, Placed.ArePlaced, Placed.AreHashed, Texts.texts_now}
-use Rattle.cargo_toml_features.specs.{Places.nth_text, declared.features.Feature.Feature, InOrder.AreInOrder, InOrder.AreTable, InOrder.feature_at, InOrder.names_of, InOrder.table_among}
+use Rattle.cargo_toml_resolve.specs.{Holding.HaveOwnSets, Holding.HasTextsOf, Holding.IsTextOf, KeptFeatures.AreKept, Placed.ArePlaced, Placed.Shows, Placed.AreHashed, Texts.texts_now}
+use Rattle.cargo_toml_features.specs.{Places.nth_text, declared.features.Feature.Feature, InOrder.feature_at, InOrder.names_of}
 use Rattle.cargo_toml_features.specs.Views.{set_has, value_at}
 use Rattle.cargo_toml_resolve.proofs.NumberedTables as numbered
-use Rattle.cargo_toml_resolve.proofs.{Answered.resolved_is, InPlace.name_in, InPlace.stands_found, InPlace.stands_in, NumberingGraph.same_removed, Placing.place_inside, Placing.stood}
-use Rattle.cargo_toml_resolve.proofs.Renumbered.{renumbered}
+use Rattle.cargo_toml_resolve.proofs.{Answered.resolved_is, InPlace.name_in, InPlace.stands_found, InPlace.stands_in, Placing.place_inside, Placing.stood}
 
 none_unless : {X : Type 0} (o : Option X) → ¬ IsSome o → o ≡ None
-none_unless None h = refl
-none_unless (Some x) h = absurd (h refl)
+none_unless o h = grind arith
 
 some_there : {X : Type 0} (o : Option X) (P : X → Type 0) → IsSomeAnd o P → IsSome o
-some_there None P h = absurd h
-some_there (Some x) P h = refl
+some_there o P h = grind arith
 
 if_there : {X : Type 0} (o : Option X) (P : X → Type 0) → (IsSome o → IsSomeAnd o P) → IfSome o P
-if_there None P h = tt
-if_there (Some x) P h = h refl
+if_there o P h = grind arith
 
 module _ (t : Table) (removed : Text → Bool) (old new : List Feature) (texts : List Text) (edges names rows : List (List ℕ)) (flags : List Bool)
     (stand : StandFor t removed old texts edges names flags) (len : length new ≡ length old)
@@ -63,23 +59,14 @@ module _ (t : Table) (removed : Text → Bool) (old new : List Feature) (texts :
         subst (λ o. IsSomeAnd o (IsKeptFeature t R f)) (sym there) (subst (λ x. IsKeptFeature t R x w.0) i.2 (kept i.0 w.0 off w.1))
 
     gone : (f : Text) → R f → value_at m f ≡ None
-    gone f r = none_unless (value_at m f) (λ y.
-        let o = only f y in
-        let lt = number_of o.0 o.1 o.2 in
-        let named : nth_text texts o.0 ≡ f = sym (name_there o.0 o.1 o.2) ∙ o.4 in
-        (numbered.unflagged t R texts edges names flags stand.numbered o.0 (fits o.0 lt)).0 o.3 (subst R (sym named) r))
+    gone f r = grind (arith, none_unless, number_of, name_there, numbered.unflagged, fits)
 
     missing : (f : Text) → ¬ IsTrue (t.has f) → value_at m f ≡ None
-    missing f lacks = none_unless (value_at m f) (λ y.
-        let o = only f y in
-        lacks ((stand.numbered.vertex f).1 (o.0, number_of o.0 o.1 o.2, sym (name_there o.0 o.1 o.2) ∙ o.4)))
+    missing f lacks = grind (arith, none_unless, number_of, name_there)
 
     -- what stands under a name stands in a place
     with_place : (f : Text) (P : Feature → Type 0) → ((i : ℕ) (w : Feature) → slice_get new i ≡ Some w → IsWanted flags false i → nth_text texts i ≡ f → P w) → IfSome (value_at m f) P
-    with_place f P h = if_there (value_at m f) P (λ y.
-        let o = only f y in
-        let there : value_at m f ≡ Some o.1 = subst (λ x. value_at m x ≡ Some o.1) o.4 (held o.0 o.1 o.2 o.3) in
-        subst (λ p. IsSomeAnd p P) (sym there) (h o.0 o.1 o.2 o.3 (sym (name_there o.0 o.1 o.2) ∙ o.4)))
+    with_place f P h = grind (arith, if_there, name_there)
 
     own_by_name : (f : Text) → IfSome (value_at m f) (λ w. (v : Feature) × (feature_at old f ≡ Some v) × IsNamedAlike v w)
     own_by_name f = with_place f (λ w. (v : Feature) × (feature_at old f ≡ Some v) × IsNamedAlike v w) (λ i w at off named.
@@ -88,21 +75,10 @@ module _ (t : Table) (removed : Text → Bool) (old new : List Feature) (texts :
         (v.0, subst (λ x. feature_at old x ≡ Some v.0) key (stands_found old stand.in_order i v.0 v.1), own i v.0 w v.1 at))
 
     row_flag : (r : Text) → R r → (i : ℕ) × (i < length edges) × (nth_text texts i ≡ r) × IsWanted flags true i
-    row_flag r gone_now =
-        let i = (stand.numbered.vertex r).0 (stand.numbered.removed r gone_now) in
-        (i.0, i.1, i.2, (stand.numbered.flagged i.0 (fits i.0 i.1)).1 (subst R (sym i.2) gone_now))
+    row_flag r gone_now = grind (arith, fits)
 
     redirected : (r : Text) → is_some (value_at hidden r) ≡ removed r
-    redirected r = by_true (is_some (value_at hidden r)) (removed r) (
-      λ y.
-          let o = redirect_only r y in
-          let below : o.0 < length edges = subst (λ n. o.0 < n) (redirects_len ∙ sym stand.count) o.1 in
-          subst R o.2 ((stand.numbered.flagged o.0 (fits o.0 below)).0 o.3),
-      λ y.
-          let i = row_flag r y in
-          subst (λ x. IsSome (value_at hidden x)) i.2
-          (some_there (value_at hidden (nth_text texts i.0)) (HasTextsOf texts (row_items rows i.0)) (redirect_there i.0 (subst (λ n. i.0 < n) (sym (redirects_len ∙ sym stand.count)) i.1) i.3)),
-    )
+    redirected r = grind (arith, by_true, fits, row_flag, some_there)
 
     redirects : (r : Text) → IfSome (value_at hidden r) (λ s. (x : Text) → IsTrue (set_has s x) ↔ RedirectsTo t R (λ a b. IsTrue (is_below a b)) r x)
     redirects r = if_there (value_at hidden r) (λ s. (x : Text) → IsTrue (set_has s x) ↔ RedirectsTo t R (λ a b. IsTrue (is_below a b)) r x) (λ y.
@@ -121,8 +97,7 @@ module _ (t : Table) (removed : Text → Bool) (old new : List Feature) (texts :
 
     list_there : (f : Text) (o : Option Feature) → IsSomeAnd o (IsKeptFeature t R f) → IfSome o (λ w. map (λ b. b.now) w.required_by_bins.items ≡ pass_all bins.order (unremoved t) (own_bins old) f) →
         option_map_or (λ v. map (λ (b : Bor Text). b.now) v.required_by_bins.items) o [] ≡ pass_all bins.order (unremoved t) (own_bins old) f
-    list_there f None k h = absurd k
-    list_there f (Some w) k h = h
+    list_there f o k h = grind arith
 
     pub are_kept : AreKept t removed old m hidden
     are_kept = record {
@@ -131,34 +106,15 @@ module _ (t : Table) (removed : Text → Bool) (old new : List Feature) (texts :
       bins = record {
         order = bins.order;
         in_order = bins.in_order;
-        lists = λ f k. list_there f (value_at m f) (kept_by_name f k) (with_place f (λ w. map (λ b. b.now) w.required_by_bins.items ≡ pass_all bins.order (unremoved t) (own_bins old) f)
-            (λ i w at off named. subst (λ x. map (λ b. b.now) w.required_by_bins.items ≡ pass_all bins.order (unremoved t) (own_bins old) x) named (bins.lists i w off at)));
+        lists = λ f k. grind (arith, list_there, kept_by_name f k, with_place);
       };
       redirected = redirected;
       redirects = redirects;
     }
 
--- what numbering tells of the features
-pub record NumberedBy (vs : List Feature) (flagged : List Bool) (texts : List (Bor Text)) (edges names : List (List ℕ)) (flags : List Bool) : Type 0 where
-  pub numbered : IsNumbered (table_among vs) (IsFlagged vs flagged) (texts_now texts) edges names flags
-  pub count : length edges ≡ length vs
-  pub vertices : (i : ℕ) → i < length vs → nth_text (texts_now texts) i ≡ nth_text (names_of vs) i
-
-pub stands_for : (t : Table) (removed : Text → Bool) (vs : List Feature) (flagged : List Bool) (texts : List (Bor Text)) (edges names : List (List ℕ)) (flags : List Bool) →
-    AreInOrder vs → NumberedBy vs flagged texts edges names flags → AreTable t vs → ((f : Text) → IsTrue (removed f) ↔ IsFlagged vs flagged f) → StandFor t removed vs (texts_now texts) edges names flags
-stands_for t removed vs flagged texts edges names flags up n same removed_is = record {
-  table = same;
-  in_order = up;
-  numbered = renumbered t vs (λ v. IsTrue (removed v)) (texts_now texts) edges names flags same (same_removed (table_among vs) vs flagged (λ v. IsTrue (removed v)) (texts_now texts) edges names flags n.numbered removed_is);
-  count = n.count;
-  vertices = n.vertices;
-}
-
-pub all_hashed : {S : Type 0} (t : Table) (removed : Text → Bool) (old new : List Feature) (flagged : List Bool) (g : Graph) (w : Walked)
-    (m : HashMap (Bor Text) Feature S) (hidden : HashMap (Bor Text) (BTreeSet (Bor Text)) S) → AreInOrder old → NumberedBy old flagged g.texts.items g.edges g.names g.flags.items →
-    ArePlaced g old new w → AreHashed new w m hidden → AreTable t old → ((f : Text) → IsTrue (removed f) ↔ IsFlagged old flagged f) → AreKept t removed old m hidden
-all_hashed t removed old new flagged g w m hidden up n p h same removed_is =
-    let stand = stands_for t removed old flagged g.texts.items g.edges g.names g.flags.items up n same removed_is in
+pub all_hashed : {S : Type 0} (t : Table) (removed : Text → Bool) (old new : List Feature) (g : Graph) (w : Walked) (m : HashMap (Bor Text) Feature S) (hidden : HashMap (Bor Text) (BTreeSet (Bor Text)) S)
+    → Shows g t removed old → ArePlaced g old new w → AreHashed new w m hidden → AreKept t removed old m hidden
+all_hashed t removed old new g w m hidden stand p h =
     are_kept t removed old new (texts_now g.texts.items) g.edges g.names w.redirects g.flags.items stand p.len p.own m hidden p.count (p.kept t removed stand) (p.bins t removed stand) (p.redirects t removed stand)
     (λ i v at off. h.held i v at (to_walked false i off))
     (λ f there. let o = h.only f there in (o.0, o.1, o.2, from_walked false o.0 o.3, o.4))
@@ -172,10 +128,10 @@ all_hashed t removed old new flagged g w m hidden up n p h same removed_is =
     from_walked wanted i = subst (λ fs. IsWanted fs.items wanted i) p.flags
 
 -- a removed feature whose redirect isn't marked as moved names it
-pub own_sets : (old new : List Feature) (flagged : List Bool) (g : Graph) (w : Walked) → AreInOrder old → NumberedBy old flagged g.texts.items g.edges g.names g.flags.items → ArePlaced g old new w → HaveOwnSets w new
-own_sets old new flagged g w up n p r v on off at x = (
-  λ y. subst (λ ts. IsTextOf (texts_now ts.items) (row_items w.redirects r) x) (sym p.texts) (subst (λ xs. IsTextOf (texts_now g.texts.items) xs x) (sym (p.stays r off)) ((n.numbered.labels r x lt asked).0 (named ∙ y))),
-  λ h. sym named ∙ (n.numbered.labels r x lt asked).1 (subst (λ xs. IsTextOf (texts_now g.texts.items) xs x) (p.stays r off) (subst (λ ts. IsTextOf (texts_now ts.items) (row_items w.redirects r) x) p.texts h)),
+pub own_sets : (t : Table) (removed : Text → Bool) (old new : List Feature) (g : Graph) (w : Walked) → Shows g t removed old → ArePlaced g old new w → HaveOwnSets w new
+own_sets t removed old new g w stand p r v on off at x = (
+  λ y. subst (λ ts. IsTextOf (texts_now ts.items) (row_items w.redirects r) x) (sym p.texts) (subst (λ xs. IsTextOf (texts_now g.texts.items) xs x) (sym (p.stays r off)) ((stand.numbered.labels r x lt asked).0 (named ∙ y))),
+  λ h. sym named ∙ (stand.numbered.labels r x lt asked).1 (subst (λ xs. IsTextOf (texts_now g.texts.items) xs x) (p.stays r off) (subst (λ ts. IsTextOf (texts_now ts.items) (row_items w.redirects r) x) p.texts h)),
 )
   where
     gone : IsWanted g.flags.items true r
@@ -188,26 +144,26 @@ own_sets old new flagged g w up n p r v on off at x = (
     below = place_inside old r u.0 u.1
 
     lt : r < length g.edges
-    lt = subst (λ m. r < m) (sym n.count) below
+    lt = subst (λ m. r < m) (sym stand.count) below
 
     asked : IsNaming g.edges g.flags.items r
     asked = inl gone
 
     there : feature_at old (nth_text (texts_now g.texts.items) r) ≡ Some u.0
-    there = subst (λ f. feature_at old f ≡ Some u.0) (sym (n.vertices r below ∙ name_in old r u.0 u.1)) (stands_found old up r u.0 u.1)
+    there = subst (λ f. feature_at old f ≡ Some u.0) (sym (stand.vertices r below ∙ name_in old r u.0 u.1)) (stands_found old stand.in_order r u.0 u.1)
 
-    named : (table_among old).names (nth_text (texts_now g.texts.items) r) x ≡ set_has v.enables_features x
-    named = ap (λ o. option_map_or (λ (z : Feature). set_has z.enables_features x) o false) there ∙ sym (ap (λ s. set_has s x) (p.left r u.0 v gone u.1 at))
+    named : t.names (nth_text (texts_now g.texts.items) r) x ≡ set_has v.enables_features x
+    named = sym (stand.table.names (nth_text (texts_now g.texts.items) r) x) ∙ ap (λ o. option_map_or (λ (z : Feature). set_has z.enables_features x) o false) there ∙ sym (ap (λ s. set_has s x) (p.left r u.0 v gone u.1 at))
 
 -- no two features have one name, before and after they are left
-pub one_name : (old new : List Feature) (flagged : List Bool) (texts : List (Bor Text)) (edges names : List (List ℕ)) (flags : List Bool) → NumberedBy old flagged texts edges names flags →
-    length new ≡ length old → ((i : ℕ) (v w : Feature) → slice_get old i ≡ Some v → slice_get new i ≡ Some w → IsNamedAlike v w) →
-    (i j : ℕ) (v w : Feature) → slice_get new i ≡ Some v → slice_get new j ≡ Some w → v.key.now ≡ w.key.now → i ≡ j
-one_name old new flagged texts edges names flags n len own i j v w at at' same =
-    let name : (k : ℕ) (u : Feature) → slice_get new k ≡ Some u → (k < length edges) × (u.key.now ≡ nth_text (texts_now texts) k) = λ k u here.
+pub one_name : (old new : List Feature) (g : Graph) → length g.edges ≡ length old → ((i : ℕ) → i < length old → nth_text (texts_now g.texts.items) i ≡ nth_text (names_of old) i) → length new ≡ length old
+    → ((i : ℕ) (v w : Feature) → slice_get old i ≡ Some v → slice_get new i ≡ Some w → IsNamedAlike v w)
+    → (i j : ℕ) (v w : Feature) → slice_get new i ≡ Some v → slice_get new j ≡ Some w → v.key.now ≡ w.key.now → i ≡ j
+one_name old new g count vertices len own i j v w at at' same =
+    let name : (k : ℕ) (u : Feature) → slice_get new k ≡ Some u → (k < length g.edges) × (u.key.now ≡ nth_text (texts_now g.texts.items) k) = λ k u here.
     let o = stood old new len k u here in
     let below = place_inside old k o.0 o.1 in
-    (subst (λ c. k < c) (sym n.count) below, ap (λ x. x.now) (own k o.0 u o.1 here).key ∙ sym (n.vertices k below ∙ name_in old k o.0 o.1)) in
+    (subst (λ c. k < c) (sym count) below, ap (λ x. x.now) (own k o.0 u o.1 here).key ∙ sym (vertices k below ∙ name_in old k o.0 o.1)) in
     let a = name i v at in
     let b = name j w at' in
-    n.numbered.one i j a.0 (let lt = b.0 in omega (arith, n.numbered.count, lt)) (sym a.1 ∙ same ∙ b.1)
+    g.once i j a.0 (let lt = b.0 in let fits = g.features_count in omega (arith, fits, lt)) (sym a.1 ∙ same ∙ b.1)

@@ -1,10 +1,12 @@
--- The texts of a set, as a list.
-use Rattle.std.proofs.Common.{◌≡◌, ◌↔◌, List, [], ◌∷◌, map, IsTrue, Result, Ok, Err, IfOk, Vec, Global, Bor, subst, sym, inl, inr, ◌∙◌}
-use Rattle.std.proofs.lemmas.{Bool.false≢true, Bool.or_left, Bool.or_right, Bool.or_cases, Map.Text.is_eq-slice_cmp, Slice.Eq.bytes_eq-Decides}
+-- The texts of a set, as a list, lists that are gathered of sets, and sets of the texts of numbers.
+use Rattle.std.proofs.Common.{arith, ◌≡◌, ◌↔◌, List, [], ◌∷◌, map, IsTrue, Result, Ok, Err, IfOk, Vec, Global, Bor, subst, sym, inl, inr, ◌∙◌, ◌⊎◌, ◌++◌, ◌<◌, ℕ, length, get_or, bytes_eq, refl, ap}
+use Rattle.std.proofs.lemmas.{Bool.false≢true, Bool.or_left, Bool.or_right, Bool.or_cases, Map.Text.is_eq-slice_cmp, Slice.Eq.bytes_eq-Decides, List.map_push, List.length-map}
 use Rattle.std.specs.{BTreeMap.is_at, BTreeSet.BTreeSet, Cmp.Lexicographic.slice_cmp, List.list_any, List.Sorted.IsStrictlySortedBy, Ordering.nat_cmp}
 use Rattle.cargo_toml_graph.specs.{Action.Text, Reach.Among, Ascending.Ascend}
-use Rattle.cargo_toml_graph.proofs.SortedTexts.{texts_ascend}
-use Rattle.cargo_toml_features.specs.Views.{set_has}
+use Rattle.cargo_toml_graph.proofs.{SortedTexts.texts_ascend, BinLists.is_among-true, BinLists.among-true}
+use Rattle.cargo_toml_features.specs.{Views.set_has, Places.nth_text}
+use Rattle.cargo_toml_resolve.specs.{Texts.texts_now, Holding.HasTextsOf, Holding.IsTextOf}
+use Rattle.cargo_toml_resolve.proofs.Steps.{among_at, item_at}
 
 abbrev texts : List (Bor Text) → List Text
 texts xs = map (λ t. t.now) xs
@@ -22,10 +24,74 @@ among_keys f ks = (into ks, out ks)
     out (k ∷ ks) e = elim (or_cases _ _ e) [ inl h ↦ inl ((bytes_eq-Decides f k.now).0 (sym (is_eq-slice_cmp f k.now) ∙ h)) | inr i ↦ inr (out ks i) ]
 
 pub all_taken : {E : Type 0} (r : Result (Vec (Bor Text) Global) E) (s : BTreeSet (Bor Text)) → IfOk r (λ v. v.items ≡ s.keys) → IfOk r (λ v. (f : Text) → Among (texts v.items) f ↔ IsTrue (set_has s f))
-all_taken (Ok v) s e = λ f. subst (λ (ks : List (Bor Text)). Among (texts ks) f ↔ IsTrue (set_has s f)) (sym e) (among_keys f s.keys)
-all_taken (Err _) s e = tt
+all_taken r s e = grind (arith, among_keys)
 
 pub taken_in_order : {E : Type 0} (r : Result (Vec (Bor Text) Global) E) (ks : List (Bor Text)) → IsStrictlySortedBy (λ (x : Bor Text) (y : Bor Text). slice_cmp nat_cmp x.now y.now) ks → IfOk r (λ v. v.items ≡ ks)
     → IfOk r (λ v. Ascend (texts v.items))
 taken_in_order (Ok v) ks ordered e = subst (λ xs. Ascend (texts xs)) (sym e) (texts_ascend (λ (t : Bor Text). t.now) ks ordered)
 taken_in_order (Err _) ks ordered e = tt
+
+pub among_push : {K : Type 0} (xs : List K) (y x : K) → Among (xs ++ y ∷ []) x ↔ (Among xs x ⊎ (x ≡ y))
+among_push {K} xs y x = (into xs, out xs)
+  where
+    into : (xs : List K) → Among (xs ++ y ∷ []) x → Among xs x ⊎ (x ≡ y)
+    into [] (inl is) = inr is
+    into [] (inr i) = absurd i
+    into (z ∷ xs) (inl is) = inl (inl is)
+    into (z ∷ xs) (inr i) = elim (into xs i) [ inl j ↦ inl (inr j) | inr is ↦ inr is ]
+
+    out : (xs : List K) → Among xs x ⊎ (x ≡ y) → Among (xs ++ y ∷ []) x
+    out [] (inl i) = absurd i
+    out [] (inr is) = inl is
+    out (z ∷ xs) (inl i) = elim (i) [ inl is ↦ inl is | inr j ↦ inr (out xs (inl j)) ]
+    out (z ∷ xs) (inr is) = inr (out xs (inr is))
+
+pub text_push : (ts : List (Bor Text)) (t : Bor Text) (x : Text) → Among (texts_now (ts ++ t ∷ [])) x ↔ (Among (texts_now ts) x ⊎ (x ≡ t.now))
+text_push ts t x = subst (λ xs. Among xs x ↔ (Among (texts_now ts) x ⊎ (x ≡ t.now))) (sym (map_push (λ (t : Bor Text). t.now) ts t)) (among_push (texts_now ts) t.now x)
+
+-- the texts of a set that a loop has met
+abbrev pub seen : List (Bor (Bor Text)) → List Text
+seen ks = texts_now (map (λ k. k.now) ks)
+
+pub seen_push : (ks : List (Bor (Bor Text))) (k : Bor (Bor Text)) (x : Text) → Among (seen (ks ++ k ∷ [])) x ↔ (Among (seen ks) x ⊎ (x ≡ k.now.now))
+seen_push ks k x = subst (λ ts. Among (texts_now ts) x ↔ (Among (seen ks) x ⊎ (x ≡ k.now.now))) (sym (map_push (λ (k : Bor (Bor Text)). k.now) ks k)) (text_push (map (λ k. k.now) ks) k.now x)
+
+pub all_seen : (s : BTreeSet (Bor Text)) (ks : List (Bor (Bor Text))) → map (λ k. k.now) ks ≡ s.keys → (x : Text) → Among (seen ks) x ↔ IsTrue (set_has s x)
+all_seen s ks all x = subst (λ (ts : List (Bor Text)). Among (texts_now ts) x ↔ IsTrue (set_has s x)) (sym all) (among_keys x s.keys)
+
+-- the place of a number that is read is below what all of them are below
+pub place_below : (numbers : List ℕ) (n i x p : ℕ) → ((y : ℕ) → Among numbers y → y < n) → i < length numbers → x ≡ get_or numbers i x → p ≡ x → p < n
+place_below numbers n i x p inside lt is at = subst (λ y. y < n) (sym (item_at numbers i x p lt is at)) (inside (get_or numbers i 0) (among_at numbers i lt))
+
+-- a set that tells of each text whether it is one of a list has those of the list
+pub set_made : {E : Type 0} (xs : List Text) (r : Result (BTreeSet (Bor Text)) E) → IfOk r (λ s. (x : Text) → set_has s x ≡ list_any (bytes_eq x) xs)
+    → IfOk r (λ s. (x : Text) → IsTrue (set_has s x) ↔ Among xs x)
+set_made xs r h = grind (arith, is_among-true, among-true)
+
+module _ (texts : List Text) where
+  from_number : (numbers : List ℕ) (x : Text) → Among (map (nth_text texts) numbers) x → (j : ℕ) × (nth_text texts j ≡ x) × Among numbers j
+  from_number [] x i = absurd i
+  from_number (n ∷ ns) x (inl e) = (n, sym e, inl refl)
+  from_number (n ∷ ns) x (inr i) = let f = from_number ns x i in (f.0, f.1, inr f.2)
+
+  to_text : (numbers : List ℕ) (j : ℕ) → Among numbers j → Among (map (nth_text texts) numbers) (nth_text texts j)
+  to_text [] j i = absurd i
+  to_text (n ∷ ns) j (inl e) = inl (ap (nth_text texts) e)
+  to_text (n ∷ ns) j (inr i) = inr (to_text ns j i)
+
+-- the texts of all numbers
+pub all_texts_put : (texts : List (Bor Text)) (numbers ns : List ℕ) (x : Text) → ((n : ℕ) → Among numbers n → n < length texts) → ns ≡ numbers
+    → Among (map (nth_text (texts_now texts)) ns) x ↔ IsTextOf (texts_now texts) numbers x
+all_texts_put texts numbers ns x inside all = grind (arith, from_number (texts_now texts) numbers x, length-map, to_text)
+
+-- a set that has the texts of all numbers
+pub has_all : (texts : List (Bor Text)) (numbers : List ℕ) (s : BTreeSet (Bor Text)) → ((x : ℕ) → Among numbers x → x < length texts)
+    → ((x : Text) → IsTrue (set_has s x) ↔ Among (map (nth_text (texts_now texts)) numbers) x) → HasTextsOf (texts_now texts) numbers s
+has_all texts numbers s inside h x = grind (arith, all_texts_put texts numbers numbers x inside refl)
+
+-- the set of their texts is what the numbers stand for
+pub set_of_numbers : {E : Type 0} (texts : List (Bor Text)) (numbers : List ℕ) (ks : List (Bor Text)) (r : Result (BTreeSet (Bor Text)) E) →
+    ((x : ℕ) → Among numbers x → x < length texts) → texts_now ks ≡ map (nth_text (texts_now texts)) numbers →
+    IfOk r (λ s. (x : Text) → IsTrue (set_has s x) ↔ Among (texts_now ks) x) → IfOk r (HasTextsOf (texts_now texts) numbers)
+set_of_numbers texts numbers ks (Err e) inside are h = tt
+set_of_numbers texts numbers ks (Ok s) inside are h = has_all texts numbers s inside (λ x. subst (λ l. IsTrue (set_has s x) ↔ Among l x) are (h x))

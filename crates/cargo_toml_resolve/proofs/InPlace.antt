@@ -39,8 +39,7 @@ stands_found [] up i v e = absurd (no_some e)
 stands_found (w ∷ vs) up zero v e = go (bytes_eq v.key.now w.key.now) refl
   where
     go : (b : Bool) → bytes_eq v.key.now w.key.now ≡ b → (if b then Some w else feature_at vs v.key.now) ≡ Some v
-    go true is = e
-    go false is = absurd (false≢true (sym is ∙ (bytes_eq-Decides v.key.now w.key.now).1 (ap (λ (u : Feature). u.key.now) (sym (some_same e)))))
+    go b is = grind (arith, bytes_eq-Decides, some_same)
 stands_found (w ∷ vs) up (suc i) v e = go (stands_found vs (others_ascend w.key.now (names_of vs) up) i v e) (bytes_eq v.key.now w.key.now) refl
   where
     go : feature_at vs v.key.now ≡ Some v → (b : Bool) → bytes_eq v.key.now w.key.now ≡ b → (if b then Some w else feature_at vs v.key.now) ≡ Some v
@@ -73,8 +72,7 @@ module _ (t : Table) (vs : List Feature) (same : AreTable t vs) (up : AreInOrder
   has_place f = (λ y. go (feature_at vs f) refl (same.has f ∙ y), back)
     where
       go : (o : Option Feature) → feature_at vs f ≡ o → is_some o ≡ true → (i : ℕ) × (i < length vs) × (nth_text (names_of vs) i ≡ f)
-      go None e y = absurd (false≢true y)
-      go (Some v) e y = let s = found_stands vs f v e in (s.0, s.1, name_in vs s.0 v s.2 ∙ s.3)
+      go o e y = grind (arith, found_stands, name_in)
 
       back : (i : ℕ) × (i < length vs) × (nth_text (names_of vs) i ≡ f) → IsTrue (t.has f)
       back w =

@@ -1,18 +1,17 @@
--- Enablers that features learn, place by place.
-use Rattle.std.proofs.Common.{◌≡◌, ◌≢◌, ◌↔◌, ◌⊎◌, ◌<◌, ◌+◌, ◌||◌, ◌∷◌, ℕ, suc, Bool, true, false, cond, List, [], length, map, get_or, set, slice_get, Option, Some, None, Bor, IsTrue, IfSome, is_some, option_map, bytes_eq, refl, sym, ap, subst, inl, inr, ◌∙◌, arith}
-use Rattle.std.proofs.lemmas.{Bool.cases_eq, Bool.false≢true, Bool.or_cases, Bool.or_left, Bool.or_right, List.length-map, Option.same_Some, Option.slice_get_read, Option.slice_get_within}
+-- Enablers that features learn, place by place, and what is kept where no feature is removed.
+use Rattle.std.proofs.Common.{◌≡◌, ◌≢◌, ◌↔◌, ◌⊎◌, ◌<◌, ◌+◌, ◌||◌, ◌∷◌, ℕ, suc, Bool, false, cond, List, [], length, map, get_or, set, slice_get, Option, Some, None, Bor, IsTrue, IfSome, is_some, option_map, bytes_eq, refl, sym, ap, subst, inl, inr, ◌∙◌, arith, IfOk, IsSome, Result}
+use Rattle.std.proofs.lemmas.{Bool.cases_eq, Bool.false≢true, Bool.or_cases, Bool.or_left, Bool.or_right, Bool.false_from_ne_true, List.length-map, Option.same_Some, Option.slice_get_read, Option.slice_get_within}
 use Rattle.std.proofs.lemmas.Slice.Eq.{bytes_eq-Decides}
-use Rattle.std.specs.{BTreeSet.BTreeSet, BTreeSet.btree_set_len, BTreeMap.btree_map_len, BTreeMap.is_at, Cmp.Lexicographic.slice_cmp, Map.lookup, Ordering.nat_cmp, HashMap.HashMap}
-use Rattle.std.specs.Option.{option_map_or}
-use Rattle.cargo_toml_graph.specs.{Bins.ArePassedOn, Ascending.Ascend, Action.Text, Graph.Edge, Graph.IsPlain, Graph.IsUnremoved, Graph.Table, Reach.Among}
-use Rattle.cargo_toml_features.specs.{Places.nth_text, declared.features.DepAction.DepAction, declared.features.Feature.Feature, InOrder.AreInOrder, InOrder.AreTable, InOrder.HaveNoEnablers}
-use Rattle.cargo_toml_features.specs.{InOrder.feature_at, InOrder.names_of, InOrder.resolution_among, Marks.FeatureMarks, Marks.marks_of, Views.action_at, Views.action_of, Views.set_has}
-use Rattle.cargo_toml_features.specs.Views.{value_at}
+use Rattle.std.specs.{BTreeSet.BTreeSet, BTreeSet.btree_set_len, BTreeMap.btree_map_len, BTreeMap.is_at, Cmp.Lexicographic.slice_cmp, Map.lookup, Ordering.nat_cmp, HashMap.HashMap, Option.option_map_or}
+use Rattle.cargo_toml_graph.specs.{Bins.ArePassedOn, Ascending.Ascend, Action.Text, Graph.Edge, Graph.IsPlain, Graph.IsUnremoved, Graph.Table, Reach.Among, Admitted.is_below, Redirects.RedirectsTo}
+use Rattle.cargo_toml_graph.proofs.{SortedTexts.none_ascend, Unremoved.resolved_unremoved}
+use Rattle.cargo_toml_features.specs.{Places.nth_text, declared.features.DepAction.DepAction, declared.features.Feature.Feature, InOrder.AreInOrder, InOrder.AreTable, InOrder.HaveNoEnablers, InOrder.feature_at, InOrder.names_of}
+use Rattle.cargo_toml_features.specs.{InOrder.resolution_among, Marks.marks_of, Views.action_at, Views.action_of, Views.set_has, Views.value_at, Views.resolution_of}
 use Rattle.cargo_toml_features.proofs.TextKeys.{none_in}
-use Rattle.cargo_toml_resolve.specs.Enabling.{AreSameButEnablers, GainEnabler, IsSameButEnablers, Leader, LeaderBelow, LeadsTo, LearnBy}
-use Rattle.cargo_toml_resolve.specs.{Enabling.LearnEach, Enabling.Learns, KeptFeatures.IsNamedAlike, KeptFeatures.own_bins, KeptByName.AreKept, TakingOver.ChangesIn, Texts.texts_now}
-use Rattle.cargo_toml_resolve.proofs.{AlikePlaces.does_itself, AlikePlaces.each_itself, AlikePlaces.then_does, AlikePlaces.then_each, AlikePlaces.there_too, InPlace.found_stands, InPlace.name_in}
-use Rattle.cargo_toml_resolve.proofs.{InPlace.one_place, InPlace.stands_found, InPlace.stands_in, TakingOver.then_set, TakingOver.unchanged}
+use Rattle.cargo_toml_resolve.specs.{Enabling.AreSameButEnablers, Enabling.GainEnabler, Enabling.IsSameButEnablers, Enabling.Leader, Enabling.LeaderBelow, Enabling.LeadsTo, Enabling.LearnBy, Enabling.LearnEach, Enabling.Learns}
+use Rattle.cargo_toml_resolve.specs.{KeptFeatures.IsNamedAlike, KeptFeatures.own_bins, KeptFeatures.AreKept, Holding.ChangesIn, Texts.texts_now}
+use Rattle.cargo_toml_resolve.proofs.{InPlace.found_stands, InPlace.name_in, InPlace.one_place, InPlace.stands_found, InPlace.stands_in, TakingOver.then_set, TakingOver.unchanged, TakingOver.does_itself, TakingOver.each_itself}
+use Rattle.cargo_toml_resolve.proofs.{TakingOver.then_does, TakingOver.then_each, TakingOver.there_too}
 
 itself : (v : Feature) → IsSameButEnablers v v
 itself v = record { does = does_itself v; bins = refl }
@@ -37,14 +36,8 @@ then_learn A B C vs ws us len both a b y v u old new e =
     let c = both y e (slice_get_within vs y v old) in
     let first = a y v w.0 old w.1 e in
     let last = b y w.0 u w.1 new e in (
-      λ t. elim (last.0 t) [
-        | inl m ↦ elim (first.0 m) [ inl o ↦ inl o | inr x ↦ inr (c.1 (inl x)) ]
-        | inr x ↦ inr (c.1 (inr x))
-      ],
-      λ s. elim s [
-        | inl o ↦ last.1 (inl (first.1 (inl o)))
-        | inr x ↦ elim (c.0 x) [ inl h ↦ last.1 (inl (first.1 (inr h))) | inr h ↦ last.1 (inr h) ]
-      ],
+      λ t. grind arith,
+      λ s. grind arith,
     )
 
 -- the feature in one place learns of the texts of which By holds
@@ -95,10 +88,7 @@ one_learns vs i source v by lt read gains =
 -- a set gained the source
 pub text_gained : (old new : BTreeSet (Bor Text)) (source : Text) → ((x : Text) → set_has new x ≡ (set_has old x || bytes_eq x source))
     → (x : Text) → IsTrue (set_has new x) ↔ (IsTrue (set_has old x) ⊎ (x ≡ source))
-text_gained old new source h x = (
-  λ y. elim (or_cases _ _ (sym (h x) ∙ y)) [ inl o ↦ inl o | inr b ↦ inr ((bytes_eq-Decides x source).0 b) ],
-  λ s. h x ∙ elim s [ inl o ↦ or_left _ _ o | inr is ↦ or_right (set_has old x) _ ((bytes_eq-Decides x source).1 is) ],
-)
+text_gained old new source h x = grind (arith, or_cases, bytes_eq-Decides x source, or_left, or_right)
 
 -- what names nothing and acts on nothing leads nowhere
 pub no_keys : (ks : List (Bor Text)) → length ks ≡ 0 → ks ≡ []
@@ -229,8 +219,7 @@ alike_at (v ∷ vs) (w ∷ ws) s f =
     shift (Some x) (Some y) a = (suc a.0, a.1, a.2)
 
     go : Alike vs ws (feature_at vs f) (feature_at ws f) → (b : Bool) → Alike (v ∷ vs) (w ∷ ws) (cond b (Some v) (feature_at vs f)) (cond b (Some w) (feature_at ws f))
-    go rest true = (0, refl, refl)
-    go rest false = shift (feature_at vs f) (feature_at ws f) rest
+    go rest b = grind (arith, shift)
 
 keys_still : (vs ws : List Feature) → AreSameButEnablers vs ws → names_of ws ≡ names_of vs
 keys_still [] [] s = refl
@@ -250,18 +239,7 @@ module _ (vs ws : List Feature) (same : AreSameButEnablers vs ws) where
   along f P none some = go (feature_at vs f) (feature_at ws f) (alike_at vs ws same f)
     where
       go : (o o' : Option Feature) → Alike vs ws o o' → P o o'
-      go None None a = none
-      go None (Some w) a = absurd a
-      go (Some v) None a = absurd a
-      go (Some v) (Some w) a = some v w (same.each a.0 v w a.1 a.2)
-
-  pub marks_still : (m : Text → FeatureMarks) → ((f : Text) → IfSome (feature_at vs f) (λ v. marks_of v ≡ m f)) → (f : Text) → IfSome (feature_at ws f) (λ v. marks_of v ≡ m f)
-  marks_still m h f = along f (λ o o'. IfSome o (λ v. marks_of v ≡ m f) → IfSome o' (λ v. marks_of v ≡ m f)) (λ k. k) (λ v w s k. s.does.marks ∙ k) (h f)
-
-  pub bins_still : (own : Text → List Text) → ((f : Text) → IfSome (feature_at vs f) (λ v. map (λ b. b.now) v.required_by_bins.items ≡ own f))
-      → (f : Text) → IfSome (feature_at ws f) (λ v. map (λ b. b.now) v.required_by_bins.items ≡ own f)
-  bins_still own h f = along f (λ o o'. IfSome o (λ v. map (λ b. b.now) v.required_by_bins.items ≡ own f) → IfSome o' (λ v. map (λ b. b.now) v.required_by_bins.items ≡ own f)) (λ k. k)
-      (λ v w s k. ap (λ bs. map (λ (b : Bor Text). b.now) bs.items) s.bins ∙ k) (h f)
+      go o o' a = grind arith
 
   pub own_still : (f : Text) → own_bins ws f ≡ own_bins vs f
   own_still f = along f (λ o o'. option_map_or (λ v. map (λ (b : Bor Text). b.now) v.required_by_bins.items) o' [] ≡ option_map_or (λ v. map (λ (b : Bor Text). b.now) v.required_by_bins.items) o []) refl
@@ -307,16 +285,10 @@ table_still t vs ws made same = record {
 module _ (t : Table) (vs ws : List Feature) (up : AreInOrder vs) (none : HaveNoEnablers vs) (made : AreTable t vs) (h : HaveLearnt (length vs) vs ws) where
   -- what a feature of vs leads to, by the table
   leads_is : (e f : Text) (u : Feature) → feature_at vs e ≡ Some u → LeadsTo u f → IsTrue (t.names e f) ⊎ IsPlain (t.action e f)
-  leads_is e f u is l = elim l [
-    | inl n ↦ inl (sym (made.names e f) ∙ ap (λ o. option_map_or (λ v. set_has v.enables_features f) o false) is ∙ n)
-    | inr p ↦ inr (subst IsPlain (made.action e f) (subst (λ o. IsPlain (option_map_or (λ v. action_at v.enables_deps f) o None)) (sym is) p))
-  ]
+  leads_is e f u is l = grind arith
 
   is_leading : (e f : Text) (u : Feature) → feature_at vs e ≡ Some u → IsTrue (t.names e f) ⊎ IsPlain (t.action e f) → LeadsTo u f
-  is_leading e f u is l = elim l [
-    | inl n ↦ inl (sym (ap (λ o. option_map_or (λ v. set_has v.enables_features f) o false) is) ∙ made.names e f ∙ n)
-    | inr p ↦ inr (subst (λ o. IsPlain (option_map_or (λ v. action_at v.enables_deps f) o None)) is (subst IsPlain (sym (made.action e f)) p))
-  ]
+  is_leading e f u is l = grind arith
 
   into_edge : (f e : Text) → IsTrue ((resolution_among ws).enabled_by f e) → Edge t e f
   into_edge f e = go (feature_at vs f) refl (feature_at ws f) (alike_at vs ws h.same f)
@@ -327,18 +299,7 @@ module _ (t : Table) (vs ws : List Feature) (up : AreInOrder vs) (none : HaveNoE
       go (Some v) is None a y = absurd a
       go (Some v) is (Some w) a y = elim ((h.learn a.0 v w a.1 a.2 e).0 y) [
         | inl o ↦ absurd (false≢true (sym (none_in v.enabled_by (subst (λ p. IfSome p (λ x. x.enabled_by.keys ≡ [])) is (none f)) e) ∙ o))
-        | inr l ↦
-            let s = found_stands vs f v is in
-            let name : nth_text (names_of vs) a.0 ≡ f = name_in vs a.0 v a.1 ∙ s.3 in
-            let u = l.2.2.0 in
-            let key : u.key.now ≡ e = sym (name_in vs l.0 u l.2.2.1) ∙ l.2.1 in
-            let stands : feature_at vs e ≡ Some u = subst (λ k. feature_at vs k ≡ Some u) key (stands_found vs up l.0 u l.2.2.1) in
-            record {
-              source = sym (made.has e) ∙ ap is_some stands;
-              target = sym (made.has f) ∙ ap is_some is;
-              apart = λ same. l.2.0 (one_place vs up a.0 l.0 v u a.1 l.2.2.1 (s.3 ∙ sym same ∙ sym key));
-              leads = leads_is e f u stands (subst (LeadsTo u) name l.2.2.2);
-            }
+        | inr l ↦ grind (arith, found_stands, name_in, stands_found, one_place, leads_is)
       ]
 
   from_edge : (f e : Text) → Edge t e f → IsTrue ((resolution_among ws).enabled_by f e)
@@ -367,3 +328,33 @@ module _ (t : Table) (vs ws : List Feature) (up : AreInOrder vs) (none : HaveNoE
   unremoved =
       let still = table_still t vs ws made h.same in
       record { has = still.has; names = still.names; action = still.action; enabled_by = λ f e. (into_edge f e, from_edge f e) }
+
+-- a map that has under each name the feature of that name holds what they hold
+pub unremoved_by : {S : Type 0} (vs : List Feature) (m : HashMap (Bor Text) Feature S) → ((f : Text) → value_at m f ≡ feature_at vs f) →
+    (t : Table) → IsUnremoved t (resolution_among vs) → IsUnremoved t (resolution_of m)
+unremoved_by vs m same t h = grind arith
+
+module _ {S : Type 0} (vs : List Feature) (up : AreInOrder vs) (m : HashMap (Bor Text) Feature S)
+    (held : (i : ℕ) (v : Feature) → slice_get vs i ≡ Some v → value_at m v.key.now ≡ Some v)
+    (only : (f : Text) → IsSome (value_at m f) → (i : ℕ) × (v : Feature) × (slice_get vs i ≡ Some v) × (v.key.now ≡ f)) where
+  -- the map has under each name the feature of that name
+  pub same_at : (f : Text) → value_at m f ≡ feature_at vs f
+  same_at f = grind (arith, found_stands, stands_found)
+
+  pub all_kept : (t : Table) (removed : Text → Bool) (hidden : HashMap (Bor Text) (BTreeSet (Bor Text)) S) → ((r : Text) → value_at hidden r ≡ None) →
+      ((r : Text) → ¬ IsTrue (removed r)) → IsUnremoved t (resolution_among vs) → AreKept t removed vs m hidden
+  all_kept t removed hidden empty none h = record {
+    resolved = resolved_unremoved t (resolution_of m) (λ f. IsTrue (removed f)) none (unremoved_by vs m same_at t h);
+    own = λ f. own_at f (value_at m f) (same_at f);
+    bins = grind (arith, none_ascend, same_at);
+    redirected = λ r. ap is_some (empty r) ∙ sym (false_from_ne_true (removed r) (none r));
+    redirects = λ r. subst (λ o. IfSome o (λ names. (x : Text) → IsTrue (set_has names x) ↔ RedirectsTo t (λ s. IsTrue (removed s)) (λ a b. IsTrue (is_below a b)) r x)) (sym (empty r)) tt;
+  }
+    where
+      own_at : (f : Text) (o : Option Feature) → o ≡ feature_at vs f → IfSome o (λ w. (v : Feature) × (feature_at vs f ≡ Some v) × IsNamedAlike v w)
+      own_at f None e = tt
+      own_at f (Some w) e = (w, sym e, record { key = refl; marks = refl })
+
+-- a weaker fact of one result
+pub if_ok_weaker : {X Y : Type 0} (r : Result X Y) (A Q : X → Type 0) → ((x : X) → A x → Q x) → IfOk r A → IfOk r Q
+if_ok_weaker r A Q f a = grind arith

@@ -1,12 +1,13 @@
--- Rows of numbers, number after number.
-use Rattle.std.proofs.Common.{◌≡◌, ◌≢◌, ◌↔◌, ◌⊎◌, ◌<◌, ◌≤◌, ◌+◌, ℕ, zero, suc, Bool, true, false, List, [], ◌∷◌, ◌++◌, length, map, take, get_or, replicate, slice_get, IsTrue, Option, Some, None, is_some, option_map, Bor, refl, sym, ap, subst, inl, inr, ◌∙◌, arith}
-use Rattle.std.proofs.lemmas.{Bool.false≢true, List.length-map, List.map_push, List.take_all, Map.Made.is_some-lookup}
-use Rattle.std.specs.{BTreeMap.BTreeMap, BTreeMap.is_at, BTreeSet.BTreeSet, Cmp.Lexicographic.slice_cmp, Map.lookup, Map.Iter.deref_pair, Option.IsSomeAnd, Ordering.nat_cmp}
+-- Texts that get numbers, and rows of numbers, one after another.
+use Rattle.std.proofs.Common.{◌≡◌, ◌≢◌, ◌↔◌, ◌⊎◌, ◌<◌, ◌≤◌, ◌+◌, ℕ, zero, suc, Bool, true, false, List, [], ◌∷◌, ◌++◌, length, map, take, get_or, replicate, slice_get, IsTrue, Option, Some, is_some, option_map, Bor, refl, sym, ap, subst, inl, inr, ◌∙◌, arith}
+use Rattle.std.proofs.lemmas.{Bool.false≢true, Bool.cases_lt, List.length-map, List.map_push, List.take_all, List.get_or-take, List.get_or_append_left, List.length-append, List.length-take-le, List.take-map, List.take-take}
+use Rattle.std.proofs.lemmas.{List.take_at, Map.Made.is_some-lookup}
+use Rattle.std.specs.{BTreeMap.BTreeMap, BTreeSet.BTreeSet, BTreeSet.btree_set_len, Map.Iter.deref_pair}
 use Rattle.cargo_toml_graph.specs.{Ascending.Ascend, Action.Text, Graph.IsPlain, Reach.Among}
-use Rattle.cargo_toml_resolve.specs.{Numbers.IsWanted, Enabling.LeadsTo, Numbering.Gains, Numbering.HasNames, Numbering.IsTarget, Texts.texts_now}
-use Rattle.cargo_toml_features.specs.{Places.nth_text, declared.features.DepAction.DepAction, declared.features.Feature.Feature, Views.action_at, Views.action_of, Views.set_has}
-use Rattle.cargo_toml_features.proofs.Places.{among_at, once}
-use Rattle.cargo_toml_resolve.proofs.{Gathered.all_seen, Gathered.among_push, Gathered.seen, Gathered.seen_push, Steps.among_all, Steps.among_more, Steps.among_taken, InOrder.among_keys}
+use Rattle.cargo_toml_features.specs.{Places.nth_text, declared.features.DepAction.DepAction, declared.features.Feature.Feature, Views.action_at, Views.action_of, Views.set_has, InOrder.names_of}
+use Rattle.cargo_toml_features.proofs.{Places.among_at, Places.once, TextKeys.none_in}
+use Rattle.cargo_toml_resolve.specs.{Numbers.IsWanted, Enabling.LeadsTo, Numbering.Gains, Numbering.HasNames, Numbering.IsTarget, Numbering.AreTextsOf, Numbering.Extends, Numbering.IsNodeOf, Texts.texts_now}
+use Rattle.cargo_toml_resolve.proofs.{Steps.among_all, Steps.among_more, Steps.among_taken, InOrder.among_keys, InOrder.all_seen, InOrder.among_push, InOrder.seen, InOrder.seen_push, Learning.no_keys}
 
 -- nothing is gained
 pub none_gained : (n own : ℕ) (P : ℕ → Type 0) (row : List ℕ) → ((x : ℕ) → ¬ P x) → Gains n own P row row
@@ -14,65 +15,26 @@ none_gained n own P row none x = (λ i. inl i, elim [ inl i ↦ i | inr t ↦ ab
 
 -- first these, then those
 pub both_gained : (n own : ℕ) (P Q : ℕ → Type 0) (old mid new : List ℕ) → Gains n own P old mid → Gains n own Q mid new → Gains n own (λ x. P x ⊎ Q x) old new
-both_gained n own P Q old mid new p q x = (
-  λ i. elim ((q x).0 i) [
-    | inl j ↦ elim ((p x).0 j) [ inl o ↦ inl o | inr t ↦ inr (t.0, t.1, inl t.2) ]
-    | inr t ↦ inr (t.0, t.1, inr t.2)
-  ],
-  elim [
-    | inl o ↦ (q x).1 (inl ((p x).1 (inl o)))
-    | inr t ↦ elim (t.2) [ inl l ↦ (q x).1 (inl ((p x).1 (inr (t.0, t.1, l)))) | inr r ↦ (q x).1 (inr (t.0, t.1, r)) ]
-  ],
-)
+both_gained n own P Q old mid new p q x = grind arith
 
 -- the same places gain the same
 pub gained_alike : (n m own : ℕ) (P Q : ℕ → Type 0) (old new : List ℕ) → n ≡ m → ((x : ℕ) → x < m → P x ↔ Q x) → Gains n own P old new → Gains m own Q old new
-gained_alike n m own P Q old new len same h = subst (λ k. Gains k own Q old new) len (λ x. (
-  λ i. elim ((h x).0 i) [ inl o ↦ inl o | inr t ↦ inr (t.0, t.1, (same x (subst (λ k. x < k) len t.0)).0 t.2) ],
-  λ w. (h x).1 (elim w [ inl o ↦ inl o | inr t ↦ inr (t.0, t.1, (same x (subst (λ k. x < k) len t.0)).1 t.2) ]),
-))
+gained_alike n m own P Q old new len same h = grind arith
 
 -- the keys among the nodes of what is named
 pub named_gained : (n own : ℕ) (texts : List Text) (P : Text → Type 0) (nodes old new : List ℕ) → HasNames n texts P nodes → Gains n own (Among nodes) old new → Gains n own (λ x. P (nth_text texts x)) old new
-named_gained n own texts P nodes old new names h x = (
-  λ i. elim ((h x).0 i) [ inl o ↦ inl o | inr t ↦ inr (t.0, t.1, names.only x t.2) ],
-  elim [ inl o ↦ (h x).1 (inl o) | inr t ↦ (h x).1 (inr (t.0, t.1, names.keys x t.0 t.2)) ],
-)
+named_gained n own texts P nodes old new names h x = grind arith
 
 -- one more node of a list
 module _ (n own : ℕ) (nodes : List ℕ) (i node : ℕ) (old row : List ℕ) (lt : i < length nodes) (is : node ≡ get_or nodes i 0) (h : Gains n own (Among (take i nodes)) old row) where
   pub node_put : (node < n) × (node ≢ own) → Gains n own (Among (take (i + 1) nodes)) old (row ++ node ∷ [])
-  node_put good x =
-      let split = among_more nodes i x lt in
-      let push = among_push row node x in (
-        λ j. elim (push.0 j) [
-          | inl r ↦ elim ((h x).0 r) [ inl o ↦ inl o | inr t ↦ inr (t.0, t.1, split.1 (inl t.2)) ]
-          | inr e ↦ inr (subst (λ z. z < n) (sym e) good.0, λ o. good.1 (sym e ∙ o), split.1 (inr (e ∙ is)))
-        ],
-        λ w. push.1 (elim w [
-          | inl o ↦ inl ((h x).1 (inl o))
-          | inr t ↦ elim (split.0 t.2) [ inl s ↦ inl ((h x).1 (inr (t.0, t.1, s))) | inr e ↦ inr (e ∙ sym is) ]
-        ]),
-      )
+  node_put good x = grind (arith, among_more, among_push)
 
   pub node_left : ¬ ((node < n) × (node ≢ own)) → Gains n own (Among (take (i + 1) nodes)) old row
-  node_left bad x =
-      let split = among_more nodes i x lt in (
-        λ j. elim ((h x).0 j) [ inl o ↦ inl o | inr t ↦ inr (t.0, t.1, split.1 (inl t.2)) ],
-        λ w. elim w [
-          | inl o ↦ (h x).1 (inl o)
-          | inr t ↦ elim (split.0 t.2) [
-            | inl s ↦ (h x).1 (inr (t.0, t.1, s))
-            | inr e ↦ absurd (bad (subst (λ z. z < n) (e ∙ sym is) t.0, λ o. t.1 (e ∙ sym is ∙ o)))
-          ]
-        ],
-      )
+  node_left bad x = grind (arith, among_more)
 
 pub nodes_gained : (n own : ℕ) (nodes : List ℕ) (i : ℕ) (old new : List ℕ) → length nodes ≤ i → Gains n own (Among (take i nodes)) old new → Gains n own (Among nodes) old new
-nodes_gained n own nodes i old new le h x = (
-  λ j. elim ((h x).0 j) [ inl o ↦ inl o | inr t ↦ inr (t.0, t.1, among_taken nodes i x t.2) ],
-  elim [ inl o ↦ (h x).1 (inl o) | inr t ↦ (h x).1 (inr (t.0, t.1, among_all nodes i x le t.2)) ],
-)
+nodes_gained n own nodes i old new le h x = grind (arith, among_taken, among_all)
 
 -- rows that gain features
 module _ (keys : List (Bor Text)) (own : ℕ) where
@@ -81,43 +43,22 @@ module _ (keys : List (Bor Text)) (own : ℕ) where
     one_key i j lt lt' same = let long = length-map keys (λ (t : Bor Text). t.now) in once (texts_now keys) up i j (omega (arith, long, lt)) (omega (arith, long, lt')) same
 
     pub key_put : (n : ℕ) → (n < length keys) × (nth_text (texts_now keys) n ≡ key) → n ≢ own → Gains (length keys) own (λ x. nth_text (texts_now keys) x ≡ key) row (row ++ n ∷ [])
-    key_put n at other x = (
-      λ i. elim ((among_push row n x).0 i) [
-        | inl j ↦ inl j
-        | inr is ↦ inr (subst (λ m. m < length keys) (sym is) at.0, λ e. other (sym is ∙ e), ap (λ m. nth_text (texts_now keys) m) is ∙ at.1)
-      ],
-      λ w. (among_push row n x).1 (elim w [ inl j ↦ inl j | inr t ↦ inr (one_key x n t.0 at.0 (t.2 ∙ sym at.1)) ]),
-    )
+    key_put n at other x = grind (arith, among_push, one_key)
 
     pub key_own : (n : ℕ) → (n < length keys) × (nth_text (texts_now keys) n ≡ key) → n ≡ own → Gains (length keys) own (λ x. nth_text (texts_now keys) x ≡ key) row row
     key_own n at is x = (λ i. inl i, elim [ inl i ↦ i | inr t ↦ absurd (t.1 (one_key x n t.0 at.0 (t.2 ∙ sym at.1) ∙ is)) ])
 
     pub key_missing : (Among (texts_now keys) key → ⊥) → Gains (length keys) own (λ x. nth_text (texts_now keys) x ≡ key) row row
-    key_missing none x = (
-      λ i. inl i,
-      elim [ inl i ↦ i | inr t ↦ absurd (none (subst (Among (texts_now keys)) t.2 (among_at (texts_now keys) x [] (let long = length-map keys (λ (t : Bor Text). t.now) in let lt = t.0 in omega (arith, long, lt))))) ],
-    )
+    key_missing none x = grind (arith, among_at, length-map)
 
   -- one more name
   pub name_gained : (ks : List (Bor (Bor Text))) (k : Bor (Bor Text)) (old row new : List ℕ) → Gains (length keys) own (λ x. Among (seen ks) (nth_text (texts_now keys) x)) old row
       → Gains (length keys) own (λ x. nth_text (texts_now keys) x ≡ k.now.now) row new → Gains (length keys) own (λ x. Among (seen (ks ++ k ∷ [])) (nth_text (texts_now keys) x)) old new
-  name_gained ks k old row new so_far more x = (
-    λ i. elim ((more x).0 i) [
-      | inl j ↦ elim ((so_far x).0 j) [ inl o ↦ inl o | inr t ↦ inr (t.0, t.1, (seen_push ks k _).1 (inl t.2)) ]
-      | inr t ↦ inr (t.0, t.1, (seen_push ks k _).1 (inr t.2))
-    ],
-    λ w. (more x).1 (elim w [
-      | inl o ↦ inl ((so_far x).1 (inl o))
-      | inr t ↦ elim ((seen_push ks k _).0 t.2) [ inl s ↦ inl ((so_far x).1 (inr (t.0, t.1, s))) | inr is ↦ inr (t.0, t.1, is) ]
-    ]),
-  )
+  name_gained ks k old row new so_far more x = grind (arith, seen_push)
 
   pub names_gained : (s : BTreeSet (Bor Text)) (ks : List (Bor (Bor Text))) (old row : List ℕ) → map (λ k. k.now) ks ≡ s.keys → Gains (length keys) own (λ x. Among (seen ks) (nth_text (texts_now keys) x)) old row
       → Gains (length keys) own (λ x. IsTrue (set_has s (nth_text (texts_now keys) x))) old row
-  names_gained s ks old row all h x = (
-    λ i. elim ((h x).0 i) [ inl o ↦ inl o | inr t ↦ inr (t.0, t.1, (all_seen s ks all _).0 t.2) ],
-    elim [ inl o ↦ (h x).1 (inl o) | inr t ↦ (h x).1 (inr (t.0, t.1, (all_seen s ks all _).1 t.2)) ],
-  )
+  names_gained s ks old row all h x = grind (arith, all_seen)
 
   -- the keys of actions that a loop has met
   abbrev pub acted : List (Bor (Bor Text) × Bor DepAction) → List Text
@@ -131,23 +72,7 @@ module _ (keys : List (Bor Text)) (own : ℕ) where
       → action_at m k.now.now ≡ Some (action_of a.now) → Gains (length keys) own (PlainSoFar m es) old row
       → ((x : ℕ) → Among new x ↔ (Among row x ⊎ (((x < length keys) × (x ≢ own) × (nth_text (texts_now keys) x ≡ k.now.now)) × IsPlain (Some (action_of a.now)))))
       → Gains (length keys) own (PlainSoFar m (es ++ (k, a) ∷ [])) old new
-  action_put m es k a old row new there so_far more x = (
-    λ i. elim ((more x).0 i) [
-      | inl j ↦ elim ((so_far x).0 j) [ inl o ↦ inl o | inr t ↦ inr (t.0, t.1, (push.1 (inl t.2.0), t.2.1)) ]
-      | inr t ↦ inr (t.0.0, t.0.1, (push.1 (inr t.0.2), subst IsPlain (sym (ap (action_at m) t.0.2 ∙ there)) t.1))
-    ],
-    λ w. (more x).1 (elim w [
-      | inl o ↦ inl ((so_far x).1 (inl o))
-      | inr t ↦ elim (push.0 t.2.0) [
-        | inl s ↦ inl ((so_far x).1 (inr (t.0, t.1, (s, t.2.1))))
-        | inr is ↦ inr ((t.0, t.1, is), subst IsPlain (ap (action_at m) is ∙ there) t.2.1)
-      ]
-    ]),
-  )
-    where
-      push : Among (acted (es ++ (k, a) ∷ [])) (nth_text (texts_now keys) x) ↔ (Among (acted es) (nth_text (texts_now keys) x) ⊎ (nth_text (texts_now keys) x ≡ k.now.now))
-      push = subst (λ ys. Among ys (nth_text (texts_now keys) x) ↔ (Among (acted es) (nth_text (texts_now keys) x) ⊎ (nth_text (texts_now keys) x ≡ k.now.now)))
-          (sym (map_push (λ (e : Bor (Bor Text) × Bor DepAction). e.0.now.now) es (k, a))) (among_push (acted es) k.now.now (nth_text (texts_now keys) x))
+  action_put m es k a old row new there so_far more x = grind (arith, map_push, among_push)
 
   -- a plain action enables the feature of its key's name, and another one none
   pub action_plain : (m : BTreeMap (Bor Text) DepAction) (es : List (Bor (Bor Text) × Bor DepAction)) (k : Bor (Bor Text)) (a : Bor DepAction) (old row new : List ℕ)
@@ -171,19 +96,11 @@ module _ (keys : List (Bor Text)) (own : ℕ) where
   keys_shown (e ∷ es) = ap (λ ys. e.0.now.now ∷ ys) (keys_shown es)
 
   plain_there : (o : Option DepAction) → IsPlain (option_map action_of o) → is_some o ≡ true
-  plain_there None p = absurd p
-  plain_there (Some a) p = refl
+  plain_there o p = grind arith
 
   pub all_actions : (m : BTreeMap (Bor Text) DepAction) (es : List (Bor (Bor Text) × Bor DepAction)) (old row : List ℕ) → map deref_pair es ≡ m.entries → Gains (length keys) own (PlainSoFar m es) old row
       → Gains (length keys) own (λ x. IsPlain (action_at m (nth_text (texts_now keys) x))) old row
-  all_actions m es old row all h x = (
-    λ i. elim ((h x).0 i) [ inl o ↦ inl o | inr t ↦ inr (t.0, t.1, t.2.1) ],
-    elim [ inl o ↦ (h x).1 (inl o) | inr t ↦ (h x).1 (inr (t.0, t.1, (met (nth_text (texts_now keys) x) t.2, t.2))) ],
-  )
-    where
-      met : (y : Text) → IsPlain (action_at m y) → Among (acted es) y
-      met y p = subst (λ ys. Among ys y) (sym (keys_shown es ∙ ap (λ (us : List (Bor Text × DepAction)). texts_now (map (λ e. e.0) us)) all))
-          ((among_keys y (map (λ e. e.0) m.entries)).1 (sym (is_some-lookup (is_at (λ (k : Bor Text). slice_cmp nat_cmp y k.now)) m.entries) ∙ plain_there (lookup (is_at (λ k. slice_cmp nat_cmp y k.now)) m.entries) p))
+  all_actions m es old row all h x = grind (arith, keys_shown es, among_keys, is_some-lookup, plain_there)
 
 -- flags with others after them that don't stand
 pub flags_kept : (flags : List Bool) (k i : ℕ) → IsWanted (flags ++ replicate k false) true i ↔ IsWanted flags true i
@@ -198,14 +115,95 @@ flags_kept (b ∷ flags) k (suc i) = flags_kept flags k i
 
 pub all_kept : (flags first mid new : List Bool) (size k : ℕ) → length flags ≤ size → first ≡ [] → mid ≡ first ++ flags → new ≡ take size mid ++ replicate k false
     → (i : ℕ) → IsWanted new true i ↔ IsWanted flags true i
-all_kept flags first mid new size k fits none joined filled i =
-    let whole : mid ≡ flags = joined ∙ ap (λ fs. fs ++ flags) none in
-    subst (λ fs. IsWanted fs true i ↔ IsWanted flags true i) (sym (filled ∙ ap (λ fs. take size fs ++ replicate k false) whole ∙ ap (λ fs. fs ++ replicate k false) (take_all size flags fits))) (flags_kept flags k i)
+all_kept flags first mid new size k fits none joined filled i = grind (arith, take_all size flags fits, flags_kept flags k i)
 
 -- the row of one feature is that of its place
 pub target_is : (vs : List Feature) (keys : List Text) (own : ℕ) (v : Feature) (row : List ℕ) → slice_get vs own ≡ Some v
     → Gains (length vs) own (λ x. LeadsTo v (nth_text keys x)) [] row → (x : ℕ) → Among row x ↔ ((x < length vs) × IsTarget vs keys own x)
-target_is vs keys own v row there h x = (
-  λ i. elim ((h x).0 i) [ inl none ↦ absurd none | inr t ↦ (t.0, (t.1, subst (λ o. IsSomeAnd o (λ u. LeadsTo u (nth_text keys x))) (sym there) t.2)) ],
-  λ w. (h x).1 (inr (w.0, w.1.0, subst (λ o. IsSomeAnd o (λ u. LeadsTo u (nth_text keys x))) there w.1.1)),
-)
+target_is vs keys own v row there h x = grind arith
+
+pub extends_none : (n : ℕ) (ts : List Text) → Extends n ts ts
+extends_none n ts = record { front = take_all (length ts) ts (omega arith); apart = λ j le lt. absurd (omega (arith, le, lt)) }
+
+module _ (n : ℕ) (old new : List Text) (h : Extends n old new) where
+  pub longer : length old ≤ length new
+  longer = grind (arith, cases_lt, take_all)
+
+  pub nth_still : (j : ℕ) → j < length old → nth_text new j ≡ nth_text old j
+  nth_still j lt = sym (get_or-take (length old) new j [] lt) ∙ ap (λ ts. nth_text ts j) h.front
+
+  pub front_still : n ≤ length old → take n new ≡ take n old
+  front_still fits = sym (take-take n (length old) new fits) ∙ ap (take n) h.front
+
+  pub names_still : (P : Text → Type 0) (row : List ℕ) → n ≤ length old → HasNames n old P row → HasNames n new P row
+  names_still P row fits r = grind (arith, longer, nth_still)
+
+  pub extends_then : (late : List Text) → n ≤ length old → Extends n new late → Extends n old late
+  extends_then late fits g = grind (arith, take-take, longer, cases_lt, get_or-take, front_still fits)
+
+-- the same of texts that are borrowed
+pub fits_now : (n : ℕ) (ts : List (Bor Text)) → n ≤ length ts → n ≤ length (texts_now ts)
+fits_now n ts fits = let long = length-map ts (λ (t : Bor Text). t.now) in omega (arith, long, fits)
+
+pub texts_longer : (n : ℕ) (old new : List (Bor Text)) → n ≤ length old → Extends n (texts_now old) (texts_now new) → n ≤ length new
+texts_longer n old new fits h = grind (arith, longer n (texts_now old) (texts_now new) h, length-map)
+
+pub front_text : (n : ℕ) (old new : List (Bor Text)) → n ≤ length old → Extends n (texts_now old) (texts_now new) → (x : ℕ) → x < n → nth_text (texts_now (take n new)) x ≡ nth_text (texts_now old) x
+front_text n old new fits h x lt =
+    let inside = fits_now n old fits in
+    ap (λ us. nth_text us x) (sym (take-map (λ (t : Bor Text). t.now) n new)) ∙ get_or-take n (texts_now new) x [] lt ∙ nth_still n (texts_now old) (texts_now new) h x (omega (arith, lt, inside))
+
+-- a text that is no key is put at the end
+pub extends_push : (n : ℕ) (ts : List Text) (name : Text) → ¬ Among (take n ts) name → Extends n ts (ts ++ name ∷ [])
+extends_push n ts name other = record {
+  front = take_at ts (name ∷ []) (length ts) refl;
+  apart = λ j le lt.
+      let at : j ≡ length ts = omega (arith, length-append ts (name ∷ []), le, lt) in
+      subst (λ k. ¬ Among (take n ts) k) (sym (ap (nth_text (ts ++ name ∷ [])) at ∙ last ts)) other;
+}
+  where
+    last : (us : List Text) → nth_text (us ++ name ∷ []) (length us) ≡ name
+    last [] = refl
+    last (u ∷ us) = last us
+
+-- the node of a name is that of a key, or stands at the end
+pub node_found : (n : ℕ) (ts : List Text) (name : Text) (i : ℕ) → n ≤ length ts → Ascend (take n ts) → i < n → nth_text ts i ≡ name → IsNodeOf n ts name i
+node_found n ts name i fits up lt is = grind (arith, length-take-le n ts fits, once, get_or-take n ts i, get_or-take)
+
+pub node_pushed : (n : ℕ) (ts : List Text) (name : Text) → n ≤ length ts → ¬ Among (take n ts) name → IsNodeOf n (ts ++ name ∷ []) name (length ts)
+node_pushed n ts name fits other = record {
+  inside = let long = length-append ts (name ∷ []) in omega (arith, long);
+  text = last ts;
+  key = λ i lt is. grind (arith, get_or-take n ts i, get_or_append_left ts (name ∷ []), among_at (take n ts) i, length-take-le n ts fits);
+}
+  where
+    last : (us : List Text) → nth_text (us ++ name ∷ []) (length us) ≡ name
+    last [] = refl
+    last (u ∷ us) = last us
+
+-- no name yet, one more, and all of a set
+pub names_none : (n : ℕ) (ts : List Text) (row : List ℕ) → row ≡ [] → HasNames n ts (Among (seen [])) row
+names_none n ts row none = grind arith
+
+pub names_more : (n : ℕ) (ts : List Text) (ks : List (Bor (Bor Text))) (k : Bor (Bor Text)) (row : List ℕ) (x : ℕ) → IsNodeOf n ts k.now.now x → HasNames n ts (Among (seen ks)) row
+    → HasNames n ts (Among (seen (ks ++ k ∷ []))) (row ++ x ∷ [])
+names_more n ts ks k row x node h = grind (arith, among_push row x x, among_push, seen_push)
+
+pub names_alike : (n : ℕ) (ts : List Text) (P Q : Text → Type 0) (row : List ℕ) → ((k : Text) → P k ↔ Q k) → HasNames n ts P row → HasNames n ts Q row
+names_alike n ts P Q row same h = grind arith
+
+pub names_empty : (n : ℕ) (ts : List Text) (s : BTreeSet (Bor Text)) (row : List ℕ) → row ≡ [] → btree_set_len s ≡ 0 → HasNames n ts (λ k. IsTrue (set_has s k)) row
+names_empty n ts s row none empty = names_alike n ts (Among (seen [])) (λ k. IsTrue (set_has s k)) row (λ k. (λ i. absurd i, λ y. absurd (false≢true (sym (none_in s (no_keys s.keys empty) k) ∙ y)))) (names_none n ts row none)
+
+pub names_all : (n : ℕ) (ts : List Text) (s : BTreeSet (Bor Text)) (ks : List (Bor (Bor Text))) (row : List ℕ) → map (λ k. k.now) ks ≡ s.keys
+    → HasNames n ts (Among (seen ks)) row → HasNames n ts (λ k. IsTrue (set_has s k)) row
+names_all n ts s ks row all h = names_alike n ts (Among (seen ks)) (λ k. IsTrue (set_has s k)) row (all_seen s ks all) h
+
+-- the names of features, with other texts after them
+module _ (vs : List Feature) (texts : List Text) (h : AreTextsOf vs texts) where
+  pub keys_fit : length vs ≤ length texts
+  keys_fit = grind (arith, cases_lt, length-map, take_all)
+
+  -- a feature's number is its place
+  pub key_text : (i : ℕ) → i < length vs → nth_text texts i ≡ nth_text (names_of vs) i
+  key_text i lt = sym (get_or-take (length vs) texts i [] lt) ∙ ap (λ ks. nth_text ks i) h.keys

@@ -1,7 +1,6 @@
 -- What holds of a graph of numbers holds of the table that it stands for.
-use Rattle.std.proofs.Common.{◌≡◌, ◌⊎◌, ◌↔◌, ◌<◌, ℕ, Bool, true, false, List, length, IsTrue, Some, refl, sym, subst, inl, inr, ◌∙◌, arith}
-use Rattle.std.proofs.lemmas.Bool.{false≢true, cases_Bool}
-use Rattle.std.specs.List.{slice_index_or}
+use Rattle.std.proofs.Common.{◌≡◌, ◌⊎◌, ◌↔◌, ◌<◌, ℕ, Bool, true, false, List, length, IsTrue, Some, refl, sym, subst, arith}
+use Rattle.std.proofs.lemmas.Bool.{cases_Bool}
 use Rattle.cargo_toml_graph.specs.{Action.Text, Action.Action, Admitted.is_below, Graph.Table, Graph.Edge, Graph.ReachesThrough, Graph.KeepsName, Graph.IsEnabledBy, Graph.Says, Reach.Reaches}
 use Rattle.cargo_toml_graph.specs.{Reach.Gathers, Reach.GathersLabel, Reach.Reaches.edge, Reach.Reaches.through, Redirects.RedirectsTo}
 use Rattle.cargo_toml_graph.proofs.OneRemoval.{target}
@@ -38,34 +37,23 @@ module _ (t : Table) (Removed : Text → Type 0) (texts : List Text) (edges name
     reaches_inside i j below p = (to_texts below p).0
 
     pub gathers_inside : (i b : ℕ) → i < length edges → Gathers (Leads edges) S i b → b < length edges
-    gathers_inside i b below (inl is) = subst (λ k. k < length edges) (sym is) below
-    gathers_inside i b below (inr g) = reaches_inside i b below g.1
+    gathers_inside i b below p = grind (arith, reaches_inside)
 
     gathers_to : (i b : ℕ) → i < length edges → Gathers (Leads edges) S i b → Gathers (Edge t) T (nth_text texts i) (nth_text texts b)
-    gathers_to i b below (inl is) = inl (subst (λ k. nth_text texts k ≡ nth_text texts i) (sym is) refl)
-    gathers_to i b below (inr g) = let p = to_texts below g.1 in inr ((same b p.0).0 g.0, p.1)
+    gathers_to i b below p = grind (arith, to_texts)
 
     gathers_from : (i : ℕ) (v : Text) → i < length edges → Gathers (Edge t) T (nth_text texts i) v → HasNumber texts (length edges) (Gathers (Leads edges) S i) v
-    gathers_from i v below (inl is) = (i, below, sym is, inl refl)
-    gathers_from i v below (inr g) =
-        let k = (h.vertex v).0 (target g.1) in
-        (k.0, k.1, k.2, inr ((same k.0 k.1).1 (subst T (sym k.2) g.0), to_numbers g.1 i k.0 below k.1 refl k.2))
+    gathers_from i v below p = grind (arith, target, to_numbers)
 
     -- a vertex gathers the labels of what it gathers as a number
     pub gathers_each : {X : Type 0} (Has : Text → X → Type 0) (i : ℕ) (x : X) → i < length edges
         → GathersLabel (Edge t) T Has (nth_text texts i) x ↔ GathersLabel (Leads edges) S (λ b y. Has (nth_text texts b) y) i x
-    gathers_each Has i x below = (
-      λ l. let k = gathers_from i l.0 below l.1 in (k.0, k.3, subst (λ v. Has v x) (sym k.2) l.2),
-      λ l. (nth_text texts l.0, gathers_to i l.0 below l.1, l.2),
-    )
+    gathers_each Has i x below = grind (arith, gathers_from, gathers_to)
 
     pub gathers_label : (i : ℕ) (x : Text) → i < length edges → ((k : ℕ) → Gathers (Leads edges) S i k → IsNaming edges flags k)
         → GathersLabel (Edge t) T (λ b y. IsTrue (t.names b y)) (nth_text texts i) x ↔ HasNumber texts (length texts) (GathersLabel (Leads edges) S (Leads names) i) x
     gathers_label i x below asked = (
-      λ l.
-          let k = gathers_from i l.0 below l.1 in
-          let n = (h.labels k.0 x k.1 (asked k.0 k.3)).0 (subst (λ v. IsTrue (t.names v x)) (sym k.2) l.2) in
-          (n.0, n.1, n.2, (k.0, k.3, n.3)),
+      λ l. grind (arith, gathers_from i l.0 below l.1),
       λ n.
           let b = n.3.0 in
           (nth_text texts b, gathers_to i b below n.3.1, (h.labels b x (gathers_inside i b below n.3.1) (asked b n.3.1)).1 (n.0, n.1, n.2, n.3.2)),
@@ -80,15 +68,11 @@ module _ (t : Table) (Removed : Text → Type 0) (texts : List Text) (edges name
 
   -- a number whose flag doesn't stand is the text of nothing removed
   pub unflagged : (j : ℕ) → j < length texts → IsWanted flags false j ↔ (¬ Removed (nth_text texts j))
-  unflagged j below = (
-    λ f r. false≢true (sym f ∙ (h.flagged j below).1 r),
-    λ kept. elim (cases_Bool (slice_index_or flags j false)) [ inl f ↦ absurd (kept ((h.flagged j below).0 f)) | inr f ↦ f ],
-  )
+  unflagged j below = grind (arith, cases_Bool)
 
   -- what one of these gathers is asked for its names too
   all_asked : (i : ℕ) → IsNaming edges flags i → (k : ℕ) → Gathers (Leads edges) (IsWanted flags true) i k → IsNaming edges flags k
-  all_asked i asked k (inl is) = subst (IsNaming edges flags) (sym is) asked
-  all_asked i asked k (inr g) = inl g.0
+  all_asked i asked k p = grind arith
 
   pub keeps_name : (i : ℕ) (x : Text) → i < length edges → IsNaming edges flags i → KeepsName t Removed (nth_text texts i) x ↔ HasNumber texts (length texts) (KeepsLabel edges flags names i) x
   keeps_name i x below asked = (
@@ -103,15 +87,7 @@ module _ (t : Table) (Removed : Text → Type 0) (texts : List Text) (edges name
 
   pub is_enabled_by : (f : ℕ) (e : Text) → f < length edges
       → IsEnabledBy t Removed (nth_text texts f) e ↔ HasNumber texts (length edges) (λ j. IsWanted flags false j × Reaches (Leads edges) (IsWanted flags true) j f) e
-  is_enabled_by f e below = (
-    λ n.
-        let j = (h.vertex e).0 n.0.0 in
-        let kept = (unflagged j.0 (let fits = h.count in omega arith)).1 (λ r. n.0.1 (subst Removed j.2 r)) in
-        (j.0, j.1, j.2, (kept, to_numbers (IsWanted flags true) Removed vertex_flag n.1 j.0 f j.1 below j.2 refl)),
-    λ j.
-        let kept = (unflagged j.0 (let fits = h.count in omega arith)).0 j.3.0 in
-        (((h.vertex e).1 (j.0, j.1, j.2), λ r. kept (subst Removed (sym j.2) r)), subst (λ v. ReachesThrough t Removed v (nth_text texts f)) j.2 ((reaches_text j.0 f j.1 below).0 j.3.1)),
-  )
+  is_enabled_by f e below = grind (arith, unflagged, to_numbers, vertex_flag, reaches_text)
 
   pub says : (i : ℕ) (k : Text) (a : Action) → i < length edges
       → Says t Removed (nth_text texts i) k a ↔ ((b : ℕ) × ((b ≡ i) ⊎ IsPassed edges flags i b) × (t.action (nth_text texts b) k ≡ Some a))
@@ -122,20 +98,13 @@ module _ (t : Table) (Removed : Text → Type 0) (texts : List Text) (edges name
   Lower r s = Removed s × IsTrue (is_below s (nth_text texts r))
 
   pub under : (r : ℕ) → r < length edges → (j : ℕ) → j < length texts → IsUnder edges flags r j ↔ Lower r (nth_text texts j)
-  under r below j inside = (
-    λ u. ((h.flagged j inside).0 u.0, h.in_order j r u.1 below),
-    λ b.
-        let k = (h.vertex (nth_text texts j)).0 (h.removed (nth_text texts j) b.0) in
-        let is : k.0 ≡ j = h.one k.0 j k.1 inside k.2 in
-        ((h.flagged j inside).1 b.0, lower_place texts j r (λ later. h.in_order r j later (subst (λ n. n < length edges) is k.1)) b.1),
-  )
+  under r below j inside = grind (arith, lower_place)
 
   pub vertex_under : (r : ℕ) → r < length edges → (i : ℕ) → i < length edges → IsUnder edges flags r i ↔ Lower r (nth_text texts i)
   vertex_under r below i vertex = under r below i (let fits = h.count in omega arith)
 
   under_asked : (r : ℕ) → IsWanted flags true r → (k : ℕ) → Gathers (Leads edges) (IsUnder edges flags r) r k → IsNaming edges flags k
-  under_asked r gone k (inl is) = inl (subst (IsWanted flags true) (sym is) gone)
-  under_asked r gone k (inr g) = inl g.0.0
+  under_asked r gone k p = grind arith
 
   pub redirects_to : (r : ℕ) (x : Text) → r < length edges → IsWanted flags true r
       → RedirectsTo t Removed (λ a b. IsTrue (is_below a b)) (nth_text texts r) x ↔ HasNumber texts (length texts) (IsRedirect edges flags names r) x

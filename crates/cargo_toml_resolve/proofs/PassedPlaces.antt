@@ -1,14 +1,13 @@
 -- Places that pass binaries on in turn do so as the features of their names, in byte order.
-use Rattle.std.proofs.Common.{◌≡◌, ◌↔◌, ◌<◌, ◌≤◌, ◌++◌, ℕ, zero, suc, Bool, true, false, cond, List, [], ◌∷◌, length, map, nat_eq, take, Some, IsTrue, slice_get, refl, sym, ap, ap₂, subst, inl, inr, ◌∙◌, arith}
-use Rattle.std.proofs.lemmas.Bool.{cases_eq, false≢true}
+use Rattle.std.proofs.Common.{◌≡◌, ◌↔◌, ◌<◌, ◌≤◌, ◌++◌, ℕ, zero, suc, Bool, true, false, cond, List, [], ◌∷◌, length, map, nat_eq, Some, IsTrue, slice_get, refl, sym, subst, ◌∙◌, arith}
+use Rattle.std.proofs.lemmas.Bool.{cases_eq}
 use Rattle.std.specs.List.{list_any, slice_index_or}
-use Rattle.cargo_toml_graph.specs.{Action.Text, Admitted.is_below, Graph.KeepsName, Graph.Table, Reach.Among, Redirects.RedirectsTo, Removal.pass_all, Removal.put_each, Removal.unremoved}
+use Rattle.cargo_toml_graph.specs.{Action.Text, Admitted.is_below, Graph.KeepsName, Graph.Table, Reach.Among, Redirects.RedirectsTo, Removal.pass_all, Removal.unremoved}
 use Rattle.cargo_toml_graph.specs.{Removal.without_all, Ascending.Ascend}
 use Rattle.cargo_toml_graph.proofs.{BinLists.among-either, BinLists.among-first, BinLists.among-second, Edges.unremoved_is, Elimination.all_taken_out, InByteOrder.ascending_last}
 use Rattle.cargo_toml_graph.proofs.{InByteOrder.ascending_once, InByteOrder.last_passes, Members.label_within, RedirectsInOrder.below_one_way, SortedTexts.none_ascend, Texts.by_true}
 use Rattle.cargo_toml_features.specs.{Places.nth_text, declared.features.Feature.Feature}
 use Rattle.cargo_toml_resolve.specs.{NumberedTables.HasNumber, Numbers.IsWanted, Numbers.Leads, Numbers.row_items, KeptFeatures.ArePassedAt, KeptFeatures.StandFor, Passing.passed_below}
-use Rattle.cargo_toml_resolve.specs.Passing.{passed_from}
 use Rattle.cargo_toml_resolve.proofs.NumberedTables as numbered
 use Rattle.cargo_toml_resolve.proofs.BinTurns.{stands_true, true_stands}
 
@@ -22,27 +21,7 @@ StandsBelow texts flags n v = (j : ℕ) × (j < n) × (nth_text texts j ≡ v) �
 
 one_more : (texts : List Text) (flags : List Bool) (n : ℕ) (v : Text) → Among (names_below texts flags n) v ↔ StandsBelow texts flags n v →
     Among (names_below texts flags (suc n)) v ↔ StandsBelow texts flags (suc n) v
-one_more texts flags n v h = (λ i. there (slice_index_or flags n false) refl i, λ s. back (slice_index_or flags n false) refl s)
-  where
-    wider : StandsBelow texts flags n v → StandsBelow texts flags (suc n) v
-    wider s = (s.0, (let lt = s.1 in omega (arith, lt)), s.2, s.3)
-
-    there : (b : Bool) → slice_index_or flags n false ≡ b → Among (cond b (names_below texts flags n ++ nth_text texts n ∷ []) (names_below texts flags n)) v → StandsBelow texts flags (suc n) v
-    there true e i = elim (among-either (names_below texts flags n) (nth_text texts n ∷ []) v i) [
-      | inl i ↦ wider (h.0 i)
-      | inr j ↦ elim j [ inl is ↦ (n, omega arith, sym is, e) | inr k ↦ absurd k ]
-    ]
-    there false e i = wider (h.0 i)
-
-    back : (b : Bool) → slice_index_or flags n false ≡ b → StandsBelow texts flags (suc n) v → Among (cond b (names_below texts flags n ++ nth_text texts n ∷ []) (names_below texts flags n)) v
-    back true e s = elim (cases_eq s.0 n) [
-      | inl same ↦ among-second (names_below texts flags n) (nth_text texts n ∷ []) v (inl (sym s.2 ∙ ap (nth_text texts) same))
-      | inr other ↦ among-first (names_below texts flags n) (nth_text texts n ∷ []) v (h.1 (s.0, (let lt = s.1 in omega (arith, lt, other)), s.2, s.3))
-    ]
-    back false e s = elim (cases_eq s.0 n) [
-      | inl same ↦ absurd (false≢true (sym e ∙ subst (IsWanted flags true) same s.3))
-      | inr other ↦ h.1 (s.0, (let lt = s.1 in omega (arith, lt, other)), s.2, s.3)
-    ]
+one_more texts flags n v h = grind (arith, among-either, cases_eq, among-second, among-first)
 
 named_below : (texts : List Text) (flags : List Bool) (n : ℕ) (v : Text) → Among (names_below texts flags n) v ↔ StandsBelow texts flags n v
 named_below texts flags zero v = (λ i. absurd i, λ s. let lt = s.1 in absurd (omega (arith, lt)))
@@ -61,10 +40,7 @@ module _ (t : Table) (removed : Text → Bool) (old : List Feature) (texts : Lis
 
   -- these names are removed, and below those that follow
   lower_there : (n : ℕ) → n < length edges → (v : Text) → Among (names_below texts flags n) v → R v × Below v (nth_text texts n)
-  lower_there n lt v i =
-      let s = (named_below texts flags n v).0 i in
-      let u = (numbered.vertex_under t R texts edges names flags stand.numbered n lt s.0 (let less = s.1 in omega (arith, less, lt))).0 (s.3, s.1) in
-      (subst R s.2 u.0, subst (λ w. Below w (nth_text texts n)) s.2 u.1)
+  lower_there n lt v i = grind (arith, named_below, numbered.vertex_under)
 
   lower_back : (n : ℕ) → n < length edges → (v : Text) → R v × Below v (nth_text texts n) → Among (names_below texts flags n) v
   lower_back n lt v l =
@@ -77,8 +53,7 @@ module _ (t : Table) (removed : Text → Bool) (old : List Feature) (texts : Lis
   ascends_below (suc n) le = go (slice_index_or flags n false) (ascends_below n (omega (arith, le)))
     where
       go : (b : Bool) → Ascend (names_below texts flags n) → Ascend (cond b (names_below texts flags n ++ nth_text texts n ∷ []) (names_below texts flags n))
-      go true up = ascending_last (names_below texts flags n) (nth_text texts n) up (λ v i. (lower_there n (omega (arith, le)) v i).1)
-      go false up = up
+      go p up = grind (arith, ascending_last, lower_there)
 
   there_below : (n : ℕ) → n < length edges → (v : Text) → Among (names_below texts flags n) v → IsTrue (t.has v)
   there_below n lt v i = stand.numbered.removed v (lower_there n lt v i).0
@@ -118,27 +93,14 @@ module _ (t : Table) (removed : Text → Bool) (old : List Feature) (texts : Lis
     Agrees n = (i : ℕ) → i < length edges → passed_below rows flags n lists i ≡ pass_all (names_below texts flags n) (unremoved t) own (nth_text texts i)
 
     one_turn : (n : ℕ) → n < length edges → Agrees n → Agrees (suc n)
-    one_turn n lt agrees i below = go (slice_index_or flags n false) refl
-      where
-        go : (b : Bool) → slice_index_or flags n false ≡ b → (cond b (passed_from rows n (passed_below rows flags n lists)) (passed_below rows flags n lists)) i
-            ≡ pass_all (cond b (names_below texts flags n ++ nth_text texts n ∷ []) (names_below texts flags n)) (unremoved t) own (nth_text texts i)
-        go true gone =
-            ap (λ b. cond b (put_each (passed_below rows flags n lists i) (take 10 (passed_below rows flags n lists n))) (passed_below rows flags n lists i)) (names_at n i lt below gone)
-            ∙ ap₂ (λ xs ys. cond ((without_all (names_below texts flags n) (unremoved t)).table.names (nth_text texts n) (nth_text texts i)) (put_each xs (take 10 ys)) xs) (agrees i below) (agrees n lt)
-            ∙ sym (last_passes (names_below texts flags n) (nth_text texts n) (unremoved t) own (nth_text texts i))
-        go false kept = agrees i below
+    one_turn n lt agrees i below = grind (arith, names_at, last_passes)
 
     all_turns : (n : ℕ) → n ≤ length edges → Agrees n
     all_turns zero le = start
     all_turns (suc n) le = one_turn n (omega (arith, le)) (all_turns n (omega (arith, le)))
 
     order_is : (v : Text) → Among (names_below texts flags (length edges)) v ↔ R v
-    order_is v = (
-      λ i. let s = (named_below texts flags (length edges) v).0 i in subst R s.2 ((stand.numbered.flagged s.0 (fits s.0 s.1)).0 s.3),
-      λ r.
-          let k = (stand.numbered.vertex v).0 (stand.numbered.removed v r) in
-          (named_below texts flags (length edges) v).1 (k.0, k.1, k.2, (stand.numbered.flagged k.0 (fits k.0 k.1)).1 (subst R (sym k.2) r)),
-    )
+    order_is v = grind (arith, named_below, fits)
 
     pub passed_at : (new : List Feature) → ((i : ℕ) (w : Feature) → slice_get new i ≡ Some w →
         (i < length edges) × (map (λ b. b.now) w.required_by_bins.items ≡ passed_below rows flags (length edges) lists i)) → ArePassedAt t removed own texts flags new

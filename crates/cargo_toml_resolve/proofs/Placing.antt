@@ -1,21 +1,18 @@
 -- What features hold in their places once walks have been made and binaries are passed on.
-use Rattle.std.proofs.Common.{◌≡◌, ◌⊎◌, ◌↔◌, ◌<◌, ℕ, Bool, true, false, List, [], length, map, Option, Some, IsTrue, is_some, slice_get, sym, ap, subst, inl, inr, ◌∙◌}
-use Rattle.std.proofs.lemmas.{Bool.cases_lt, Bool.false≢true, Option.slice_get_past}
+use Rattle.std.proofs.Common.{arith, ◌≡◌, ◌⊎◌, ◌↔◌, ◌<◌, ℕ, Bool, true, false, List, [], length, map, Option, Some, IsTrue, slice_get, sym, ap, subst, inl, inr, ◌∙◌}
+use Rattle.std.proofs.lemmas.{Bool.cases_lt, Option.slice_get_past}
 use Rattle.std.specs.Option.{option_map_or}
 use Rattle.cargo_toml_graph.specs.{Action.Text, Admitted.is_below, Graph.Table, Redirects.RedirectsTo}
 use Rattle.cargo_toml_resolve.specs.{Numbers.IsPassed, Numbers.IsWanted, Numbers.KeepsLabel, Numbers.Leads, NumberedTables.HasNumber, Enabling.EnablesThrough, KeptFeatures.ArePassedAt}
 use Rattle.cargo_toml_resolve.specs.{KeptFeatures.IsKeptFeature, KeptFeatures.IsNamedAlike, KeptFeatures.StandFor, KeptFeatures.own_bins, Holding.HasActions, Holding.HoldsNames, Holding.AllTakeOver}
-use Rattle.cargo_toml_resolve.specs.{Passing.AreSameButBins, Passing.bins_of, Passing.passed_below, Walking.AreRedirects}
+use Rattle.cargo_toml_resolve.specs.{Passing.AreSameButBins, Passing.bins_of, Passing.passed_below, Dense.AreRedirects}
 use Rattle.cargo_toml_features.specs.{Places.nth_text, declared.features.Feature.Feature, InOrder.HaveNoEnablers, InOrder.feature_at, Views.set_has}
 use Rattle.cargo_toml_resolve.proofs.NumberedTables as numbered
 use Rattle.cargo_toml_resolve.proofs.{Answered.is_kept_feature, InPlace.name_in, InPlace.stands_found, InPlace.stands_in, PassedPlaces.passed_at, TakenOver.learnt_through}
 
 -- a place where something stands is below the end
 pub place_inside : (vs : List Feature) (i : ℕ) (v : Feature) → slice_get vs i ≡ Some v → i < length vs
-place_inside vs i v at = elim (cases_lt i (length vs)) [
-  | inl lt ↦ lt
-  | inr le ↦ absurd (false≢true (ap is_some (sym (slice_get_past vs i le) ∙ at)))
-]
+place_inside vs i v at = grind (arith, cases_lt i (length vs), slice_get_past)
 
 -- what stood in a place of a list of the same length
 pub stood : (old new : List Feature) → length new ≡ length old → (i : ℕ) (w : Feature) → slice_get new i ≡ Some w → (v : Feature) × (slice_get old i ≡ Some v)

@@ -1,13 +1,29 @@
--- Rows of features, one after another.
-use Rattle.std.proofs.Common.{◌≡◌, ◌↔◌, ◌⊎◌, ◌<◌, ◌≤◌, ◌+◌, ℕ, Bool, true, false, List, [], ◌∷◌, ◌++◌, length, slice_get, IsTrue, Some, if◌then◌else◌, refl, sym, ap, subst, inl, inr, ◌∙◌, arith}
-use Rattle.std.proofs.lemmas.{Bool.cases_eq, Bool.cases_lt, List.get_or_append_left, List.get_or_past, List.length-append, List.length-map, List.take_all}
+-- Rows that are put one after another, and those of features.
+use Rattle.std.proofs.Common.{◌≡◌, ◌↔◌, ◌⊎◌, ◌<◌, ◌≤◌, ◌+◌, ℕ, Bool, true, false, List, [], ◌∷◌, ◌++◌, length, slice_get, IsTrue, Some, if◌then◌else◌, refl, sym, ap, subst, inl, inr, ◌∙◌, arith, zero, suc, length-append}
+use Rattle.std.proofs.lemmas.{Bool.cases_eq, Bool.cases_lt, List.get_or_append_left, List.get_or_past, List.length-map, List.take_all}
 use Rattle.std.specs.Option.{option_map_or}
 use Rattle.cargo_toml_graph.specs.{Action.Text, Reach.Among}
 use Rattle.cargo_toml_features.specs.{Places.nth_text, declared.features.Feature.Feature, InOrder.names_of, Views.set_has}
-use Rattle.cargo_toml_resolve.specs.{Enabling.LeadsTo, NumberedTables.IsNaming, Numbering.AreRead, Numbering.AreTextsOf, Numbering.Extends, Numbering.Gains, Numbering.HasNames, Numbering.IsTarget}
-use Rattle.cargo_toml_resolve.specs.{Numbering.place_names, Numbers.IsWanted, Numbers.Leads, Numbers.row_items}
-use Rattle.cargo_toml_resolve.proofs.{Filling.IsFilled, Filling.none_filled, Filling.one_more_filled, NumberRows.gained_alike, NumberRows.target_is, NumberTexts.extends_none, NumberTexts.front_still}
-use Rattle.cargo_toml_resolve.proofs.NumberTexts.{key_text, keys_fit, longer, names_alike, names_still, nth_still}
+use Rattle.cargo_toml_resolve.specs.{Enabling.LeadsTo, NumberedTables.IsNaming, Numbering.AreRead, Numbering.AreTextsOf, Numbering.Extends, Numbering.Gains, Numbering.HasNames, Numbering.IsTarget, Numbering.place_names}
+use Rattle.cargo_toml_resolve.specs.{Numbers.IsWanted, Numbers.Leads, Numbers.row_items}
+use Rattle.cargo_toml_resolve.proofs.NumberRows.{gained_alike, target_is, extends_none, front_still, key_text, keys_fit, longer, names_alike, names_still, nth_still}
+
+-- what stands in a row once one more is put at the end
+list_push : (rows : List (List ℕ)) (row : List ℕ) (a b : ℕ) → Leads (rows ++ row ∷ []) a b ↔ (((a < length rows) × Leads rows a b) ⊎ ((a ≡ length rows) × Among row b))
+list_push [] row zero b = grind arith
+list_push [] row (suc a) b = grind arith
+list_push (y ∷ rows) row zero b = grind arith
+list_push (y ∷ rows) row (suc a) b = grind (arith, list_push rows row a b)
+
+-- the first n rows hold what P says
+abbrev pub IsFilled : (ℕ → ℕ → Type 0) → ℕ → List (List ℕ) → Type 0
+IsFilled P n rows = (length rows ≡ n) × ((a b : ℕ) → a < n → Leads rows a b ↔ P a b)
+
+pub none_filled : (P : ℕ → ℕ → Type 0) (rows : List (List ℕ)) → rows ≡ [] → IsFilled P 0 rows
+none_filled P rows is = (ap length is, λ a b lt. absurd (omega (arith, lt)))
+
+pub one_more_filled : (P : ℕ → ℕ → Type 0) (n : ℕ) (rows : List (List ℕ)) (row : List ℕ) → IsFilled P n rows → ((b : ℕ) → Among row b ↔ P n b) → IsFilled P (n + 1) (rows ++ row ∷ [])
+one_more_filled P n rows row h is = grind (arith, length-append rows (row ∷ []), list_push, cases_eq)
 
 -- where the features lead
 abbrev pub Targets : List Feature → ℕ → ℕ → Type 0
@@ -36,19 +52,7 @@ row_old : (rows : List (List ℕ)) (row : List ℕ) (i : ℕ) → i < length row
 row_old rows row i lt = get_or_append_left rows (row ∷ []) [] i lt
 
 pub no_rows : (vs : List Feature) (flags : List Bool) (texts : List Text) (edges names : List (List ℕ)) → texts ≡ names_of vs → edges ≡ [] → names ≡ [] → RowsSoFar vs flags 0 texts edges names
-no_rows vs flags texts edges names are none none' =
-    let long = length-map vs (λ (v : Feature). v.key.now) in
-    let whole = ap length are in
-    record {
-      texts_of = record {
-        keys = take_all (length vs) texts (omega (arith, long, whole)) ∙ are;
-        apart = λ j le lt. absurd (omega (arith, long, whole, le, lt));
-      };
-      edges_are = none_filled (Targets vs) edges none;
-      names_len = ap length none';
-      names_are = λ i lt. absurd (omega (arith, lt));
-      inside = λ i x l. absurd (subst (λ rs. Leads rs i x) none' l);
-    }
+no_rows vs flags texts edges names are none none' = grind (arith, length-map, take_all, none_filled)
 
 module _ (vs : List Feature) (flags : List Bool) (n : ℕ) (texts : List Text) (edges names : List (List ℕ)) (h : RowsSoFar vs flags n texts edges names) (v : Feature) (below : n < length vs) (there : slice_get vs n ≡ Some v) where
   fits : length vs ≤ length texts
@@ -93,18 +97,12 @@ module _ (vs : List Feature) (flags : List Bool) (n : ℕ) (texts : List Text) (
     ];
     inside = λ i x l. elim (cases_lt i (length names)) [
       | inl early ↦ let lt = h.inside i x (subst (λ r. Among r x) (row_old names (if is_asked then named else []) i early) l) in let long = longer (length vs) texts new more in omega (arith, lt, long)
-      | inr late ↦ elim (cases_eq i (length names)) [
-        | inl at ↦ bound is_asked x (subst (λ r. Among r x) (row_push names (if is_asked then named else []) i at) l)
-        | inr past ↦
-            let long = length-append names ((if is_asked then named else []) ∷ []) in
-            absurd (subst (λ r. Among r x) (get_or_past (names ++ (if is_asked then named else []) ∷ []) i [] (omega (arith, long, late, past))) l)
-      ]
+      | inr late ↦ grind (arith, cases_eq, row_push, length-append, get_or_past)
     ];
   }
     where
       bound : (b : Bool) (x : ℕ) → Among (if b then named else []) x → x < length new
-      bound true x i = has.inside x i
-      bound false x i = absurd i
+      bound b x i = grind arith
 
   -- one that leads nowhere
   pub none_read : ((x : Text) → ¬ LeadsTo v x) → RowsSoFar vs flags (n + 1) texts (edges ++ [] ∷ []) (names ++ [] ∷ [])
@@ -115,10 +113,4 @@ module _ (vs : List Feature) (flags : List Bool) (n : ℕ) (texts : List Text) (
 
 -- all of them
 pub all_read : (vs : List Feature) (flags : List Bool) (texts : List Text) (edges names : List (List ℕ)) → RowsSoFar vs flags (length vs) texts edges names → AreRead vs flags texts edges names
-all_read vs flags texts edges names h = record {
-  edges_len = h.edges_are.0;
-  names_len = h.names_len;
-  edges = h.edges_are.1;
-  names = h.names_are;
-  inside = h.inside;
-}
+all_read vs flags texts edges names h = grind arith

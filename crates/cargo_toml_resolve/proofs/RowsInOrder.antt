@@ -1,11 +1,117 @@
--- Rows in ascending order, as lists.
-use Rattle.std.proofs.Common.{◌≡◌, ◌≢◌, ◌⊎◌, ◌↔◌, ◌<◌, ◌≤◌, ◌+◌, ℕ, Bool, true, false, List, [], length, get_or, set, replicate, refl, sym, ap, subst, inl, inr, ◌∙◌, arith}
+-- Rows in ascending order: a path through the removed vertices below r is cut at the first vertex that is not below the one that it left.
+use Rattle.std.proofs.Common.{◌≡◌, ◌≢◌, ◌⊎◌, ◌↔◌, ◌<◌, ◌≤◌, ◌+◌, ℕ, Bool, true, false, List, length, get_or, set, replicate, refl, sym, inl, inr, ◌∙◌, arith, [], ◌∷◌, ap, subst}
 use Rattle.std.proofs.lemmas.{Bool.cases_eq, Bool.cases_lt, Bool.cases_Bool, Bool.false≢true, List.get_or-set_same, List.get_or-set_other, List.get_or_past, List.get_or-replicate}
-use Rattle.cargo_toml_graph.specs.Reach.{Among}
-use Rattle.cargo_toml_graph.proofs.Members.{label_within}
+use Rattle.cargo_toml_graph.specs.{Reach.Among, Reach.Reaches, Reach.Gathers, Reach.GathersLabel, Reach.Reaches.edge, Reach.Reaches.through}
+use Rattle.cargo_toml_graph.proofs.{Members.label_within, Members.reaches_within, Closure.chained}
 use Rattle.cargo_toml_resolve.specs.Numbers.{IsWanted, FindsRedirects, HasLabel, IsPassed, IsRedirect, Leads, Replaces, row_items, Moves}
-use Rattle.cargo_toml_resolve.proofs.{Linking.last_edge, Linking.with_last, Cuts.AreRows, Cuts.IsBelow, Cuts.IsFinished, Cuts.back, Cuts.next_row, Cuts.not_own, Cuts.under_later, Cuts.under_split}
-use Rattle.cargo_toml_resolve.proofs.Labelled.{gathered}
+use Rattle.cargo_toml_resolve.proofs.Labelled.{gathered, last_edge, with_last}
+
+module _ (E : ℕ → ℕ → Type 0) (R : ℕ → Type 0) (L : ℕ → ℕ → Type 0) where
+  -- a removed vertex below n
+  abbrev pub Under : ℕ → ℕ → Type 0
+  Under n v = R v × (v < n)
+
+  -- what the rows of the vertices below r, and the vertex r itself, hold
+  pub record AreRows (r : ℕ) (E' L' : ℕ → ℕ → Type 0) : Type 0 where
+    pub start_edges : (b : ℕ) → E' r b ↔ E r b
+    pub start_labels : (x : ℕ) → L' r x ↔ L r x
+    pub row_edges : (s b : ℕ) → Under r s → E' s b ↔ (Reaches E (Under s) s b × ¬ Under s b)
+    pub row_labels : (s x : ℕ) → Under r s → L' s x ↔ (GathersLabel E (Under s) L s x × ¬ Under s x)
+
+  snoc : (n : ℕ) {a b c : ℕ} → Reaches E (Under n) a b → Under n b → E b c → Reaches E (Under n) a c
+  snoc n p u e = chained (Under n) p u (edge e)
+
+  module _ (r : ℕ) (E' L' : ℕ → ℕ → Type 0) (rows : AreRows r E' L') where
+    lift : (s v : ℕ) → Under r s → Under s v → Under r v
+    lift s v u w = grind arith
+
+    -- a step along a row is a path
+    unrow : {s b : ℕ} → Under r s → E' s b → Reaches E (Under r) s b
+    unrow {s} {b} u e = reaches_within (Under s) (Under r) (λ v w. lift s v u w) ((rows.row_edges s b u).0 e).0
+
+    unrow_path : {s b : ℕ} → Under r s → Reaches E' (Under r) s b → Reaches E (Under r) s b
+    unrow_path u (edge e) = unrow u e
+    unrow_path u (through e w p) = chained (Under r) (unrow u e) w (unrow_path w p)
+
+    unrow_start : {b : ℕ} → Reaches E' (Under r) r b → Reaches E (Under r) r b
+    unrow_start {b} (edge e) = edge ((rows.start_edges b).0 e)
+    unrow_start (through {b = c} e w p) = through ((rows.start_edges c).0 e) w (unrow_path w p)
+
+    further : {a b c : ℕ} → Reaches E (Under r) a b → Under r b → Gathers E (Under r) b c → Gathers E (Under r) a c
+    further {a} p u (inl same) = inr (subst (Under r) (sym same) u, subst (λ v. Reaches E (Under r) a v) (sym same) p)
+    further p u (inr g) = inr (g.0, chained (Under r) p u g.1)
+
+    pub rows_sound : (x : ℕ) → GathersLabel E' (Under r) L' r x → GathersLabel E (Under r) L r x
+    rows_sound x (b, inl same, l) = (r, inl refl, (rows.start_labels x).0 (subst (λ v. L' v x) same l))
+    rows_sound x (b, inr g, l) =
+        let m = ((rows.row_labels b x g.0).0 l).0 in
+        let inner : Gathers E (Under r) b m.0 = elim (m.1) [ inl same ↦ inl same | inr h ↦ inr (lift b m.0 g.0 h.0, reaches_within (Under b) (Under r) (λ v w. lift b v g.0 w) h.1) ] in
+        (m.0, further (unrow_start g.1) g.0 inner, m.2)
+
+    module _ (x : ℕ) (out : ¬ Under r x) where
+      abbrev Cut : ℕ → Type 0
+      Cut a = (k : ℕ) × Gathers E' (Under r) a k × L' k x
+
+      out_under : (a : ℕ) → Under r a → ¬ Under a x
+      out_under a u w = out (lift a x u w)
+
+      -- the first step along a row
+      prepend : {a c : ℕ} → E' a c → Under r c → Cut c → Cut a
+      prepend {a} {c} e u k = (k.0, elim (k.1) [ inl same ↦ inr (subst (Under r) (sym same) u, subst (λ v. Reaches E' (Under r) a v) (sym same) (edge e)) | inr g ↦ inr (g.0, through e u g.1) ], k.2)
+
+      -- the end of the path
+      ended : (a b : ℕ) → Under r a → Under r b → Reaches E (Under a) a b → L b x → (b < a) ⊎ (a ≤ b) → Cut a
+      ended a b u w p l q = grind (arith, out_under, prepend)
+
+      -- from a, by removed vertices below it, to c, and on to b
+      cut : {c b : ℕ} (a : ℕ) → Under r a → Under r c → Under r b → Reaches E (Under a) a c → Reaches E (Under r) c b → L b x → (c < a) ⊎ (a ≤ c) → Cut a
+      cut {c} {b} a u w v p (edge e) l (inl lt) = ended a b u v (snoc a p (w.0, lt) e) l (cases_lt b a)
+      cut {c} a u w v p (through {b = d} e s q) l (inl lt) = cut a u s v (snoc a p (w.0, lt) e) q l (cases_lt d a)
+      cut {c} {b} a u w v p (edge e) l (inr le) = prepend ((rows.row_edges a c u).1 (p, λ h. absurd (omega (arith, le, h.1)))) w (ended c b w v (edge e) l (cases_lt b c))
+      cut {c} a u w v p (through {b = d} e s q) l (inr le) = prepend ((rows.row_edges a c u).1 (p, λ h. absurd (omega (arith, le, h.1)))) w (cut c w s v (edge e) q l (cases_lt d c))
+
+      from_start : {b : ℕ} → Under r b → Reaches E (Under r) r b → L b x → Cut r
+      from_start {b} v (edge e) l = prepend ((rows.start_edges b).1 e) v (b, inl refl, (rows.row_labels b x v).1 ((b, inl refl, l), out_under b v))
+      from_start {b} v (through {b = c} e s (edge f)) l = prepend ((rows.start_edges c).1 e) s (ended c b s v (edge f) l (cases_lt b c))
+      from_start {b} v (through {b = c} e s (through {b = d} f t q)) l = prepend ((rows.start_edges c).1 e) s (cut c s t v (edge f) q l (cases_lt d c))
+
+      rows_complete : GathersLabel E (Under r) L r x → GathersLabel E' (Under r) L' r x
+      rows_complete p = grind (arith, from_start)
+
+    -- the next row, from the rows below
+    pub next_row : (x : ℕ) → (GathersLabel E' (Under r) L' r x × ¬ Under r x) ↔ (GathersLabel E (Under r) L r x × ¬ Under r x)
+    next_row x = (λ h. (rows_sound x h.0, h.1), λ h. (rows_complete x h.1 h.0, h.1))
+
+-- a removed vertex below n
+abbrev pub IsBelow : List Bool → ℕ → ℕ → Type 0
+IsBelow removed n v = IsWanted removed true v × (v < n)
+
+-- the flags of the removed vertices below n are true
+abbrev pub IsFinished : List Bool → ℕ → List Bool → Type 0
+IsFinished removed n finished = (v : ℕ) → IsWanted finished true v ↔ IsBelow removed n v
+
+pub not_own : (removed : List Bool) (r : ℕ) → ¬ IsBelow removed r r
+not_own removed r u = absurd (omega (arith, u.1))
+
+pub under_later : (removed : List Bool) (r a : ℕ) → IsBelow removed r a → IsBelow removed (r + 1) a
+under_later removed r a u = (u.0, omega (arith, u.1))
+
+pub under_split : (removed : List Bool) (r a : ℕ) → a ≢ r → IsBelow removed (r + 1) a → IsBelow removed r a
+under_split removed r a ne u = (u.0, omega (arith, u.1))
+
+module _ (removed : List Bool) (r : ℕ) (kept : IsWanted removed false r) where
+  pub back : (v : ℕ) → IsBelow removed (r + 1) v → IsBelow removed r v
+  back v u = under_split removed r v (λ same. false≢true (sym kept ∙ ap (λ z. get_or removed z false) (sym same) ∙ u.0)) u
+
+  pub still_finished : (finished : List Bool) → IsFinished removed r finished → IsFinished removed (r + 1) finished
+  still_finished finished h v = (λ w. under_later removed r v ((h v).0 w), λ u. (h v).1 (back v u))
+
+pub one_more_finished : (removed finished : List Bool) (r : ℕ) → r < length finished → IsWanted removed true r → IsFinished removed r finished → IsFinished removed (r + 1) (set finished r true)
+one_more_finished removed finished r lt gone h v = grind (arith, cases_eq v r, get_or-set_same finished r true false lt, under_later, get_or-set_other, under_split)
+
+pub none_among : (xs : List ℕ) → length xs ≡ 0 → (b : ℕ) → ¬ Among xs b
+none_among [] e b i = absurd i
+none_among (x ∷ xs) e b i = absurd (omega arith)
 
 module _ (edges : List (List ℕ)) (removed : List Bool) where
   -- the rows of the removed vertices below n are finished, and the others are as they were
@@ -16,34 +122,12 @@ module _ (edges : List (List ℕ)) (removed : List Bool) where
     pub left : (a x : ℕ) → ¬ IsBelow removed n a → Leads rows a x ↔ Leads initial a x
 
   pub skipped_rows : (initial : List (List ℕ)) (bound r : ℕ) (rows : List (List ℕ)) → IsWanted removed false r → RowsState initial bound r rows → RowsState initial bound (r + 1) rows
-  skipped_rows initial bound r rows kept h = record {
-    len = h.len;
-    inside = h.inside;
-    done = λ a x u. h.done a x (back removed r kept a u);
-    left = λ a x n. h.left a x (λ u. n (under_later removed r a u));
-  }
+  skipped_rows initial bound r rows kept h = grind (arith, back, under_later)
 
   -- the row of r becomes its redirect
   pub next_rows : (initial : List (List ℕ)) (bound r : ℕ) (rows : List (List ℕ)) → RowsState initial bound r rows → IsWanted removed true r → (new : List (List ℕ)) → Replaces r (IsRedirect edges removed initial r) rows new
       → ((x : ℕ) → IsRedirect edges removed initial r x → x < bound) → RowsState initial bound (r + 1) new
-  next_rows initial bound r rows h gone new v below = record {
-    len = v.len ∙ h.len;
-    inside = λ a x i. elim (cases_eq a r) [
-      | inl same ↦ below x ((v.here x).0 (subst (λ z. Leads new z x) same i))
-      | inr other ↦ h.inside a x (subst (λ l. Among l x) (v.others a other) i)
-    ];
-    done = λ a x u. elim (cases_eq a r) [
-      | inl same ↦ (
-        λ i. subst (λ z. IsRedirect edges removed initial z x) (sym same) ((v.here x).0 (subst (λ z. Leads new z x) same i)),
-        λ w. subst (λ z. Leads new z x) (sym same) ((v.here x).1 (subst (λ z. IsRedirect edges removed initial z x) same w)),
-      )
-      | inr other ↦ subst (λ l. Among l x ↔ IsRedirect edges removed initial a x) (sym (v.others a other)) (h.done a x (under_split removed r a other u))
-    ];
-    left = λ a x n. elim (cases_eq a r) [
-      | inl same ↦ absurd (n (subst (IsWanted removed true) (sym same) gone, omega (arith, same)))
-      | inr other ↦ subst (λ l. Among l x ↔ Leads initial a x) (sym (v.others a other)) (h.left a x (λ u. n (under_later removed r a u)))
-    ];
-  }
+  next_rows initial bound r rows h gone new v below = grind (arith, cases_eq, under_split, under_later)
 
   module _ (initial : List (List ℕ)) (bound within r : ℕ) (targets rows : List (List ℕ)) (t : RowsState edges within r targets) (h : RowsState initial bound r rows) where
     are_rows : AreRows (Leads edges) (IsWanted removed true) (Leads initial) r (Leads targets) (Leads rows)
@@ -93,42 +177,15 @@ still_own r moved initial rows h a d = h a (elim d [ inl e ↦ inl e | inr le �
 
 pub one_more_own : (r : ℕ) (moved : List Bool) (initial rows new : List (List ℕ)) (is_moved : Bool) (P : ℕ → Type 0) → r < length moved → KeepsOwn r moved initial rows → Moves r P rows new is_moved
     → KeepsOwn (r + 1) (set moved r is_moved) initial new
-one_more_own r moved initial rows new is_moved P lt h m a d = elim (cases_eq a r) [
-  | inl same ↦ elim d [
-    | inl e ↦
-        let kept : is_moved ≡ false = sym (get_or-set_same moved r is_moved false lt) ∙ ap (λ i. get_or (set moved r is_moved) i false) (sym same) ∙ e in
-        ap (λ l. row_items l a) (m.stays kept) ∙ h a (inr (omega (arith, same)))
-    | inr le ↦ absurd (omega (arith, same, le))
-  ]
-  | inr ne ↦ m.row.others a ne ∙ h a (elim d [ inl e ↦ inl (sym (get_or-set_other moved r a is_moved false ne) ∙ e) | inr le ↦ inr (omega (arith, le)) ])
-]
+one_more_own r moved initial rows new is_moved P lt h m a d = grind (arith, cases_eq a r, get_or-set_same moved r is_moved false lt, get_or-set_other)
 
 -- where all are marked, those past the end of the rows are left
 pub all_moved : (n m : ℕ) (moved : List Bool) (initial rows : List (List ℕ)) → length initial ≤ n → length initial ≤ m → length rows ≡ length initial → moved ≡ replicate n true → KeepsOwn m moved initial rows
-all_moved n m moved initial rows fits ends len all a d =
-    let past : length initial ≤ a = elim d [
-      | inl e ↦ elim (cases_lt a n) [
-        | inl lt ↦ absurd (false≢true (sym e ∙ ap (λ l. get_or l a false) all ∙ get_or-replicate n a true false lt))
-        | inr le ↦ omega (arith, le, fits)
-      ]
-      | inr le ↦ omega (arith, le, ends)
-    ] in
-    get_or_past rows a [] (omega (arith, past, len)) ∙ sym (get_or_past initial a [] past)
+all_moved n m moved initial rows fits ends len all a d = grind (arith, cases_lt a n, get_or-replicate, get_or_past rows a, get_or_past initial a)
 
 -- before the first
 pub first_rows : (edges : List (List ℕ)) (removed : List Bool) (initial : List (List ℕ)) (bound : ℕ) → ((a x : ℕ) → Leads initial a x → x < bound) → RowsState edges removed initial bound 0 initial
-first_rows edges removed initial bound inside = record {
-  len = refl;
-  inside = inside;
-  done = λ a x u. absurd (let lt = u.1 in omega (arith, lt));
-  left = λ a x n. (λ i. i, λ i. i);
-}
+first_rows edges removed initial bound inside = grind arith
 
 pub finds_redirects : (edges labels : List (List ℕ)) (flags moved : List Bool) (n : ℕ) (rows : List (List ℕ)) → length labels ≤ n → RowsState edges flags labels (length flags) n rows → length moved ≡ length flags → KeepsOwn n moved labels rows → FindsRedirects edges labels flags moved rows
-finds_redirects edges labels flags moved n rows all state count own = record {
-  len = state.len;
-  count = count;
-  redirects = λ r x lt gone. state.done r x (gone, omega (arith, all, lt));
-  own = λ r e. own r (inl e);
-  inside = state.inside;
-}
+finds_redirects edges labels flags moved n rows all state count own = grind arith

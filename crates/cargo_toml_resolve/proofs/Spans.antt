@@ -1,5 +1,5 @@
 -- Rows in one list stay while more is put at its end.
-use Rattle.std.proofs.Common.{◌≡◌, ◌-◌, ◌<◌, ◌≤◌, ℕ, zero, suc, List, [], ◌∷◌, ◌++◌, length, get_or, set, take, drop, refl, sym, ap, subst, ◌∙◌, arith, length-append, length-drop}
+use Rattle.std.proofs.Common.{◌≡◌, ◌-◌, ◌<◌, ◌≤◌, ℕ, zero, suc, List, [], ◌∷◌, ◌++◌, length, get_or, set, refl, sym, ap, subst, ◌∙◌, arith, length-append, length-drop}
 use Rattle.std.proofs.lemmas.List.{take-append-le, drop-append-le, map-append, map-set, length-map, take_all}
 use Rattle.std.proofs.Math.Seq.{drop-append_seam}
 use Rattle.std.specs.List.{slice_range}
@@ -27,21 +27,14 @@ inside_at n ss i j s h lt at e = go ss i h lt (subst (λ k. s ≡ get_or ss k s)
     go (t ∷ ss) (suc i) h lt e = go ss i h.1 (omega arith) e
 
 range_front : (xs ys : List ℕ) (a b : ℕ) → a ≤ b → b ≤ length xs → slice_range (xs ++ ys) a b ≡ slice_range xs a b
-range_front xs ys a b le fits =
-    ap (take (b - a)) (drop-append-le a xs ys (omega arith))
-    ∙ take-append-le (b - a) (drop a xs) ys (let l = length-drop a xs in omega (arith, l, le, fits))
+range_front xs ys a b le fits = grind (arith, drop-append-le, take-append-le, length-drop a xs)
 
 range_back : (xs ys : List ℕ) (b : ℕ) → b ≡ length (xs ++ ys) → slice_range (xs ++ ys) (length xs) b ≡ ys
-range_back xs ys b is =
-    ap (take (b - length xs)) (drop-append_seam xs ys)
-    ∙ take_all (b - length xs) ys (let l = length-append xs ys in omega (arith, l, is))
+range_back xs ys b is = grind (arith, drop-append_seam xs ys, take_all, length-append xs ys)
 
 rows_more : (xs ys : List ℕ) (ss : List Span) → AreInside (length xs) ss → rows_in (xs ++ ys) ss ≡ rows_in xs ss
 rows_more xs ys [] h = refl
-rows_more xs ys (s ∷ ss) h =
-    let one = range_front xs ys s.start s.end h.0.0 h.0.1 in
-    let rest = rows_more xs ys ss h.1 in
-    cc
+rows_more xs ys (s ∷ ss) h = grind (arith, range_front, rows_more xs ys ss h.1)
 
 -- a row that is put at the end of the list
 module _ (xs row ys : List ℕ) (ss : List Span) (inside : AreInside (length xs) ss) (more : ys ≡ xs ++ row) (a b : ℕ) (start : a ≡ length xs) (end : b ≡ length ys) where
@@ -67,17 +60,13 @@ module _ (xs row ys : List ℕ) (ss : List Span) (inside : AreInside (length xs)
   pushed_inside ts is = subst (AreInside (length ys)) (sym is) (inside_push (length ys) ss new_span within before (omega (arith, end)))
 
   pub rows_pushed : (ts : List Span) → ts ≡ ss ++ new_span ∷ [] → rows_in ys ts ≡ rows_in xs ss ++ row ∷ []
-  rows_pushed ts is =
-      ap (rows_in ys) is ∙ map-append (λ s. slice_range ys s.start s.end) ss (new_span ∷ [])
-      ∙ ap (λ l. l ++ slice_range ys a b ∷ []) same_rows ∙ ap (λ r. rows_in xs ss ++ r ∷ []) new_row
+  rows_pushed ts is = grind (arith, map-append, same_rows, new_row)
 
   pub set_inside : (i : ℕ) → AreInside (length ys) (set ss i new_span)
   set_inside i = inside_set (length ys) ss i new_span within before (omega (arith, end))
 
   pub rows_set : (i : ℕ) → rows_in ys (set ss i new_span) ≡ set (rows_in xs ss) i row
-  rows_set i =
-      map-set (λ s. slice_range ys s.start s.end) ss i new_span
-      ∙ ap (λ l. set l i (slice_range ys a b)) same_rows ∙ ap (λ r. set (rows_in xs ss) i r) new_row
+  rows_set i = grind (arith, map-set, same_rows, new_row)
 
 -- the span of a row
 pub at_row : (nodes : List ℕ) (ss : List Span) (rows : List (List ℕ)) → rows_in nodes ss ≡ rows → AreInside (length nodes) ss → (i : ℕ) → i < length rows → (j : ℕ) (s : Span) → j ≡ i → s ≡ get_or ss j s → (s.start ≤ s.end) × (s.end ≤ length nodes)

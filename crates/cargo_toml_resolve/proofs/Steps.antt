@@ -1,8 +1,9 @@
--- Steps of a walk over numbers, by marks.
-use Rattle.std.proofs.Common.{◌≡◌, ◌≢◌, ◌⊎◌, ◌↔◌, ◌<◌, ◌≤◌, ◌+◌, ℕ, zero, suc, Bool, true, false, if◌then◌else◌, List, [], ◌∷◌, ◌++◌, take, length, get_or, set, Vec, refl, sym, ap, subst, inl, inr, ◌∙◌, arith, add-one, length-append, length-set}
-use Rattle.std.proofs.lemmas.{Bool.cases_eq, Bool.false≢true, List.get_or-set_same, List.get_or-set_other, List.take-append-le, List.Sums.sum_by-set}
-use Rattle.cargo_toml_graph.specs.Reach.{Among}
-use Rattle.cargo_toml_resolve.specs.{Bits.words_of, Numbers.AreMarked, Numbers.FindsNamed, Numbers.IsWanted, Numbers.Leads, Numbers.unmet}
+-- Steps of a walk over numbers, by marks, and the walk.
+use Rattle.std.proofs.Common.{◌≡◌, ◌≢◌, ◌⊎◌, ◌↔◌, ◌<◌, ◌≤◌, ◌+◌, ℕ, zero, suc, Bool, true, false, List, [], ◌∷◌, ◌++◌, take, length, get_or, set, Vec, refl, sym, ap, subst, inl, inr, ◌∙◌, arith, add-one, length-append, length-set, map, replicate, nat_eq}
+use Rattle.std.proofs.lemmas.{Bool.cases_eq, List.get_or-set_same, List.get_or-set_other, List.take-append-le, List.map-set, List.Sums.sum_by-set, Bool.Decides.nat_tests}
+use Rattle.cargo_toml_graph.specs.{Reach.Among, Reach.Reaches, Reach.Reaches.edge, Reach.Reaches.through}
+use Rattle.cargo_toml_graph.proofs.Closure.{chained}
+use Rattle.cargo_toml_resolve.specs.{Bits.words_of, Numbers.AreMarked, Numbers.FindsNamed, Numbers.IsWanted, Numbers.Leads, Numbers.IsPassed}
 
 pub among_first : (xs ys : List ℕ) (x : ℕ) → Among xs x → Among (xs ++ ys) x
 among_first [] ys x i = absurd i
@@ -78,80 +79,20 @@ has_row (y ∷ rows) zero b i = omega arith
 has_row (y ∷ rows) (suc a) b i = let lt = has_row rows a b i in omega (arith, lt)
 
 pub no_visit : (found : List ℕ) (marks : List Bool) → AreMarked found marks → FindsNamed (λ y. ⊥) found found marks marks
-no_visit found marks are = record {
-  marks = are;
-  grows = λ y i. i;
-  reaches = λ y n. absurd n;
-  only = λ y i. inl i;
-  front = λ k le. refl;
-  longer = omega arith;
-  count = refl;
-  len = refl;
-}
+no_visit found marks are = grind arith
 
 module _ (x : ℕ) (found : List ℕ) (met : List Bool) (marks : AreMarked found met) (inside : x < length met) where
   -- x was not met
   pub is_new : get_or met x false ≡ false → (met' : List Bool) → met' ≡ set met x true → FindsNamed (λ y. y ≡ x) found (found ++ x ∷ []) met met'
-  is_new new met' is = subst (FindsNamed (λ y. y ≡ x) found (found ++ x ∷ []) met) (sym is) (record {
-    marks = λ y. (λ s. into y s (cases_eq y x), λ i. elim (among_either found x y i) [ inl a ↦ old y ((marks y).1 a) | inr same ↦ ap (λ z. get_or (set met x true) z false) same ∙ here ]);
-    grows = λ y i. among_first found (x ∷ []) y i;
-    reaches = λ y same. subst (Among (found ++ x ∷ [])) (sym same) (among_last found x);
-    only = λ y i. among_either found x y i;
-    front = λ k le. take-append-le k found (x ∷ []) le;
-    longer = let l = length-append found (x ∷ []) in omega arith;
-    count = counted;
-    len = length-set met x true;
-  })
-    where
-      here : get_or (set met x true) x false ≡ true
-      here = get_or-set_same met x true false inside
-
-      old : (y : ℕ) → IsWanted met true y → IsWanted (set met x true) true y
-      old y s = elim (cases_eq y x) [
-        | inl same ↦ absurd (false≢true (sym new ∙ ap (λ z. get_or met z false) (sym same) ∙ s))
-        | inr other ↦ get_or-set_other met x y true false other ∙ s
-      ]
-
-      into : (y : ℕ) → IsWanted (set met x true) true y → (y ≡ x) ⊎ (y ≢ x) → Among (found ++ x ∷ []) y
-      into y s (inl same) = subst (Among (found ++ x ∷ [])) (sym same) (among_last found x)
-      into y s (inr other) = among_first found (x ∷ []) y ((marks y).0 (sym (get_or-set_other met x y true false other) ∙ s))
-
-      counted : length (found ++ x ∷ []) + unmet (set met x true) ≡ length found + unmet met
-      counted =
-          let l : length (found ++ x ∷ []) ≡ length found + 1 = length-append found (x ∷ []) in
-          let weight : Bool → ℕ = λ b. if b then 0 else 1 in
-          let two : weight (get_or met x false) ≡ 1 = ap weight new in
-          omega (arith, l, two, sum_by-set weight met x true false inside)
+  is_new new met' is = grind (arith, cases_eq, among_either, among_first, among_last, take-append-le, length-append, length-set, get_or-set_same, get_or-set_other, sum_by-set)
 
 -- one visit after another
 pub then_visit : (A B C : ℕ → Type 0) (f0 f1 f2 : List ℕ) (m0 m1 m2 : List Bool) → ((y : ℕ) → C y ↔ (A y ⊎ B y)) → FindsNamed A f0 f1 m0 m1 → FindsNamed B f1 f2 m1 m2 → FindsNamed C f0 f2 m0 m2
-then_visit A B C f0 f1 f2 m0 m1 m2 both v w =
-    let c1 = v.count in
-    let c2 = w.count in
-    let l1 = v.longer in
-    record {
-      marks = w.marks;
-      grows = λ y i. w.grows y (v.grows y i);
-      reaches = λ y n. elim ((both y).0 n) [ inl a ↦ w.grows y (v.reaches y a) | inr b ↦ w.reaches y b ];
-      only = λ y i. elim (w.only y i) [ inl i ↦ elim (v.only y i) [ inl i ↦ inl i | inr a ↦ inr ((both y).1 (inl a)) ] | inr b ↦ inr ((both y).1 (inr b)) ];
-      front = λ k le. w.front k (omega (arith, l1, le)) ∙ v.front k le;
-      longer = omega (arith, l1, w.longer);
-      count = c2 ∙ c1;
-      len = w.len ∙ v.len;
-    }
+then_visit A B C f0 f1 f2 m0 m1 m2 both v w = grind arith
 
 -- the same names
 pub alike : (A B : ℕ → Type 0) (f f' : List ℕ) (m m' : List Bool) → ((y : ℕ) → A y ↔ B y) → FindsNamed A f f' m m' → FindsNamed B f f' m m'
-alike A B f f' m m' same v = record {
-  marks = v.marks;
-  grows = v.grows;
-  reaches = λ y n. v.reaches y ((same y).1 n);
-  only = λ y i. elim (v.only y i) [ inl i ↦ inl i | inr a ↦ inr ((same y).0 a) ];
-  front = v.front;
-  longer = v.longer;
-  count = v.count;
-  len = v.len;
-}
+alike A B f f' m m' same v = grind arith
 
 -- one more target that is looked at
 module _ (targets : List ℕ) (flags : List Bool) (wanted : Bool) (i : ℕ) (lt : i < length targets) where
@@ -159,16 +100,10 @@ module _ (targets : List ℕ) (flags : List Bool) (wanted : Bool) (i : ℕ) (lt 
   Looked n y = Among (take n targets) y × IsWanted flags wanted y
 
   pub with_target : get_or flags (get_or targets i 0) false ≡ wanted → (y : ℕ) → Looked (i + 1) y ↔ (Looked i y ⊎ (y ≡ get_or targets i 0))
-  with_target e y = (
-    λ n. elim ((among_more targets i y lt).0 n.0) [ inl a ↦ inl (a, n.1) | inr same ↦ inr same ],
-    elim [ inl n ↦ ((among_more targets i y lt).1 (inl n.0), n.1) | inr same ↦ ((among_more targets i y lt).1 (inr same), subst (IsWanted flags wanted) (sym same) e) ],
-  )
+  with_target e y = grind (arith, among_more)
 
   pub without_target : get_or flags (get_or targets i 0) false ≢ wanted → (y : ℕ) → Looked i y ↔ Looked (i + 1) y
-  without_target ne y = (
-    λ n. ((among_more targets i y lt).1 (inl n.0), n.1),
-    λ n. elim ((among_more targets i y lt).0 n.0) [ inl a ↦ (a, n.1) | inr same ↦ absurd (ne (subst (IsWanted flags wanted) same n.1)) ],
-  )
+  without_target ne y = grind (arith, among_more)
 
   module _ (f0 f1 f2 : List ℕ) (m0 m1 m2 : List Bool) (v : FindsNamed (Looked i) f0 f1 m0 m1) where
     pub one_more : get_or flags (get_or targets i 0) false ≡ wanted → FindsNamed (λ y. y ≡ get_or targets i 0) f1 f2 m1 m2 → FindsNamed (Looked (i + 1)) f0 f2 m0 m2
@@ -176,3 +111,69 @@ module _ (targets : List ℕ) (flags : List Bool) (wanted : Bool) (i : ℕ) (lt 
 
     pub passed_by : get_or flags (get_or targets i 0) false ≢ wanted → FindsNamed (Looked (i + 1)) f0 f1 m0 m1
     passed_by ne = alike (Looked i) (Looked (i + 1)) f0 f1 m0 m1 (without_target ne) v
+
+module _ (edges : List (List ℕ)) (flags : List Bool) (start : ℕ) where
+  pub record Walks (next : ℕ) (found : List ℕ) (met : List Bool) : Type 0 where
+    pub marks : AreMarked found met
+    pub begun : (y : ℕ) → Leads edges start y → IsWanted flags true y → Among found y
+    pub sound : (x : ℕ) → Among found x → IsPassed edges flags start x
+    pub closed : (x y : ℕ) → Among (take next found) x → Leads edges x y → IsWanted flags true y → Among found y
+
+  pub begins : (found : List ℕ) (met met' : List Bool) → FindsNamed (λ y. Leads edges start y × IsWanted flags true y) [] found met met' → Walks 0 found met'
+  begins found met met' v = record {
+    marks = v.marks;
+    begun = λ y l r. v.reaches y (l, r);
+    sound = λ x i. elim (v.only x i) [ inl i ↦ absurd i | inr n ↦ (n.1, edge n.0) ];
+    closed = λ x y i. absurd i;
+  }
+
+  pub goes_on : (next : ℕ) (found found' : List ℕ) (met met' : List Bool) → next < length found → Walks next found met
+      → (at : ℕ) → at ≡ get_or found next at → FindsNamed (λ y. Leads edges at y × IsWanted flags true y) found found' met met' → Walks (next + 1) found' met'
+  goes_on next found found' met met' lt w at is v = record {
+    marks = v.marks;
+    begun = λ y l r. v.grows y (w.begun y l r);
+    sound = λ x i. elim (v.only x i) [ inl i ↦ w.sound x i | inr n ↦ let p = w.sound at (subst (Among found) there (among_at found next lt)) in (n.1, chained (IsWanted flags true) p.1 p.0 (edge n.0)) ];
+    closed = λ x y i l r.
+        elim ((among_more found next x lt).0 (subst (λ t. Among t x) (v.front (next + 1) (omega arith)) i)) [
+          | inl i ↦ v.grows y (w.closed x y i l r)
+          | inr e ↦ v.reaches y (subst (λ z. Leads edges z y) (e ∙ there) l, r)
+        ];
+  }
+    where
+      there : get_or found next 0 ≡ at
+      there = read_at found next 0 at lt is
+
+  pub ends : (next : ℕ) (found : List ℕ) (met : List Bool) → length found ≤ next → Walks next found met → (b : ℕ) → Among found b ↔ IsPassed edges flags start b
+  ends next found met le w b = (w.sound b, λ p. all w.begun p.1 p.0)
+    where
+      all : {a b : ℕ} → ((y : ℕ) → Leads edges a y → IsWanted flags true y → Among found y) → Reaches (Leads edges) (IsWanted flags true) a b → IsWanted flags true b → Among found b
+      all {b} out (edge l) r = out b l r
+      all out (through {b = c} l s p) r = all (λ y m t. w.closed c y (among_all found next c le (out c l s)) m t) p r
+
+-- where a path ends
+pub path_inside : {E : ℕ → ℕ → Type 0} {S : ℕ → Type 0} {a b : ℕ} (bound : ℕ) → ((a b : ℕ) → E a b → b < bound) → Reaches E S a b → b < bound
+path_inside {a = a} {b = b} bound within (edge e) = within a b e
+path_inside bound within (through e s p) = path_inside bound within p
+
+-- the vertex that is looked at next
+pub next_below : (edges : List (List ℕ)) (flags : List Bool) (start next : ℕ) (found : List ℕ) (met : List Bool) → Walks edges flags start next found met → ((a b : ℕ) → Leads edges a b → b < length edges) → next < length found → (at : ℕ) → at ≡ get_or found next at → at < length edges
+next_below edges flags start next found met w whole lt at is = path_inside (length edges) whole (w.sound at (subst (Among found) (read_at found next 0 at lt is) (among_at found next lt))).1
+
+-- what stands at an epoch
+abbrev pub marks_at : ℕ → List ℕ → List Bool
+marks_at e ss = map (λ s. nat_eq s e) ss
+
+pub none_marked : (ss : List ℕ) (e e' : ℕ) → ((x : ℕ) → get_or ss x 0 ≤ e) → e < e' → marks_at e' ss ≡ replicate (length (marks_at e ss)) false
+none_marked [] e e' h lt = refl
+none_marked (s ∷ ss) e e' h lt =
+    let low : s ≤ e = h 0 in
+    let one : nat_eq s e' ≡ false = grind (arith, nat_tests) in
+    let rest = none_marked ss e e' (λ x. h (suc x)) lt in
+    cc
+
+pub none_at_first : (n : ℕ) → marks_at 1 (replicate n 0) ≡ replicate n false
+none_at_first zero = refl
+none_at_first (suc n) = ap (λ l. false ∷ l) (none_at_first n)
+
+pub one_marked : (ss : List ℕ) (x s e : ℕ) → s ≡ e → marks_at e (set ss x s) ≡ set (marks_at e ss) x true
+one_marked ss x s e is = grind (arith, nat_tests, map-set (λ z. nat_eq z e) ss x s)

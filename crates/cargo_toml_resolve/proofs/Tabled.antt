@@ -1,9 +1,74 @@
--- Tables of bits, row after row.
-use Rattle.std.proofs.Common.{◌≡◌, ◌≢◌, ◌↔◌, ◌⊎◌, ◌<◌, ◌+◌, ℕ, zero, suc, Bool, List, [], ◌∷◌, ◌++◌, take, length, get_or, set, Vec, refl, sym, ap, subst, inl, inr, ◌∙◌, arith, length-append, length-set}
-use Rattle.std.proofs.lemmas.Bool.{cases_eq}
+-- Bits of words, and tables of bits, row after row.
+use Rattle.std.proofs.Common.{◌≡◌, ◌≢◌, ◌↔◌, ◌⊎◌, ◌<◌, ◌≤◌, ◌+◌, ◌*◌, ℕ, zero, suc, Bool, List, [], ◌∷◌, ◌++◌, take, length, get_or, set, Vec, refl, sym, ap, subst, inl, inr, ◌∙◌, arith, length-append, length-set, ◌/◌, ◌%◌, ◌^◌, max, w64}
+use Rattle.std.proofs.lemmas.{Bool.cases_eq, Bool.cases_lt, List.get_or_past, List.get_or-set_same, List.get_or-set_other, Nat.Bits.bit_at_or, Nat.Bits.bit_at-zero, Nat.Bits.bit_at-lt, Nat.Bits.bit_at_set_same}
+use Rattle.std.proofs.lemmas.{Nat.Bits.bit_at_set_other}
+use Rattle.std.specs.Int.{bit_at}
+use Rattle.std.specs.Prelude.{bit_or}
 use Rattle.cargo_toml_graph.specs.Reach.{Among}
 use Rattle.cargo_toml_resolve.specs.{Bits.AreWide, Bits.Gains, Bits.HasBit, Bits.Holds, Bits.words_of, Dense.IsTable, Numbers.IsWanted}
-use Rattle.cargo_toml_resolve.proofs.{Steps.among_more, Steps.row_read, Words.no_bit_past}
+use Rattle.cargo_toml_resolve.proofs.Steps.{among_more, row_read, among_either, among_first, among_last, read_at}
+
+-- past the last word there is no bit
+pub no_bit_past : (words : List ℕ) (x : ℕ) → length words ≤ x / 64 → ¬ HasBit words x
+no_bit_past words x past h = grind (arith, get_or_past words (x / 64) 0 past, bit_at-zero (x % 64))
+
+either_one : (p q : ℕ) → p < 2 → q < 2 → (max p q ≡ 1) ↔ ((p ≡ 1) ⊎ (q ≡ 1))
+either_one p q lp lq = grind (arith, cases_eq p 1)
+
+word_joined : (u v w i : ℕ) → w ≡ bit_or u v → (bit_at w i ≡ 1) ↔ ((bit_at u i ≡ 1) ⊎ (bit_at v i ≡ 1))
+word_joined u v w i e = grind (arith, bit_at_or u v i, either_one (bit_at u i) (bit_at v i) (bit_at-lt u i) (bit_at-lt v i), bit_at-lt u i, bit_at-lt v i)
+
+-- word by word
+pub joined_bits : (old new other : List ℕ) (n : ℕ) → length other ≤ n
+    → ((j : ℕ) → j < n → get_or new j 0 ≡ bit_or (get_or old j 0) (get_or other j 0))
+    → ((j : ℕ) → n ≤ j → get_or new j 0 ≡ get_or old j 0)
+    → (x : ℕ) → HasBit new x ↔ (HasBit old x ⊎ HasBit other x)
+joined_bits old new other n all done left x = elim (cases_lt (x / 64) n) [
+  | inl lt ↦ grind (arith, word_joined (get_or old (x / 64) 0) (get_or other (x / 64) 0) (get_or new (x / 64) 0) (x % 64) (done (x / 64) lt))
+  | inr ge ↦ grind (arith, no_bit_past)
+]
+
+module _ (words : List ℕ) (x : ℕ) (inside : x / 64 < length words) where
+  -- the word of x, with its bit
+  abbrev pub word_with : ℕ
+  word_with = bit_or (get_or words (x / 64) 0) (1 * 2 ^ (x % 64) % 2 ^ 64)
+
+  at_word : (y : ℕ) → y / 64 ≡ x / 64 → bit_at (get_or (set words (x / 64) word_with) (y / 64) 0) (y % 64) ≡ bit_at word_with (y % 64)
+  at_word y e = ap (λ z. bit_at (get_or (set words (x / 64) word_with) z 0) (y % 64)) e ∙ ap (λ w. bit_at w (y % 64)) (get_or-set_same words (x / 64) word_with 0 inside)
+
+  at_other : (y : ℕ) → y / 64 ≢ x / 64 → bit_at (get_or (set words (x / 64) word_with) (y / 64) 0) (y % 64) ≡ bit_at (get_or words (y / 64) 0) (y % 64)
+  at_other y ne = ap (λ w. bit_at w (y % 64)) (get_or-set_other words (x / 64) (y / 64) word_with 0 ne)
+
+  within : x % 64 < 64
+  within = omega arith
+
+  pub bit_put : (y : ℕ) → HasBit (set words (x / 64) word_with) y ↔ (HasBit words y ⊎ (y ≡ x))
+  bit_put y = elim (cases_eq (y / 64) (x / 64)) [
+    | inl word ↦ elim (cases_eq (y % 64) (x % 64)) [
+      | inl bit ↦ (
+        λ h. inr (omega (arith, word, bit)),
+        λ h. record { stands = at_word y word ∙ ap (λ i. bit_at word_with i) bit ∙ bit_at_set_same w64 (get_or words (x / 64) 0) (x % 64) within },
+      )
+      | inr other ↦
+          let same : bit_at word_with (y % 64) ≡ bit_at (get_or words (y / 64) 0) (y % 64) = bit_at_set_other w64 (get_or words (x / 64) 0) (x % 64) within (y % 64) other ∙ ap (λ z. bit_at (get_or words z 0) (y % 64)) (sym word) in (
+            λ h. inl (record { stands = sym same ∙ sym (at_word y word) ∙ h.stands }),
+            elim [ inl h ↦ record { stands = at_word y word ∙ same ∙ h.stands } | inr e ↦ absurd (other (ap (λ z. z % 64) e)) ],
+          )
+    ]
+    | inr apart ↦ grind (arith, at_other y apart)
+  ]
+
+-- the word is read and written at the place p of x
+pub put_at : (words : List ℕ) (x p old : ℕ) → p ≡ x → x / 64 < length words → old ≡ get_or words (p / 64) old → (y : ℕ) → HasBit (set words (p / 64) (bit_or old (1 * 2 ^ (p % 64) % 2 ^ 64))) y ↔ (HasBit words y ⊎ (y ≡ x))
+put_at words x p old at inside is = grind (arith, read_at words (x / 64) 0 old inside (subst (λ n. old ≡ get_or words (n / 64) old) at is), bit_put words x inside)
+
+-- the numbers below n of which P holds, once n is looked at
+module _ (P : ℕ → Type 0) (row : List ℕ) (n : ℕ) (is : (y : ℕ) → Among row y ↔ ((y < n) × P y)) where
+  pub one_more_held : P n → (y : ℕ) → Among (row ++ n ∷ []) y ↔ ((y < n + 1) × P y)
+  one_more_held p y = grind (arith, among_either, cases_eq, among_last, among_first)
+
+  pub none_more_held : ¬ P n → (y : ℕ) → Among row y ↔ ((y < n + 1) × P y)
+  none_more_held lacks y = grind (arith, cases_eq)
 
 -- a row past the end has no bit
 pub holds_inside : {Z : Type 0} (table : List (Vec ℕ Z)) (a x : ℕ) → Holds table a x → a < length table
@@ -51,12 +116,7 @@ module _ {Z : Type 0} (P : ℕ → ℕ → Type 0) (width n : ℕ) (table : List
         λ b. subst (λ k. P k x) (sym same) ((is x).0 (subst (λ w. HasBit w x) (last a same) b)),
         λ l. subst (λ w. HasBit w x) (sym (last a same)) ((is x).1 (subst (λ k. P k x) same l)),
       )
-      | inr other ↦
-          let early : a < length table = omega (arith, h.len, lt, other) in
-          let b = h.bits a x (omega (arith, lt, other)) in (
-            λ i. b.0 (subst (λ w. HasBit w x) (push_old table v a early) i),
-            λ l. subst (λ w. HasBit w x) (sym (push_old table v a early)) (b.1 l),
-          )
+      | inr other ↦ grind (arith, push_old)
     ];
   }
     where
@@ -65,64 +125,27 @@ module _ {Z : Type 0} (P : ℕ → ℕ → Type 0) (width n : ℕ) (table : List
 
   -- all rows
   pub tabled_all : ((a x : ℕ) → P a x → a < n) → (a x : ℕ) → Holds table a x ↔ P a x
-  tabled_all inside a x = (
-    λ b. (h.bits a x (let lt = holds_inside table a x b in let e = h.len in omega (arith, lt, e))).0 b,
-    λ l. (h.bits a x (inside a x l)).1 l,
-  )
+  tabled_all inside a x = grind (arith, holds_inside)
 
 -- one more row that is named
 module _ {Z : Type 0} (named : List ℕ) (i : ℕ) (Bits : ℕ → Type 0) (t0 t : List (Vec ℕ Z)) (g : Gains (Among (take i named)) Bits t0 t) (lt : i < length named) where
   pub gains_more : (at : ℕ) → at ≡ get_or named i 0 → at < length t → (v : Vec ℕ Z) → length v.items ≡ length (words_of t at) → ((x : ℕ) → HasBit v.items x ↔ (Holds t at x ⊎ Bits x))
       → Gains (Among (take (i + 1) named)) Bits t0 (set t at v)
-  gains_more at is inside v len bits = record {
-    len = length-set t at v ∙ g.len;
-    widths = λ a. elim (cases_eq a at) [
-      | inl same ↦ ap length (there a same) ∙ len ∙ ap (λ k. length (words_of t k)) (sym same) ∙ g.widths a
-      | inr other ↦ ap length (set_other t v at a other) ∙ g.widths a
-    ];
-    bits = λ a x.
-        let more = among_more named i a lt in
-        let old = g.bits a x in
-        elim (cases_eq a at) [
-          | inl same ↦ (
-            λ h. elim ((bits x).0 (subst (λ w. HasBit w x) (there a same) h)) [
-              | inl o ↦ elim (old.0 (subst (λ k. Holds t k x) (sym same) o)) [ inl p ↦ inl p | inr p ↦ inr (more.1 (inl p.0), p.1) ]
-              | inr b ↦ inr (more.1 (inr (same ∙ is)), b)
-            ],
-            λ h. subst (λ w. HasBit w x) (sym (there a same)) ((bits x).1 (elim h [
-              | inl p ↦ inl (subst (λ k. Holds t k x) same (old.1 (inl p)))
-              | inr p ↦ inr p.1
-            ])),
-          )
-          | inr other ↦ (
-            λ h. elim (old.0 (subst (λ w. HasBit w x) (set_other t v at a other) h)) [ inl p ↦ inl p | inr p ↦ inr (more.1 (inl p.0), p.1) ],
-            λ h. subst (λ w. HasBit w x) (sym (set_other t v at a other)) (old.1 (elim h [
-              | inl p ↦ inl p
-              | inr p ↦ inr (elim (more.0 p.0) [ inl m ↦ m | inr e ↦ absurd (other (e ∙ sym is)) ], p.1)
-            ])),
-          )
-        ];
-  }
-    where
-      there : (a : ℕ) → a ≡ at → words_of (set t at v) a ≡ v.items
-      there a same = ap (words_of (set t at v)) same ∙ set_here t v at inside
+  gains_more at is inside v len bits = grind (arith, length-set, cases_eq, set_other, among_more, set_here)
 
--- the row of a vertex, as it is read
-module _ {Z : Type 0} (P : ℕ → ℕ → Type 0) (width n : ℕ) (table : List (Vec ℕ Z)) (t : IsTable P width n table) (own p : ℕ) (lt : own < n) (at : p ≡ own) where
-  pub row_below : p < length table
-  row_below = let len = t.len in omega (arith, lt, at, len)
+-- a row that is read in its place
+pub row_seen : {Z : Type 0} (table : List (Vec ℕ Z)) (own p : ℕ) (v : Vec ℕ Z) (bits : List ℕ) → p ≡ own → own < length table → v ≡ get_or table p v → bits ≡ v.items → bits ≡ words_of table own
+row_seen table own p v bits at lt read shown = shown ∙ sym (row_read table own p v lt at read)
 
-  module _ (v : Vec ℕ Z) (bits : List ℕ) (read : v ≡ get_or table p v) (shown : bits ≡ v.items) where
-    row_is : words_of table own ≡ bits
-    row_is = row_read table own p v (subst (λ m. m < length table) at row_below) at read ∙ sym shown
+-- the row of a vertex, in a table that is seen as a slice
+pub row_below : {Z : Type 0} {P : ℕ → ℕ → Type 0} {width n own : ℕ} {table seen : List (Vec ℕ Z)} → own < n → IsTable P width n table → seen ≡ table → own < length seen
+row_below lt t is = rw is (let len = t.len in omega (arith, lt, len))
 
-    pub row_wide : length bits ≡ width
-    row_wide = sym (ap length row_is) ∙ t.wide own (subst (λ m. m < length table) at row_below)
+pub row_wide : {Z : Type 0} {P : ℕ → ℕ → Type 0} {width n own : ℕ} {table seen : List (Vec ℕ Z)} {flags read : List Bool} → own < n → IsTable P width n table → seen ≡ table
+    → length flags ≤ 64 * width → read ≡ flags → length read ≤ 64 * length (words_of seen own)
+row_wide {own} lt t is enough same = rw (is, same) (rw (t.wide own (let len = t.len in omega (arith, lt, len))) enough)
 
-    -- its nodes that have a flag
-    pub flagged_row : (flags : List Bool) (wanted : Bool) (row : List ℕ) → ((x : ℕ) → P own x → x < length flags)
-        → ((x : ℕ) → Among row x ↔ ((x < length flags) × (HasBit bits x × IsWanted flags wanted x))) → (x : ℕ) → Among row x ↔ (IsWanted flags wanted x × P own x)
-    flagged_row flags wanted row inside is x = (
-      λ i. let m = (is x).0 i in (m.1.1, (t.bits own x).0 (subst (λ ws. HasBit ws x) (sym row_is) m.1.0)),
-      λ q. (is x).1 (inside x q.1, (subst (λ ws. HasBit ws x) row_is ((t.bits own x).1 q.1), q.0)),
-    )
+-- its nodes that have a flag
+pub flagged_row : {Z : Type 0} {P : ℕ → ℕ → Type 0} {width n own : ℕ} {table seen : List (Vec ℕ Z)} {flags read : List Bool} (wanted : Bool) (row : List ℕ) → IsTable P width n table → seen ≡ table
+    → read ≡ flags → ((x : ℕ) → P own x → x < length flags) → ((x : ℕ) → Among row x ↔ ((x < length read) × (Holds seen own x × IsWanted read wanted x))) → (x : ℕ) → Among row x ↔ (IsWanted flags wanted x × P own x)
+flagged_row {own} wanted row t is same inside has x = grind arith

@@ -1,20 +1,19 @@
 -- What kept features take over, and what enables them, one feature after another.
-use Rattle.std.proofs.Common.{◌≡◌, ◌≢◌, ◌⊎◌, ◌↔◌, ◌<◌, ◌≤◌, ◌+◌, ℕ, Bool, true, false, List, [], length, get_or, Some, Bor, IsTrue, IfSome, refl, sym, ap, subst, inl, inr, ◌∙◌, arith}
+use Rattle.std.proofs.Common.{◌≡◌, ◌≢◌, ◌⊎◌, ◌↔◌, ◌<◌, ◌≤◌, ◌+◌, ℕ, Bool, true, false, List, [], length, get_or, Some, Bor, IsTrue, refl, sym, ap, subst, inl, inr, ◌∙◌, arith}
 use Rattle.std.proofs.lemmas.{Bool.cases_Bool, Bool.cases_eq, Bool.cases_lt, Bool.false≢true, List.get_or-map, Option.same_Some, Option.slice_get_past}
-use Rattle.std.specs.{BTreeSet.BTreeSet, List.slice_get, Option.option_and_then}
+use Rattle.std.specs.{BTreeSet.BTreeSet, List.slice_get}
 use Rattle.cargo_toml_graph.specs.{Action.Text, Reach.Among, Reach.Reaches, Reach.Reaches.edge, Reach.Reaches.through}
 use Rattle.cargo_toml_graph.proofs.Joins.{join_alike}
-use Rattle.cargo_toml_features.specs.{Places.nth_text, declared.features.Feature.Feature, InOrder.AreInOrder, InOrder.HaveNoEnablers, Views.action_at, Views.set_has}
+use Rattle.cargo_toml_features.specs.{Places.nth_text, declared.features.Feature.Feature, InOrder.AreInOrder, InOrder.HaveNoEnablers, Views.set_has}
 use Rattle.cargo_toml_features.proofs.TextKeys.{none_in}
 use Rattle.cargo_toml_resolve.specs.{Numbers.IsPassed, Numbers.IsWanted, Numbers.KeepsLabel, Numbers.Leads, Numbers.PassesAny, Enabling.EnablesThrough, Enabling.GainEnabler, Enabling.LearnThrough}
 use Rattle.cargo_toml_resolve.specs.Holding.{AllTakeOver, HasActions, HasTextsOf, Holds, HoldsTheSame, KeepsOwn, SaysTheSame, TakesOver}
-use Rattle.cargo_toml_resolve.specs.{Holding.action_by, NumberedTables.HasNumber, TakingOver.ChangesIn, TakingOver.ComesToHold, Texts.texts_now}
-use Rattle.cargo_toml_resolve.proofs.{Cuts.none_among, AlikePlaces.there_too, InPlace.stands_found, InPlace.stands_in, Learning.nobody_learns, Learning.then_learn, TakingOver.own_actions}
+use Rattle.cargo_toml_resolve.specs.{Holding.action_by, NumberedTables.HasNumber, Holding.ChangesIn, Holding.ComesToHold, Texts.texts_now}
+use Rattle.cargo_toml_resolve.proofs.{InPlace.stands_found, InPlace.stands_in, Learning.nobody_learns, Learning.then_learn, TakingOver.own_actions, TakingOver.there_too, RowsInOrder.none_among}
 
 -- the text in a place, as it is read there
 pub source_is : (texts : List (Bor Text)) (i p : ℕ) (source : Bor Text) → i < length texts → p ≡ i → source ≡ get_or texts p source → source.now ≡ nth_text (texts_now texts) i
-source_is texts i p source lt at read =
-    ap (λ (t : Bor Text). t.now) (subst (λ n. source ≡ get_or texts n source) at read) ∙ sym (get_or-map (λ (t : Bor Text). t.now) texts i source [] lt)
+source_is texts i p source lt at read = grind (arith, get_or-map)
 
 says_itself : (v : Feature) → SaysTheSame v v
 says_itself v = record { key = refl; marks = refl; bins = refl }
@@ -27,31 +26,15 @@ then_holds s t = record { names = t.names ∙ s.names; actions = t.actions ∙ s
 
 -- what stands in a place of a list does what it did in another
 acts_same : (vs ws : List Feature) → length ws ≡ length vs → (b : ℕ) (k : Text) → ((v w : Feature) → slice_get vs b ≡ Some v → slice_get ws b ≡ Some w → w.enables_deps ≡ v.enables_deps) → action_by ws b k ≡ action_by vs b k
-acts_same vs ws len b k same = elim (cases_lt b (length vs)) [
-  | inl lt ↦
-      let v = stands_in vs b lt in
-      let w = there_too vs ws len b v.0 v.1 in
-      ap (option_and_then (λ (u : Feature). action_at u.enables_deps k)) w.1 ∙ ap (λ m. action_at m k) (same v.0 w.0 v.1 w.1)
-      ∙ sym (ap (option_and_then (λ (u : Feature). action_at u.enables_deps k)) v.1)
-  | inr le ↦
-      ap (option_and_then (λ (u : Feature). action_at u.enables_deps k)) (slice_get_past ws b (subst (λ n. n ≤ b) (sym len) le))
-      ∙ sym (ap (option_and_then (λ (u : Feature). action_at u.enables_deps k)) (slice_get_past vs b le))
-]
+acts_same vs ws len b k same = grind (arith, cases_lt b (length vs), stands_in, there_too, slice_get_past)
 
 -- by the same places, of features that do the same there
 actions_alike : (vs ws : List Feature) (P Q : ℕ → Type 0) → ((b : ℕ) → P b ↔ Q b) → ((b : ℕ) (k : Text) → P b → action_by vs b k ≡ action_by ws b k) → (v : Feature) → HasActions vs P v.enables_deps → HasActions ws Q v.enables_deps
-actions_alike vs ws P Q places same v h k = join_alike (λ a. (
-  λ d. (d.0, (places d.0).0 d.1, sym (same d.0 k d.1) ∙ d.2),
-  λ d. let p = (places d.0).1 d.1 in (d.0, p, same d.0 k p ∙ d.2),
-)) (action_at v.enables_deps k) (h k)
+actions_alike vs ws P Q places same v h k = grind (arith, join_alike)
 
 -- a vertex that leads to no removed one passes none
 pub passes_none : (edges : List (List ℕ)) (flags : List Bool) (a : ℕ) → ¬ ((x : ℕ) × Leads edges a x × IsWanted flags true x) → (b : ℕ) → Among [] b ↔ IsPassed edges flags a b
-passes_none edges flags a clean b = (λ i. absurd i, λ p. first p.0 p.1)
-  where
-    first : IsWanted flags true b → Reaches (Leads edges) (IsWanted flags true) a b → ⊥
-    first gone (edge e) = clean (b, e, gone)
-    first gone (through {b = c} e s p) = clean (c, e, s)
+passes_none edges flags a clean b = grind arith
 
 module _ (edges labels : List (List ℕ)) (flags : List Bool) (texts : List Text) where
   -- one kept feature, which passes these
@@ -120,13 +103,7 @@ module _ (edges labels : List (List ℕ)) (flags : List Bool) (texts : List Text
               let w = there_too vs ws v.same.len a x at in
               let h = c.here w.0 u w.1 at' in
               record {
-                names = inl (
-                  any,
-                  λ y. (
-                    λ i. let m = (has y).0 (subst (λ z. IsTrue (set_has z y)) h.names i) in (m.0, m.1, m.2, (n m.0).0 m.3),
-                    λ m. subst (λ z. IsTrue (set_has z y)) (sym h.names) ((has y).1 (m.0, m.1, m.2, (n m.0).1 m.3)),
-                  ),
-                );
+                names = grind arith;
                 actions = actions_alike ws vs (λ b. (b ≡ a) ⊎ Among passed b) (λ b. (b ≡ a) ⊎ IsPassed edges flags a b) (λ b. (
                   λ p. elim p [ inl e ↦ inl e | inr m ↦ inr ((is b).0 m) ],
                   λ p. elim p [ inl e ↦ inl e | inr m ↦ inr ((is b).1 m) ],
@@ -160,13 +137,7 @@ module _ (edges labels : List (List ℕ)) (flags : List Bool) (texts : List Text
   same_says vs i v w at at' = subst (SaysTheSame v) (same_Some v w (sym at ∙ at')) (says_itself v)
 
   pub none_take_over : (vs : List Feature) → AllTakeOver edges labels flags texts 0 vs vs
-  none_take_over vs = record {
-    len = refl;
-    own = same_says vs;
-    holds = λ i v w lt. absurd (omega (arith, lt));
-    rest = λ i v w r at at'. subst (HoldsTheSame v) (same_Some v w (sym at ∙ at')) (record { names = refl; actions = refl });
-    learn = nobody_learns (By 0) vs (λ y e b. let lt = b.1.1 in omega (arith, lt));
-  }
+  none_take_over vs = grind (arith, same_says vs, same_Some, nobody_learns)
 
   module _ (n : ℕ) (vs ws : List Feature) (v : AllTakeOver edges labels flags texts n vs ws) where
     later : (i : ℕ) → (n + 1 ≤ i) ⊎ IsWanted flags true i → (n ≤ i) ⊎ IsWanted flags true i
@@ -177,10 +148,7 @@ module _ (edges labels : List (List ℕ)) (flags : List Bool) (texts : List Text
     skipped gone = record {
       len = v.len;
       own = v.own;
-      holds = λ i x w lt kept. elim (cases_eq i n) [
-        | inl e ↦ absurd (false≢true (sym kept ∙ subst (IsWanted flags true) (sym e) gone))
-        | inr ne ↦ v.holds i x w (omega (arith, lt, ne)) kept
-      ];
+      holds = λ i x w lt kept. grind (arith, cases_eq);
       rest = λ i x w r. v.rest i x w (later i r);
       learn = λ y x w at at' e. let l = v.learn y x w at at' e in (
         λ i. elim (l.0 i) [ inl o ↦ inl o | inr b ↦ inr (sooner n y e b) ],
@@ -209,30 +177,12 @@ module _ (edges labels : List (List ℕ)) (flags : List Bool) (texts : List Text
                     actions = actions_alike ws vs (λ b. (b ≡ n) ⊎ IsPassed edges flags n b) (λ b. (b ≡ n) ⊎ IsPassed edges flags n b) (λ b. (λ p. p, λ p. p)) untouched u h.actions;
                   }
                   )
-              | inr ne ↦
-                  let h = v.holds i x m.0 (omega (arith, lt, ne)) k at m.1 in
-                  let s = w.others i m.0 u ne m.1 at' in
-                  record {
-                    names = elim (h.names) [
-                      | inl o ↦ inl (o.0, subst (λ z. (y : Text) → IsTrue (set_has z y) ↔ HasNumber texts (length texts) (KeepsLabel edges flags labels i) y) (sym s.names) o.1)
-                      | inr o ↦ inr (o.0, s.names ∙ o.1)
-                    ];
-                    actions = subst (HasActions vs (λ b. (b ≡ i) ⊎ IsPassed edges flags i b)) (sym s.actions) h.actions;
-                  }
+              | inr ne ↦ grind arith
             ];
-        rest = λ i x u r at at'.
-            let m = there_too vs ws v.len i x at in
-            let ne : i ≢ n = elim r [ inl le ↦ λ s. absurd (omega (arith, le, s)) | inr gone ↦ λ s. false≢true (sym kept ∙ subst (IsWanted flags true) s gone) ] in
-            then_holds (v.rest i x m.0 (later i r) at m.1) (w.others i m.0 u ne m.1 at');
+        rest = λ i x u r at at'. grind (arith, there_too, then_holds, later i r);
         learn = then_learn (By n) (λ y e. (e ≡ nth_text texts n) × (IsWanted flags false y × EnablesThrough edges flags y n)) (By (n + 1)) vs ws us v.len (λ y e below. (
-          λ b. elim (cases_eq b.1.0 n) [
-            | inl at ↦ inr (sym b.1.2 ∙ ap (nth_text texts) at, (b.0, subst (EnablesThrough edges flags y) at b.1.3))
-            | inr ne ↦ inl (earlier n y e b ne)
-          ],
-          λ s. elim s [
-            | inl b ↦ sooner n y e b
-            | inr r ↦ (r.1.0, (n, omega arith, sym r.0, r.1.1))
-          ],
+          λ b. grind (arith, cases_eq, earlier),
+          λ s. grind (arith, sooner),
         )) v.learn w.learn;
       }
 
@@ -241,9 +191,6 @@ module _ (edges labels : List (List ℕ)) (flags : List Bool) (texts : List Text
       → IsWanted flags false i → (e : Text) → IsTrue (set_has w.enabled_by e) ↔ HasNumber texts n (EnablesThrough edges flags i) e
   learnt_through n vs ws up none h i v w old new kept e =
       let l = h i v w old new e in (
-        λ t. elim (l.0 t) [
-          | inl o ↦ absurd (false≢true (sym (none_in v.enabled_by (subst (λ p. IfSome p (λ x. x.enabled_by.keys ≡ [])) (stands_found vs up i v old) (none v.key.now)) e) ∙ o))
-          | inr b ↦ b.1
-        ],
+        λ t. grind (arith, none_in, stands_found vs up i v old, none),
         λ b. l.1 (inr (kept, b)),
       )

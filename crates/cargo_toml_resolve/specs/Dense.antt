@@ -1,9 +1,12 @@
 -- What leads where in a dense graph, as tables of bits.
-use Rattle.std.specs.Prelude.{◌≡◌, ◌↔◌, ◌≤◌, ◌*◌, ℕ, Bool, true, List, length, Vec}
+use Rattle.std.specs.Prelude.{◌≡◌, ◌↔◌, ◌≤◌, ◌*◌, ℕ, Bool, true, List, length, Vec, ◌<◌}
 use Rattle.cargo_toml_graph.specs.Reach.{GathersLabel, Reaches}
 use Rattle.cargo_toml_resolve.specs.Bits.{AreWide, Holds}
-use Rattle.cargo_toml_resolve.specs.Numbers.{FindsRedirects, IsWanted, Leads}
+use Rattle.cargo_toml_resolve.specs.Numbers.{FindsRedirects, IsWanted, Leads, IsRedirect}
 use Rattle.cargo_toml_resolve.specs.declared.dense.Tables.{Tables}
+use Rattle.std.specs.Option.{ForSome}
+use Rattle.cargo_toml_resolve.specs.declared.finder.Finder.{Finder}
+use Rattle.cargo_toml_resolve.specs.declared.graph.Graph.{Graph}
 
 -- a table of n rows of so many words has the bits of which P holds
 pub record IsTable {Z : Type 0} (P : ℕ → ℕ → Type 0) (width n : ℕ)
@@ -22,3 +25,14 @@ pub record AreTables (edges names : List (List ℕ)) (flags : List Bool) (t : Ta
   pub labels : IsTable (GathersLabel (Leads edges) (IsWanted flags true) (Leads names)) width
       (length edges) t.labels.items
   pub redirects : FindsRedirects edges names flags t.redirects.moved.items t.redirects.rows
+
+-- what stands for each removed vertex
+abbrev pub AreRedirects : List (List ℕ) → List (List ℕ) → List Bool → List (List ℕ) → Type 0
+AreRedirects edges labels flags redirects =
+    (r x : ℕ) → r < length edges → IsWanted flags true r
+    → Leads redirects r x ↔ IsRedirect edges flags labels r x
+
+-- the tables, where there are some, are those of the graph, and each node can be marked
+pub record FindsIn (g : Graph) (f : Finder) : Type 0 where
+  pub tables : ForSome f.tables (AreTables g.edges g.names g.flags.items)
+  pub room : length f.walk.met ≡ length g.flags.items

@@ -11,9 +11,11 @@ use Rattle.cargo_toml_features.specs.declared.features.Feature.{Feature}
 use Rattle.cargo_toml_features.specs.Marks.{marks_of}
 use Rattle.cargo_toml_features.specs.Views.{set_has, action_at}
 use Rattle.cargo_toml_features.specs.Places.{nth_text}
-use Rattle.cargo_toml_resolve.specs.Numbers.{IsPassed, IsWanted, KeepsLabel, PassesAny}
+use Rattle.cargo_toml_resolve.specs.Numbers.{IsPassed, IsWanted, KeepsLabel, PassesAny, row_items}
 use Rattle.cargo_toml_resolve.specs.Enabling.{EnablesThrough, LearnEach, LearnThrough}
 use Rattle.cargo_toml_resolve.specs.NumberedTables.{HasNumber}
+use Rattle.cargo_toml_resolve.specs.declared.graph.Walked.{Walked}
+use Rattle.cargo_toml_resolve.specs.Texts.{texts_now}
 
 -- what the feature in place b does to k, None past the end
 abbrev pub action_by : List Feature → ℕ → Text → Option Action
@@ -90,3 +92,38 @@ module _ (edges labels : List (List ℕ)) (flags : List Bool) (texts : List Text
     pub rest : (i : ℕ) (v w : Feature) → (n ≤ i) ⊎ IsWanted flags true i → slice_get old i ≡ Some v
         → slice_get new i ≡ Some w → HoldsTheSame v w
     pub learn : LearnThrough edges flags texts n old new
+
+-- the feature in place i changes so, and no other does
+pub record ChangesIn (Changes : Feature → Feature → Type 0) (i : ℕ)
+    (old new : List Feature) : Type 0 where
+  pub len : length new ≡ length old
+  pub here : (v w : Feature) → slice_get old i ≡ Some v → slice_get new i ≡ Some w → Changes v w
+  pub others : (j : ℕ) → j ≢ i → slice_get new j ≡ slice_get old j
+
+-- the feature in place i of vs comes to do what it and those in the places `passed` do
+pub record TakesActions (vs : List Feature) (i : ℕ) (passed : List ℕ)
+    (old new : Feature) : Type 0 where
+  pub own : KeepsOwn old new
+  pub names : new.enables_features ≡ old.enables_features
+  pub actions : HasActions vs (λ b. (b ≡ i) ⊎ Among passed b) new.enables_deps
+
+-- and comes to have these names
+pub record ComesToHold (vs : List Feature) (i : ℕ) (passed : List ℕ) (set : BTreeSet (Bor Text))
+    (old new : Feature) : Type 0 where
+  pub own : KeepsOwn old new
+  pub names : new.enables_features ≡ set
+  pub actions : HasActions vs (λ b. (b ≡ i) ⊎ Among passed b) new.enables_deps
+
+-- the features in the named places may have changed in all but their names; the others stay
+pub record HandsOver (Named : ℕ → Type 0) (old new : List Feature) : Type 0 where
+  pub len : length new ≡ length old
+  pub keys : (i : ℕ) (v w : Feature) → slice_get old i ≡ Some v → slice_get new i ≡ Some w
+      → w.key ≡ v.key
+  pub others : (i : ℕ) → ¬ Named i → slice_get new i ≡ slice_get old i
+
+-- a removed feature names its redirect, where that isn't marked as moved
+abbrev pub HaveOwnSets : Walked → List Feature → Type 0
+HaveOwnSets w vs =
+    (r : ℕ) (v : Feature) → IsWanted w.flags.items true r → IsWanted w.moved.items false r
+    → slice_get vs r ≡ Some v
+    → HasTextsOf (texts_now w.texts.items) (row_items w.redirects r) v.enables_features

@@ -8,17 +8,11 @@ pub mod Bits
 pub mod Dense
 pub mod Spans
 pub mod Holding
-pub mod HandingOver
-pub mod TakingOver
 pub mod KeptFeatures
 pub mod Texts
 pub mod Numbering
 pub mod InEachPlace
 pub mod Passing
-pub mod Walking
 pub mod Placed
-pub mod KeptByName
-pub mod Puts
-pub mod KnownBins
 pub mod Enabling
 pub mod NumberedTables

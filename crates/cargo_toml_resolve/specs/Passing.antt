@@ -1,13 +1,16 @@
 -- The binaries that are passed on, by places.
-use Rattle.std.specs.Prelude.{◌≡◌, ℕ, zero, suc, Bool, false, List, [], if◌then◌else◌}
-use Rattle.std.specs.Prelude.{map, nat_eq, take, slice_get}
+use Rattle.std.specs.Prelude.{◌≡◌, ℕ, zero, suc, Bool, false, List, [], if◌then◌else◌, map, nat_eq}
+use Rattle.std.specs.Prelude.{take, slice_get, ◌⊎◌, ◌<◌, length, Some}
 use Rattle.std.specs.List.{list_any, slice_index_or}
 use Rattle.std.specs.Option.{option_map_or}
 use Rattle.cargo_toml_graph.specs.Action.{Text}
-use Rattle.cargo_toml_graph.specs.Removal.{put_each}
+use Rattle.cargo_toml_graph.specs.Removal.{put_each, lists_text}
 use Rattle.cargo_toml_resolve.specs.Numbers.{row_items}
 use Rattle.cargo_toml_features.specs.declared.features.Feature.{Feature}
 use Rattle.cargo_toml_resolve.specs.InEachPlace.{DoesTheSame, InEachPlace}
+use Rattle.std.specs.Borrow.{Bor}
+use Rattle.std.specs.BTreeSet.{BTreeSet, btree_set_len}
+use Rattle.cargo_toml_features.specs.Views.{set_has}
 
 -- the binaries that require the feature in place i, none past the end
 abbrev pub bins_of : List Feature → ℕ → List Text
@@ -36,3 +39,23 @@ pub record IsSameButBins (old new : Feature) : Type 0 where
 -- in each place
 abbrev pub AreSameButBins : List Feature → List Feature → Type 0
 AreSameButBins old new = InEachPlace IsSameButBins old new
+
+-- the binaries are put into the lists of the features in the named places, and nothing else changes
+pub record Puts (Named : ℕ → Type 0) (bins : List Text) (old new : List Feature) : Type 0 where
+  pub same : AreSameButBins old new
+  pub lists : (y : ℕ) → y < length old → (Named y × (bins_of new y ≡ put_each (bins_of old y) bins))
+      ⊎ ((¬ Named y) × (bins_of new y ≡ bins_of old y))
+
+-- the set has the binaries of the list, and no other
+abbrev pub Knows : BTreeSet (Bor Text) → List Text → Type 0
+Knows known bins = (x : Text) → set_has known x ≡ lists_text bins x
+
+-- or it has nothing yet
+abbrev pub MayKnow : BTreeSet (Bor Text) → List Text → Type 0
+MayKnow known bins = (btree_set_len known ≡ 0) ⊎ Knows known bins
+
+-- in each place the set may know the binaries of the feature there
+pub record AreKnown (known : List (BTreeSet (Bor Text))) (vs : List Feature) : Type 0 where
+  pub len : length known ≡ length vs
+  pub each : (y : ℕ) (s : BTreeSet (Bor Text)) → slice_get known y ≡ Some s
+      → MayKnow s (bins_of vs y)

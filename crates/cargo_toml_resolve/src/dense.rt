@@ -6,10 +6,10 @@ ghost use Rattle.std.specs.Prelude.{IfOk};
 ghost use Rattle.cargo_toml_resolve.specs.Dense.{AreTables};
 ghost use Rattle.cargo_toml_resolve.specs.Numbers.{AreWithin};
 
-use crate::bits::{nodes_of, words_for};
+use crate::bits::words_for;
 use crate::redirects::Redirects;
 use crate::rows::Rows;
-use crate::tables::{parents_of, pass_on, table_of};
+use crate::tables::{flagged, parents_of, pass_on, table_of};
 use cargo_toml_features::node::Node;
 use std::alloc::{AllocError, Global};
 
@@ -53,7 +53,7 @@ pub fn take_out(
     for r in 0..edges.len() {
         if is_removed[r] {
             let own = Node::at(r);
-            let row = nodes_of(alloc, gathered[r].as_slice(), finished.as_slice(), false)?;
+            let row = flagged(alloc, gathered.as_slice(), own, finished.as_slice(), false)?;
             rows.push(row.as_slice())?;
             let parents = parents_of(alloc, paths.as_slice(), own)?;
             pass_on(alloc, &mut gathered, own, parents.as_slice())?;

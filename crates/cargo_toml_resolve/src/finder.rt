@@ -2,11 +2,11 @@
 ghost use Rattle.std.specs.Prelude.{◌≡◌, ◌↔◌, ◌<◌, ℕ, OnOk, false, length, true};
 ghost use Rattle.cargo_toml_graph.specs.Reach.{Among, Reaches};
 ghost use Rattle.cargo_toml_resolve.specs.Numbers.{IsPassed, IsWanted, KeepsLabel, Leads};
-ghost use Rattle.cargo_toml_resolve.specs.Walking.{FindsIn};
+ghost use Rattle.cargo_toml_resolve.specs.Dense.{FindsIn};
 
-use crate::bits::nodes_of;
 use crate::dense::Tables;
 use crate::graph::Graph;
+use crate::tables::flagged;
 use crate::walk::Walk;
 use cargo_toml_features::node::Node;
 use std::alloc::{AllocError, Global};
@@ -36,8 +36,8 @@ impl Finder {
         let flags = graph.flags.as_slice();
         match &self.tables {
             Some(tables) => {
-                let paths = tables.paths[own.place()].as_slice();
-                self.walk.passed = nodes_of(alloc, paths, flags, true)?;
+                let paths = tables.paths.as_slice();
+                self.walk.passed = flagged(alloc, paths, own, flags, true)?;
                 Ok(())
             }
             None => {
@@ -67,8 +67,8 @@ impl Finder {
         let flags = graph.flags.as_slice();
         match &self.tables {
             Some(tables) => {
-                let paths = tables.paths[own.place()].as_slice();
-                self.walk.labels = nodes_of(alloc, paths, flags, false)?;
+                let paths = tables.paths.as_slice();
+                self.walk.labels = flagged(alloc, paths, own, flags, false)?;
                 Ok(())
             }
             None => {
@@ -97,8 +97,8 @@ impl Finder {
         let flags = graph.flags.as_slice();
         match &self.tables {
             Some(tables) => {
-                let labels = tables.labels[own.place()].as_slice();
-                self.walk.labels = nodes_of(alloc, labels, flags, false)?;
+                let labels = tables.labels.as_slice();
+                self.walk.labels = flagged(alloc, labels, own, flags, false)?;
                 Ok(())
             }
             None => {

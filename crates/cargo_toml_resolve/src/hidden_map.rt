@@ -6,8 +6,7 @@ ghost use Rattle.cargo_toml_graph.specs.Action.{Text};
 ghost use Rattle.cargo_toml_features.specs.declared.features.Feature.{Feature};
 ghost use Rattle.cargo_toml_features.specs.Places.{nth_text};
 ghost use Rattle.cargo_toml_features.specs.Views.{value_at};
-ghost use Rattle.cargo_toml_resolve.specs.HandingOver.{HandsOver, HaveOwnSets};
-ghost use Rattle.cargo_toml_resolve.specs.Holding.{HasTextsOf};
+ghost use Rattle.cargo_toml_resolve.specs.Holding.{HandsOver, HaveOwnSets, HasTextsOf};
 ghost use Rattle.cargo_toml_resolve.specs.Texts.{texts_now};
 ghost use Rattle.cargo_toml_resolve.specs.Numbers.{IsWanted, row_items};
 

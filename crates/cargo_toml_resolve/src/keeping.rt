@@ -3,7 +3,7 @@ ghost use Rattle.std.specs.Prelude.{◌≡◌, ◌<◌, OnOk, false, length};
 ghost use Rattle.cargo_toml_resolve.specs.Holding.{AllTakeOver, TakesOver};
 ghost use Rattle.cargo_toml_resolve.specs.Numbers.{IsWanted};
 ghost use Rattle.cargo_toml_resolve.specs.Texts.{texts_now};
-ghost use Rattle.cargo_toml_resolve.specs.Walking.{FindsIn};
+ghost use Rattle.cargo_toml_resolve.specs.Dense.{FindsIn};
 
 use crate::enabling::enable_along;
 use crate::finder::Finder;

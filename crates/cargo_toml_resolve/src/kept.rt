@@ -1,16 +1,15 @@
 //! Hidden features are removed from features that stand in the byte order of their names.
 ghost use Rattle.std.specs.Prelude.{◌≡◌, ◌↔◌, ◌≤◌, ℕ, Bool, IfOk};
-ghost use Rattle.std.specs.Prelude.{IsTrue, Some, [], length, slice_get, true};
+ghost use Rattle.std.specs.Prelude.{IsTrue, Some, length, slice_get, true};
 ghost use Rattle.cargo_toml_graph.specs.Action.{Text};
 ghost use Rattle.cargo_toml_graph.specs.Graph.{IsUnremoved, Table};
 ghost use Rattle.cargo_toml_resolve.specs.Numbers.{IsWanted};
 ghost use Rattle.cargo_toml_features.specs.declared.features.Feature.{Feature};
 ghost use Rattle.cargo_toml_features.specs.InOrder.{AreInOrder, AreTable, HaveNoEnablers};
-ghost use Rattle.cargo_toml_features.specs.InOrder.{feature_at, resolution_among};
+ghost use Rattle.cargo_toml_features.specs.InOrder.{resolution_among};
 ghost use Rattle.cargo_toml_features.specs.Reached.{IsKeyed};
-ghost use Rattle.cargo_toml_features.specs.Views.{value_at};
-ghost use Rattle.cargo_toml_resolve.specs.HandingOver.{HaveOwnSets};
-ghost use Rattle.cargo_toml_resolve.specs.KeptByName.{AreKept};
+ghost use Rattle.cargo_toml_resolve.specs.Holding.{HaveOwnSets};
+ghost use Rattle.cargo_toml_resolve.specs.KeptFeatures.{AreKept};
 ghost use Rattle.cargo_toml_resolve.specs.Numbering.{IsFlagged};
 ghost use Rattle.cargo_toml_resolve.specs.Placed.{AreHashed};
 
@@ -45,9 +44,6 @@ pub fn keep_all<'m, S: BuildHasher + Clone>(
     requires in_order { AreInOrder features.items }
     requires count { length flags.now ≡ length features.items }
     requires none_flagged { (i : ℕ) → ¬ IsWanted flags.now true i }
-    ensures same { IfOk result
-        (λ l. (f : Text) → value_at l.features f ≡ feature_at features.entry.items f) }
-    ensures empty { IfOk result (λ l. l.hidden.entries ≡ []) }
     ensures keyed { IfOk result (λ l. IsKeyed l.features) }
     ensures all { IfOk result (λ l. (t : Table) (removed : Text → Bool)
         → IsUnremoved t (resolution_among features.entry.items)

@@ -1,19 +1,19 @@
 //! Features become a graph of nodes, by one look at each name.
 ghost use Rattle.std.specs.Prelude.{◌≡◌, ◌↔◌, ◌⊎◌, ◌≢◌, ◌<◌, ◌≤◌, ◌++◌, ◌∷◌, [], ℕ, IfOk, IfSome};
 ghost use Rattle.std.specs.Prelude.{if◌then◌else◌};
-ghost use Rattle.std.specs.Prelude.{IsTrue, None, OnOk, Some, false, length, take, true};
+ghost use Rattle.std.specs.Prelude.{Bool, IsTrue, None, OnOk, Some, false, length, take, true};
 ghost use Rattle.cargo_toml_graph.specs.Action.{Text};
-ghost use Rattle.cargo_toml_graph.specs.Graph.{IsPlain};
+ghost use Rattle.cargo_toml_graph.specs.Graph.{IsPlain, Table};
 ghost use Rattle.cargo_toml_graph.specs.Reach.{Among};
 ghost use Rattle.cargo_toml_graph.specs.Ascending.{Ascend};
-ghost use Rattle.cargo_toml_features.specs.InOrder.{AreInOrder, names_of, table_among};
+ghost use Rattle.cargo_toml_features.specs.InOrder.{AreInOrder, AreTable, names_of};
 ghost use Rattle.cargo_toml_features.specs.Views.{action_at, action_of, set_has};
 ghost use Rattle.cargo_toml_features.specs.Places.{nth_text};
 ghost use Rattle.cargo_toml_resolve.specs.Enabling.{LeadsTo};
-ghost use Rattle.cargo_toml_resolve.specs.NumberedTables.{IsNumbered};
 ghost use Rattle.cargo_toml_resolve.specs.Numbering.{AreRead, AreTextsOf, Extends, Gains};
 ghost use Rattle.cargo_toml_resolve.specs.Numbering.{HasNames, IsFlagged, IsNodeOf};
 ghost use Rattle.cargo_toml_resolve.specs.Numbers.{IsWanted};
+ghost use Rattle.cargo_toml_resolve.specs.Placed.{Shows};
 ghost use Rattle.cargo_toml_resolve.specs.Texts.{texts_now};
 
 use crate::graph::Graph;
@@ -337,9 +337,10 @@ pub fn number<'m>(
 ) -> Result<Graph<'m>, AllocError>
     requires in_order { AreInOrder features.now }
     requires len { length flags.now ≡ length features.now }
-    ensures numbered { IfOk result
-        (λ g. IsNumbered (table_among features.now) (IsFlagged features.now flags.now)
-        (texts_now g.texts.items) g.edges g.names g.flags.items) }
+    ensures numbered { IfOk result (λ g. (t : Table) (removed : Text → Bool)
+        → AreTable t features.now
+        → ((f : Text) → IsTrue (removed f) ↔ IsFlagged features.now flags.now f)
+        → Shows g t removed features.now) }
     ensures count { IfOk result (λ g. length g.edges ≡ length features.now) }
     ensures vertices { IfOk result (λ g. (i : ℕ) → i < length features.now →
         nth_text (texts_now g.texts.items) i ≡ nth_text (names_of features.now) i) }

@@ -7,9 +7,8 @@ ghost use Rattle.cargo_toml_graph.specs.Reach.{Among};
 ghost use Rattle.cargo_toml_graph.specs.Removal.{put_each};
 ghost use Rattle.cargo_toml_features.specs.Views.{set_has};
 ghost use Rattle.cargo_toml_resolve.specs.Numbers.{IsWanted};
-ghost use Rattle.cargo_toml_resolve.specs.KnownBins.{AreKnown, Knows, MayKnow};
-ghost use Rattle.cargo_toml_resolve.specs.Passing.{bins_of, passed_below, AreSameButBins};
-ghost use Rattle.cargo_toml_resolve.specs.Puts.{Puts};
+ghost use Rattle.cargo_toml_resolve.specs.Passing.{AreKnown, Knows, MayKnow, bins_of, passed_below};
+ghost use Rattle.cargo_toml_resolve.specs.Passing.{AreSameButBins, Puts};
 ghost use Rattle.cargo_toml_resolve.specs.Texts.{texts_now};
 
 use crate::rows::Rows;

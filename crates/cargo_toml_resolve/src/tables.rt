@@ -1,11 +1,11 @@
 //! Tables of bits: for each vertex a set of nodes.
-ghost use Rattle.std.specs.Prelude.{◌≡◌, ◌*◌, ◌<◌, ◌↔◌, ◌⊎◌, ℕ, IfOk, OnOk, length};
+ghost use Rattle.std.specs.Prelude.{◌≡◌, ◌*◌, ◌<◌, ◌≤◌, ◌↔◌, ◌⊎◌, ℕ, IfOk, OnOk, length};
 ghost use Rattle.cargo_toml_graph.specs.Reach.{Among};
 ghost use Rattle.cargo_toml_resolve.specs.Bits.{AreWide, Gains, HasBit, Holds, words_of};
 ghost use Rattle.cargo_toml_resolve.specs.Dense.{IsTable};
-ghost use Rattle.cargo_toml_resolve.specs.Numbers.{Leads};
+ghost use Rattle.cargo_toml_resolve.specs.Numbers.{IsWanted, Leads};
 
-use crate::bits::{bits_of, has_bit, join};
+use crate::bits::{bits_of, has_bit, join, nodes_of};
 use crate::rows::Rows;
 use cargo_toml_features::node::Node;
 use std::alloc::{AllocError, Global};
@@ -36,6 +36,22 @@ pub fn parents_of(alloc: Global, table: &[Vec<u64>], of: Node) -> Result<Vec<Nod
         }
     }
     Ok(parents)
+}
+
+/// The nodes whose bit stands in the row of a vertex and whose flag is `wanted`.
+pub(crate) fn flagged(
+    alloc: Global,
+    table: &[Vec<u64>],
+    own: Node,
+    flags: &[bool],
+    wanted: bool,
+) -> Result<Vec<Node>, AllocError>
+    requires own { own < length table.now }
+    requires wide { length flags.now ≤ 64 * length (words_of table.now own) }
+    ensures { IfOk result (λ row. (x : ℕ) → Among row.items x
+        ↔ ((x < length flags.now) × (Holds table.now own x × IsWanted flags.now wanted x))) }
+{
+    nodes_of(alloc, table[own.place()].as_slice(), flags, wanted)
 }
 
 // The rows that are named gain the bits.

@@ -3,8 +3,7 @@ ghost use Rattle.std.specs.Prelude.{◌≡◌, ◌<◌, ◌⊎◌, ℕ, Some, On
 ghost use Rattle.cargo_toml_graph.specs.Action.{Text, IsJoin};
 ghost use Rattle.cargo_toml_graph.specs.Reach.{Among};
 ghost use Rattle.cargo_toml_features.specs.Views.{action_at};
-ghost use Rattle.cargo_toml_resolve.specs.Holding.{DoesAt};
-ghost use Rattle.cargo_toml_resolve.specs.TakingOver.{ChangesIn, ComesToHold, TakesActions};
+ghost use Rattle.cargo_toml_resolve.specs.Holding.{DoesAt, ChangesIn, ComesToHold, TakesActions};
 
 use crate::joining::add_actions;
 use cargo_toml_features::features::{DepAction, Feature};

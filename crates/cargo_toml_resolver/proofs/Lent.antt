@@ -1,7 +1,6 @@
 -- Facts of what is lent and of what is resolved beside it, as facts of both together.
 use Rattle.std.proofs.Common.{◌≡◌, ℕ, T, is_ok, Option, Some, Result, Ok, Err, IfOk, IfErr, IfSome, IsSome, OnErr, OnOk, refl, sym, ap, ◌∙◌, subst, inl, inr}
-use Rattle.std.specs.Prelude.{⊤, is_some, true}
-use Rattle.std.specs.Borrow.{follows_so}
+use Rattle.std.specs.{Prelude.⊤, Prelude.is_some, Prelude.true, Borrow.follows_so}
 use seplogic.Ra.Ura.{Ura}
 use mathlib.Core.Option.{none}
 use base.Logic.{ent, ex_i, ex_e}

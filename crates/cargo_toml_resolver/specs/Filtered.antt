@@ -1,6 +1,5 @@
 -- What a resolver was made with.
-use Rattle.std.specs.Prelude.{ℕ, Option}
-use Rattle.std.specs.Borrow.{Bor}
+use Rattle.std.specs.{Prelude.ℕ, Prelude.Option, Borrow.Bor}
 use Rattle.cargo_toml_resolver.specs.declared.features.Resolver.{Resolver}
 
 module _ {F S : Type 0} (r : Resolver F S) where

@@ -1,8 +1,6 @@
 -- What resolving the features of a manifest answers.
 use Rattle.std.specs.Prelude.{◌≤◌, ℕ, Bool, IsSome, IsTrue, List, [], Option, count_by, map}
-use Rattle.std.specs.Prelude.{is_some, true, unwrap_or}
-use Rattle.std.specs.Borrow.{Bor}
-use Rattle.std.specs.List.{flat_map}
+use Rattle.std.specs.{Prelude.is_some, Prelude.true, Prelude.unwrap_or, Borrow.Bor, List.flat_map}
 use Rattle.std.specs.Option.{option_map_or}
 use Rattle.cargo_toml_graph.specs.Action.{Text}
 use Rattle.cargo_toml_graph.specs.Admitted.{Listed, admitted}

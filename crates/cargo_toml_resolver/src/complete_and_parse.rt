@@ -1,6 +1,5 @@
 //! Completing a manifest, and resolving the features that it then has.
-ghost use Rattle.std.specs.Prelude.{◌≡◌, Err, IfErr, IfOk};
-ghost use Rattle.std.specs.Prelude.{IfSome, IsSome, OnOk, option_map};
+ghost use Rattle.std.specs.Prelude.{◌≡◌, Err, IfErr, IfOk, IfSome, IsSome, OnOk, option_map};
 ghost use Rattle.std.specs.Borrow.{sem};
 ghost use Rattle.cargo_toml_parts.specs.declared.error.Error.{Memory};
 ghost use Rattle.cargo_toml_resolve.specs.Filter.{HasNameFilter};

@@ -6,11 +6,12 @@ mod packages;
 mod values;
 mod written;
 
+use crate::row::Shown;
 use cargo_toml::Error;
 use std::alloc::Global;
 
 /// What is answered to the calls of a row: a line for each, `CALL: ANSWER`.
-pub fn lines(alloc: Global, row: &str) -> Result<String, Error> {
+pub fn lines(alloc: Global, row: &str) -> Shown {
     match row {
         "calls/eq-bool-of-lists-and-flags" => values::eq_bool(alloc),
         "calls/inherited-equals-nothing" => values::equality(alloc),
@@ -24,12 +25,6 @@ pub fn lines(alloc: Global, row: &str) -> Result<String, Error> {
         "calls/rev-is-not-crates-io" => dependencies::rev_is_not_crates_io(alloc),
         "calls/simple-becomes-detailed" => dependencies::simple_becomes_detailed(alloc),
         "calls/try-req-without-version" => dependencies::try_req_without_version(alloc),
-        _ => other_lines(alloc, row),
-    }
-}
-
-fn other_lines(alloc: Global, row: &str) -> Result<String, Error> {
-    match row {
         "calls/display-without-path" => faults::without_path(alloc),
         "calls/display-nested" => faults::nested(alloc),
         "calls/display-before-inner-words" => faults::before_inner_words(alloc),

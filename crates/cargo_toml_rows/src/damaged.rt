@@ -1,11 +1,12 @@
 //! What comes of a manifest that is cut off, or has a byte that no text has.
+use crate::row::Shown;
 use cargo_toml::Error;
 use cargo_toml_held::HeldManifest;
 use std::alloc::Global;
 
 /// That each beginning of the manifest, of every length from 0, is read or answers `Parse`, or else
 /// what is answered to one.
-pub fn beginnings(alloc: Global, bytes: &[u8]) -> Result<String, Error> {
+pub fn beginnings(alloc: Global, bytes: &[u8]) -> Shown {
     for len in 0..=bytes.len() {
         match HeldManifest::from_slice(alloc, &bytes[..len]) {
             Ok(_) | Err(Error::Parse(_)) => {}
@@ -19,13 +20,11 @@ pub fn beginnings(alloc: Global, bytes: &[u8]) -> Result<String, Error> {
 }
 
 /// That the manifest with any one byte replaced by FF is no text, or else what is answered.
-pub fn replaced(alloc: Global, bytes: &[u8]) -> Result<String, Error> {
+pub fn replaced(alloc: Global, bytes: &[u8]) -> Shown {
     for at in 0..bytes.len() {
-        let (front, back) = bytes.split_at(at);
-        let mut changed = front.to_vec(alloc)?;
-        changed.push(0xFF)?;
-        if let Some((_, back)) = back.split_first() {
-            changed.extend_from_slice(back)?;
+        let mut changed = bytes.to_vec(alloc)?;
+        if let Some(byte) = changed.get_mut(at) {
+            *byte = 0xFF;
         }
         match HeldManifest::from_slice(alloc, changed.as_slice()) {
             Err(Error::Other("utf8")) => {}

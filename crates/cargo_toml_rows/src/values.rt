@@ -1,5 +1,6 @@
 //! What values read as, and how these are written.
-use crate::paths;
+use crate::manifests::same;
+use crate::row::Shown;
 use cargo_toml::{
     Badge, Badges, DebugSetting, Dependency, DependencyDetail, Edition, Error, FromValue,
     Inheritable, InheritedDependencyDetail, Lint, LintGroups, LintLevel, LtoSetting, Maintenance,
@@ -10,29 +11,9 @@ use cargo_toml::{
 use std::alloc::Global;
 use std::fmt::Debug;
 
-/// The lines again, each with what its value reads as: VALUE, what it reads as and how that is
-/// written, or why it is refused, with ` -> ` between them.
-pub fn lines(alloc: Global, row: &str, expected: &str) -> Result<String, Error> {
-    let mut lines = String::new(alloc);
-    for line in expected.split_terminator('\n') {
-        let value = match line.split_once(" -> ") {
-            Some((value, _)) => value,
-            None => line,
-        };
-        let answer = answer(alloc, row, value)?;
-        lines.push_str(value)?;
-        lines.push_str(" -> ")?;
-        lines.push_str(answer.as_str())?;
-        lines.push_str("\n")?;
-    }
-    Ok(lines)
-}
-
-fn answer(alloc: Global, row: &str, value: &str) -> Result<String, Error> {
+/// What a value reads as and how that is written, or why it is refused, with ` -> ` between them.
+pub fn answer(alloc: Global, row: &str, value: &str) -> Shown {
     let value = Value::from_str(alloc, value)?;
-    if let Some(row) = row.strip_prefix("paths/") {
-        return paths::answer(alloc, row, &value);
-    }
     match row {
         "values/debug" => setting_answer::<DebugSetting>(alloc, &value),
         "values/strip" => setting_answer::<StripSetting>(alloc, &value),
@@ -43,61 +24,38 @@ fn answer(alloc: Global, row: &str, value: &str) -> Result<String, Error> {
         "values/publish" => answer_of::<Publish>(alloc, &value),
         "values/lint-level" => answer_of::<LintLevel>(alloc, &value),
         "values/maintenance-status" => answer_of::<MaintenanceStatus>(alloc, &value),
-        _ => table_answer(alloc, row, &value),
-    }
-}
-
-fn table_answer(alloc: Global, row: &str, value: &Value) -> Result<String, Error> {
-    match row {
-        "values/lint" => answer_of::<Lint>(alloc, value),
-        "values/lint-groups" => answer_of::<LintGroups>(alloc, value),
-        "values/badge" => answer_of::<Badge>(alloc, value),
-        "values/badges" => answer_of::<Badges>(alloc, value),
-        "values/maintenance" => answer_of::<Maintenance>(alloc, value),
-        "values/product" => answer_of::<Product>(alloc, value),
-        "values/profile" => answer_of::<Profile>(alloc, value),
-        "values/profiles" => answer_of::<Profiles>(alloc, value),
-        _ => package_answer(alloc, row, value),
-    }
-}
-
-fn package_answer(alloc: Global, row: &str, value: &Value) -> Result<String, Error> {
-    match row {
-        "values/inheritable-version" => answer_of::<Inheritable<SemVer>>(alloc, value),
-        "values/inheritable-text" => answer_of::<Inheritable<String>>(alloc, value),
-        "values/inheritable-edition" => answer_of::<Inheritable<Edition>>(alloc, value),
-        "values/template" => answer_of::<PackageTemplate>(alloc, value),
-        "values/package" => answer_of::<Package>(alloc, value),
-        "values/workspace" => answer_of::<Workspace>(alloc, value),
-        "values/manifest" => answer_of::<Manifest>(alloc, value),
-        _ => dependency_answer(alloc, row, value),
-    }
-}
-
-fn dependency_answer(alloc: Global, row: &str, value: &Value) -> Result<String, Error> {
-    match row {
-        "values/dependency" => answer_of::<Dependency>(alloc, value),
-        "values/dependency-detail" => answer_of::<DependencyDetail>(alloc, value),
-        "values/inherited-detail" => answer_of::<InheritedDependencyDetail>(alloc, value),
-        "values/target" => answer_of::<Target>(alloc, value),
-        "values/targets" => answer_of::<TargetDepsSet>(alloc, value),
-        "values/patches" => answer_of::<PatchSet>(alloc, value),
-        "values/requirement" => answer_of::<VersionReq>(alloc, value),
-        "values/value" => answer_of::<Value>(alloc, value),
+        "values/lint" => answer_of::<Lint>(alloc, &value),
+        "values/lint-groups" => answer_of::<LintGroups>(alloc, &value),
+        "values/badge" => answer_of::<Badge>(alloc, &value),
+        "values/badges" => answer_of::<Badges>(alloc, &value),
+        "values/maintenance" => answer_of::<Maintenance>(alloc, &value),
+        "values/product" => answer_of::<Product>(alloc, &value),
+        "values/profile" => answer_of::<Profile>(alloc, &value),
+        "values/profiles" => answer_of::<Profiles>(alloc, &value),
+        "values/inheritable-version" => answer_of::<Inheritable<SemVer>>(alloc, &value),
+        "values/inheritable-text" => answer_of::<Inheritable<String>>(alloc, &value),
+        "values/inheritable-edition" => answer_of::<Inheritable<Edition>>(alloc, &value),
+        "values/template" => answer_of::<PackageTemplate>(alloc, &value),
+        "values/package" => answer_of::<Package>(alloc, &value),
+        "values/workspace" => answer_of::<Workspace>(alloc, &value),
+        "values/manifest" => answer_of::<Manifest>(alloc, &value),
+        "values/dependency" => answer_of::<Dependency>(alloc, &value),
+        "values/dependency-detail" => answer_of::<DependencyDetail>(alloc, &value),
+        "values/inherited-detail" => answer_of::<InheritedDependencyDetail>(alloc, &value),
+        "values/target" => answer_of::<Target>(alloc, &value),
+        "values/targets" => answer_of::<TargetDepsSet>(alloc, &value),
+        "values/patches" => answer_of::<PatchSet>(alloc, &value),
+        "values/requirement" => answer_of::<VersionReq>(alloc, &value),
+        "values/value" => answer_of::<Value>(alloc, &value),
         _ => Err(Error::Other("no such type")),
     }
 }
 
 /// What a value reads as, and how that is written; or the words of a fault of shape.
-fn answer_of<T: FromValue + ToValue + Clone + Debug + Drop>(
-    alloc: Global,
-    value: &Value,
-) -> Result<String, Error> {
+fn answer_of<T: FromValue + ToValue + Clone + Debug + Drop>(alloc: Global, value: &Value) -> Shown {
     match T::from_value(alloc, value.clone()?) {
         Ok(read) => written(alloc, &*Box::new(alloc, read)?),
-        Err(Error::Parse(ParseFault::Shape(words))) => {
-            Ok(format!(in alloc; "refused: {words}")?)
-        }
+        Err(Error::Parse(ParseFault::Shape(words))) => Ok(format!(in alloc; "refused: {words}")?),
         Err(fault) => Err(fault),
     }
 }
@@ -106,25 +64,19 @@ fn answer_of<T: FromValue + ToValue + Clone + Debug + Drop>(
 fn setting_answer<T: FromValue + ToValue + TryFrom<Value, Error = Error> + Clone + Debug + Drop>(
     alloc: Global,
     value: &Value,
-) -> Result<String, Error> {
+) -> Shown {
     let read = answer_of::<T>(alloc, value)?;
     let tried = match T::try_from(value.clone()?) {
         Ok(setting) => written(alloc, &setting)?,
         Err(Error::Other(words)) => format!(in alloc; "refused: {words}")?,
         Err(fault) => return Err(fault),
     };
-    if tried == read {
-        return Ok(read);
-    }
-    Ok(format!(in alloc; "{read}, and tried {tried}")?)
+    same(alloc, read, tried.as_str(), "tried")
 }
 
 /// The text of what was read, and how it is written. A copy has to have the same text. What is
 /// written has to read as the same.
-fn written<T: FromValue + ToValue + Clone + Debug + Drop>(
-    alloc: Global,
-    value: &T,
-) -> Result<String, Error> {
+fn written<T: FromValue + ToValue + Clone + Debug + Drop>(alloc: Global, value: &T) -> Shown {
     let tree = value.to_value(alloc)?;
     let text = format!(in alloc; "{value:?} -> {tree}")?;
     let copy = Box::new(alloc, value.clone()?)?;
@@ -132,9 +84,6 @@ fn written<T: FromValue + ToValue + Clone + Debug + Drop>(
         return Ok(format!(in alloc; "{text}, and copied {copy:?}")?);
     }
     let again = Box::new(alloc, T::from_value(alloc, tree)?)?;
-    let text_again = format!(in alloc; "{again:?} -> {}", again.to_value(alloc)?)?;
-    if text_again == text {
-        return Ok(text);
-    }
-    Ok(format!(in alloc; "{text}, and read again {text_again}")?)
+    let again = format!(in alloc; "{again:?} -> {}", again.to_value(alloc)?)?;
+    same(alloc, text, again.as_str(), "read again")
 }

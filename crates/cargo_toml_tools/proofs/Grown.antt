@@ -1,5 +1,5 @@
 -- Lists that grow by a piece for each element.
-use Rattle.std.proofs.Common.{◌≡◌, ◌+◌, ◌++◌, ◌∙◌, ◌<◌, ◌&&◌, ◌||◌, ℕ, Bool, false, true, List, [], ◌∷◌, add-one, drop, drop-cons, get_or, length, map, take, refl, sym, ap, append_assoc}
+use Rattle.std.proofs.Common.{arith, ◌≡◌, ◌+◌, ◌++◌, ◌∙◌, ◌<◌, ◌&&◌, ◌||◌, ℕ, Bool, false, true, List, [], ◌∷◌, add-one, drop, drop-cons, get_or, length, map, take, refl, sym, ap, append_assoc}
 use Rattle.std.proofs.lemmas.List.{append-nil, map-append, take_more}
 use Rattle.std.proofs.lemmas.List.Concat.{flat_map-append}
 use Rattle.std.specs.List.{flat_map, list_all, list_any}
@@ -19,9 +19,7 @@ flat_flat f g (x ∷ xs) = flat_map-append f (g x) (flat_map g xs) ∙ ap (λ t.
 
 -- three elements, one behind the other
 pub three_more : {A : Type 0} (a b c d : List A) (x y z : A) → b ≡ a ++ x ∷ [] → c ≡ b ++ y ∷ [] → d ≡ c ++ z ∷ [] → d ≡ a ++ (x ∷ y ∷ z ∷ [])
-three_more a b c d x y z first second third =
-    third ∙ ap (λ t. t ++ z ∷ []) (second ∙ ap (λ t. t ++ y ∷ []) first)
-    ∙ ap (λ t. t ++ z ∷ []) (append_assoc a (x ∷ []) (y ∷ [])) ∙ append_assoc a (x ∷ y ∷ []) (z ∷ [])
+three_more a b c d x y z first second third = grind (arith, append_assoc)
 
 pub map_twice : {A B C : Type 0} (g : B → C) (f : A → B) (xs : List A) → map g (map f xs) ≡ map (λ x. g (f x)) xs
 map_twice g f [] = refl

@@ -1,5 +1,5 @@
 -- Members that are put into an object one after another.
-use Rattle.std.proofs.Common.{◌≡◌, ◌++◌, ◌∙◌, Bool, true, false, if◌then◌else◌, List, [], ◌∷◌, map, refl, sym, ap}
+use Rattle.std.proofs.Common.{arith, ◌≡◌, ◌++◌, ◌∙◌, Bool, true, false, if◌then◌else◌, List, [], ◌∷◌, map, refl, sym, ap}
 use Rattle.std.proofs.lemmas.List.{map-append}
 use Rattle.std.specs.Prelude.{codes}
 use Rattle.std.specs.List.{list_any}
@@ -17,11 +17,7 @@ with_both (x ∷ xs) ys ms = with_both xs ys (put x.0 x.1 ms)
 -- the members of an entry, in four parts
 pub in_four : (ws xs ys zs : List (Text × Data)) (a b c d e : Members) → b ≡ with_rows ws a → c ≡ with_rows xs b → d ≡ with_rows ys c → e ≡ with_rows zs d
     → e ≡ with_rows (ws ++ (xs ++ (ys ++ zs))) a
-in_four ws xs ys zs a b c d e first second third fourth =
-    fourth ∙ ap (with_rows zs) (third ∙ ap (with_rows ys) (second ∙ ap (with_rows xs) first))
-    ∙ sym (with_both ys zs (with_rows xs (with_rows ws a)))
-    ∙ sym (with_both xs (ys ++ zs) (with_rows ws a))
-    ∙ sym (with_both ws (xs ++ (ys ++ zs)) a)
+in_four ws xs ys zs a b c d e first second third fourth = grind (arith, with_both)
 
 -- one more entry, or none
 pub one_entry : (old new : List Value) (v : Value) (d : Data) (lacks : Bool) → new ≡ old ++ v ∷ [] → view v ≡ d → lacks ≡ false
@@ -41,16 +37,9 @@ put_same key d e a b puts same = puts ∙ ap (λ x. put key x a) same
 -- the features, without those of the second version or with them
 pub first_version : (fs : List (Text × List Text)) (a b : Members) (x : Data) → b ≡ put (codes "features") x a → x ≡ lists_object false fs
     → list_any (λ (f : Text × List Text). is_extended f.1) fs ≡ false → b ≡ with_rows (feature_rows fs) a
-first_version fs a b x puts is none =
-    put_same (codes "features") x (lists_object false fs) a b puts is
-    ∙ ap (λ c. with_rows (if c then (codes "features2", lists_object true fs) ∷ (codes "v", number (unsigned 2)) ∷ [] else []) (put (codes "features") (lists_object false fs) a)) (sym none)
+first_version fs a b x puts is none = grind (arith, put_same)
 
 pub second_version : (fs : List (Text × List Text)) (a b c d : Members) (x y z : Data) → b ≡ put (codes "features") x a → x ≡ lists_object false fs
     → list_any (λ (f : Text × List Text). is_extended f.1) fs ≡ true → c ≡ put (codes "features2") y b → y ≡ lists_object true fs
     → d ≡ put (codes "v") z c → z ≡ number (unsigned 2) → d ≡ with_rows (feature_rows fs) a
-second_version fs a b c d x y z first is some second is_too third two =
-    put_same (codes "v") z (number (unsigned 2)) c d third two
-    ∙ ap (put (codes "v") (number (unsigned 2)))
-    (put_same (codes "features2") y (lists_object true fs) b c second is_too
-    ∙ ap (put (codes "features2") (lists_object true fs)) (put_same (codes "features") x (lists_object false fs) a b first is))
-    ∙ ap (λ o. with_rows (if o then (codes "features2", lists_object true fs) ∷ (codes "v", number (unsigned 2)) ∷ [] else []) (put (codes "features") (lists_object false fs) a)) (sym some)
+second_version fs a b c d x y z first is some second is_too third two = grind (arith, put_same)

@@ -1,5 +1,5 @@
 -- The first refusal, where one element after the other is passed over.
-use Rattle.std.proofs.Common.{◌≡◌, ◌∙◌, true, false, List, [], ◌∷◌, Option, None, Some, is_some, option_map, ap, refl, sym}
+use Rattle.std.proofs.Common.{arith, ◌≡◌, ◌∙◌, true, false, List, [], ◌∷◌, Option, None, Some, is_some, option_map, ap, refl, sym}
 use Rattle.std.specs.Option.{option_or}
 use Rattle.cargo_toml_tools.specs.Indexed.{Refusal, first_refusal}
 
@@ -20,21 +20,11 @@ module _ {A F : Type 0} (refusal : A → Option Refusal) (told : F → Refusal) 
 
   -- the element has none
   pub first_missed : is_some found ≡ false → first_refusal refusal rest ≡ whole
-  first_missed none = go found none by_first ∙ before
-    where
-      go : (o : Option F) → is_some o ≡ false → first_refusal refusal left ≡ option_or (option_map told o) (first_refusal refusal rest)
-          → first_refusal refusal rest ≡ first_refusal refusal left
-      go None h e = sym e
-      go (Some y) h e = cc
+  first_missed none = grind (arith, by_first)
 
   -- or it has the first
   pub first_found : is_some found ≡ true → option_map told found ≡ whole
-  first_found some = go found some by_first ∙ before
-    where
-      go : (o : Option F) → is_some o ≡ true → first_refusal refusal left ≡ option_or (option_map told o) (first_refusal refusal rest)
-          → option_map told o ≡ first_refusal refusal left
-      go None h e = cc
-      go (Some y) h e = sym e
+  first_found some = grind (arith, by_first)
 
 pub first_none : {A : Type 0} (refusal : A → Option Refusal) (left : List A) (whole : Option Refusal) → left ≡ [] → first_refusal refusal left ≡ whole → None ≡ whole
 first_none refusal left whole none before = sym (ap (first_refusal refusal) none) ∙ before

@@ -1,5 +1,5 @@
 -- What completion gives of a manifest that is told, from a workspace that is, is told.
-use Rattle.std.proofs.Common.{◌≡◌, refl, ap, subst, ℕ, List, [], ◌∷◌, Bool, true, false, Option, Some, None, IfSome, option_map, option_and_then, Result, Ok, Err, if◌then◌else◌}
+use Rattle.std.proofs.Common.{arith, ◌≡◌, refl, ap, subst, ℕ, List, [], ◌∷◌, Bool, true, false, Option, Some, None, IfSome, option_map, option_and_then, Result, Ok, Err, if◌then◌else◌}
 use Rattle.std.specs.List.{AllByRecursion}
 use Rattle.std.specs.Str.{bytes_eq}
 use Rattle.std.proofs.lemmas.List.Elements.{All-from_recursion, recursion_from_All}
@@ -79,17 +79,10 @@ lookup_told key None h = tt
 lookup_told key (Some es) h = entry_told key es h
 
 simple_told : (b : Bool) (base : List ℕ) (entry : InheritedMeaning) (r : List Held) → CanBeRead r → Yields Told (if b then Ok (simple r) else Ok (detailed (with_entry base entry (detail_of_requirement r))))
-simple_told true base entry r h = yields_ok {P = Told} (simple r) h
-simple_told false base entry r h =
-    yields_ok {P = Told} (detailed (with_entry base entry (detail_of_requirement r)))
-    (record { version = h; not_inherited = refl; apart = All-from_recursion (λ (m : List ℕ × Data). is_among detail_keys m.0 ≡ false) [] tt }, refl)
+simple_told b base entry r h1 = grind (arith, All-from_recursion, yields_ok)
 
 template_told : (base key : List ℕ) (entry : InheritedMeaning) (o : Option DependencyMeaning) → IfSome o Told → Yields Told (from_template base key entry o)
-template_told base key entry None h = yields_err _
-template_told base key entry (Some (simple r)) h = simple_told (adds_nothing entry) base entry r h
-template_told base key entry (Some (inherited i)) h = yields_err _
-template_told base key entry (Some (detailed d)) (again, none) =
-    yields_ok {P = Told} (detailed (with_entry base entry d)) (record { version = again.version; not_inherited = refl; apart = again.apart }, none)
+template_told base key entry o h1 = grind (arith, simple_told, yields_err, yields_ok)
 
 one_told : (templates : Option Entries) (base key : List ℕ) (d : DependencyMeaning) → IfSome templates AllTold → Told d → Yields Told (inherited_entry templates base key d)
 one_told templates base key (simple r) all h = yields_ok {P = Told} (simple r) h
@@ -132,17 +125,11 @@ abbrev Lints : LintsByTool → Type 0
 Lints = EachValue (EachValue IsApart)
 
 lints_told : (groups : Option LintsByTool) (lints : Inheritable LintsByTool) → IfSome groups Lints → IfSet Lints lints → Yields (IfSet Lints) (inherited_lints groups lints)
-lints_told None (Set ls) all h = yields_ok {P = IfSet Lints} (Set ls) h
-lints_told (Some gs) (Set ls) all h = yields_ok {P = IfSet Lints} (Set ls) h
-lints_told None Inherited all h = yields_err _
-lints_told (Some gs) Inherited all h = yields_ok {P = IfSet Lints} (Set gs) all
+lints_told groups lints h1 h2 = grind (arith, yields_err, yields_ok)
 
 -- packages
 version_told : (v : Inheritable Parts) (given : Option Parts) → VersionAgain v → IfSome given IsVersionAgain → VersionAgain (filled_field v given)
-version_told (Set v) None h all = h
-version_told (Set v) (Some w) h all = h
-version_told Inherited None h all = tt
-version_told Inherited (Some w) h all = all
+version_told v given h1 h2 = grind arith
 
 module _ {M : Type 0} where
   abbrev IsVersioned : PackageMeaning M → Type 0
@@ -176,9 +163,7 @@ module _ {M : Type 0} where
 
   -- what is found in folders are products
   seen_told : {A : Type 0} (path : Option (List ℕ)) (s : Seen A) (f : A → ManifestMeaning M) → ((a : A) → IsTold (f a)) → (n : ManifestMeaning M) → seen_at path (seen_as f s) ≡ gives n → IsTold n
-  seen_told path (seen a) f h n is = let same : f a ≡ n = cc in subst (λ (x : ManifestMeaning M). IsTold x) same (h a)
-  seen_told path (faulty faults) f h n is = absurd cc
-  seen_told path unclear f h n is = absurd cc
+  seen_told path s f h1 n h2 = grind arith
 
   found_told : (path : Option (List ℕ)) (folder : Name → folders.Told) (m : ManifestMeaning M) (o : Option (PackageMeaning M)) → IsTold m → IfSome o IsVersioned
       → (n : ManifestMeaning M) → seen_at path (found_for m o folder) ≡ gives n → IsTold n
@@ -217,16 +202,4 @@ module _ {X M N : Type 0} (f : X → M) (g : X → N) where
   workspace_as (Some w) h = record { metadata = any_metadata (option_map g w.metadata); template = h.template; dependencies = h.dependencies; lints = h.lints }
 
   pub told_as : (m : Manifest X) → IsTold (manifest_meaning f m) → IsTold (manifest_meaning g m)
-  told_as m h = record {
-    «package» = package_as m.«package» h.«package»;
-    workspace = workspace_as m.workspace h.workspace;
-    dependencies = h.dependencies;
-    dev_dependencies = h.dev_dependencies;
-    build_dependencies = h.build_dependencies;
-    target = h.target;
-    replace = h.replace;
-    patch = h.patch;
-    profile = h.profile;
-    lints = h.lints;
-    features = h.features;
-  }
+  told_as m h1 = grind (arith, package_as, workspace_as)

@@ -1,12 +1,8 @@
 pub mod CompletedTold
 pub mod Gathered
 pub mod ReadAgain
-pub mod ReadAgainDependencies
-pub mod ReadAgainManifests
-pub mod ReadAgainTables
-pub mod ReadManifests
+pub mod ReadAgainTypes
 pub mod ReadParts
-pub mod ReadTold
 pub mod Rows
 pub mod Spelled
 pub mod Tables

@@ -1,20 +1,18 @@
--- What the keys of a written table hold, and what they read as; and maps.
-use Prim.Native.String.{String as Words}
-use Rattle.std.proofs.Common.{◌≡◌, ◌∙◌, refl, sym, ap, subst, Bool, true, false, cond, ℕ, List, [], ◌∷◌, codes, nat_cmp, is_eq, Option, Some, None, is_none, option_map, Result, Ok, Err, IfErr, IfSome, IsTrue, inl, inr, if◌then◌else◌, ◌++◌, append-nil, append_assoc, option_and_then, Ordering, Less, Greater}
-use Rattle.std.specs.Bool.{MatchBool}
+-- What stands at the keys of a written table, and what it is read as: key by key, and as lists and maps.
+use Rattle.std.proofs.Common.{◌≡◌, ◌∙◌, ◌&&◌, refl, sym, ap, subst, not, Bool, true, false, ℕ, List, [], ◌∷◌, nat_cmp, is_eq, Option, Some, None, option_map, Result, Ok, Err, IfErr, IfSome, IsTrue, inl, inr, if◌then◌else◌, ◌++◌, append-nil, append_assoc, option_and_then, Ordering, Less, Greater}
 use Rattle.std.specs.Cmp.Lexicographic.{slice_cmp}
 use Rattle.std.specs.Result.{result_ok}
-use Rattle.std.proofs.lemmas.Bool.{false≢true}
-use Rattle.std.proofs.lemmas.Iterator.Adapters.{option_map_id}
+use Rattle.std.specs.Str.{bytes_eq}
+use Rattle.std.proofs.lemmas.Bool.{and_parts, false≢true, not-true}
 use Rattle.std.proofs.lemmas.Map.Text.{is_eq-slice_cmp}
 use Rattle.std.proofs.lemmas.Slice.Eq.{bytes_eq-Decides}
-use Rattle.std.specs.List.{AllByRecursion}
+use Rattle.std.specs.List.{All, AllByRecursion}
 use Rattle.std.specs.List.Sorted.{IsStrictlySortedBy}
 use Rattle.std.specs.Map.{keys_of}
 use Rattle.std.specs.Ordering.{match_ordering, ordering_reverse}
 use Rattle.std.proofs.lemmas.Cmp.{nat_list_cmp_total}
 use Rattle.std.proofs.lemmas.List.Elements.{All-from_recursion, recursion_from_All}
-use Rattle.toml.specs.Data.{Data, Members, get_member, Items, no_items, item, as_str, as_bool, no_members, member}
+use Rattle.toml.specs.Data.{Data, boolean, string, Members, get_member, Items, no_items, item, as_str, as_bool, as_table, no_members, member}
 use Rattle.toml.specs.View.{view}
 use Rattle.toml.specs.declared.value.Value.{Value}
 use Rattle.cargo_toml_parts.specs.declared.error.Error.{Error, Memory}
@@ -22,14 +20,108 @@ use Rattle.cargo_toml_parts.specs.Floats.{has_no_float, without_floats}
 use Rattle.cargo_toml_parts.specs.declared.inheritable.Inheritable.{Inheritable}
 use Rattle.cargo_toml_parts.specs.declared.inheritable.Inheritable.TheVariants.{Set, Inherited}
 use Rattle.cargo_toml_parts.specs.Inherits.{inheritable_of, set_or, workspace_flag}
-use Rattle.cargo_toml_parts.specs.Reads.{array_of, items_reads, list_of, required_of, optional_of, given_of, required_at, optional_at, given_at, is_among, map_of, others_read}
+use Rattle.cargo_toml_parts.specs.Reads.{array_of, items_reads, list_of, required_of, optional_of, given_of, is_among, map_of, others_read}
 use Rattle.cargo_toml_parts.specs.Versions.{Parts, version_of}
 use Rattle.cargo_toml_write.specs.Asked.{IfSet, EachValue}
 use Rattle.cargo_toml_write.specs.Reread.{each_value}
-use Rattle.cargo_toml_write.specs.Ways.{text_way, texts_way, truth_way, free_way, version_way, list_way, AreItems, is_nil, inheritable_way, inherited_tree, is_set_and, unless_missing, Ascend, entry_rows, map_way}
-use Rattle.cargo_toml_write.specs.Writes.{Way, Row, IsHeld, unless, IsLawful, put_some, IsReadAgain, IsWriting, AreWritten, put_member}
+use Rattle.cargo_toml_write.specs.Ways.{text_way, texts_way, truth_way, free_way, version_way, list_way, AreItems, exactly, is_nil, inheritable_way, inherited_tree, is_set_and, unless_missing, Ascend, entry_rows, map_way}
+use Rattle.cargo_toml_write.specs.Writes.{Way, Row, IsHeld, unless, IsLawful, put_some, IsReadAgain, IsWriting, AreWritten, put_member, table_way}
 use Rattle.cargo_toml_write.specs.WrittenPackages.{IsVersionAgain}
 use Rattle.cargo_toml_write.proofs.Tables.{get_put-same, get_put-other, all_named, are_apart, others_rows}
+
+-- a tree of what is there stands at a key, and nothing where nothing is
+pub record StandsAt {X : Type 0} (o : Option Data) (way : Way X) (x : Option X) : Type 0 where
+  pub is : IsHeld way x o
+
+abbrev pub AllHeld : List Row → Members → Type 0
+AllHeld [] ms = Unit {0}
+AllHeld (row ∷ rows) ms = StandsAt (get_member row.key ms) row.way row.value × AllHeld rows ms
+
+-- the keys of rows, and that they differ
+abbrev pub row_keys : List Row → List (List ℕ)
+row_keys [] = []
+row_keys (row ∷ rows) = row.key ∷ row_keys rows
+
+abbrev pub differ : List (List ℕ) → Bool
+differ [] = true
+differ (k ∷ ks) = not (is_among ks k) && differ ks
+
+-- nothing stands at their keys
+abbrev pub AllMissing : List (List ℕ) → Members → Type 0
+AllMissing [] ms = Unit {0}
+AllMissing (k ∷ ks) ms = (get_member k ms ≡ None) × AllMissing ks ms
+
+pub none_there : (ks : List (List ℕ)) → AllMissing ks no_members
+none_there [] = tt
+none_there (k ∷ ks) = (refl, none_there ks)
+
+-- a key that is none of some others is apart from each
+symmetric : (b : Bool) (k l : List ℕ) → bytes_eq k l ≡ b → bytes_eq l k ≡ false → b ≡ false
+symmetric true k l same h = absurd (false≢true (sym h ∙ (bytes_eq-Decides l k).1 (sym ((bytes_eq-Decides k l).0 same))))
+symmetric false k l same h = refl
+
+apart : (k l : List ℕ) → bytes_eq l k ≡ false → is_eq (slice_cmp nat_cmp k l) ≡ false
+apart k l h = is_eq-slice_cmp k l ∙ symmetric (bytes_eq k l) k l refl h
+
+either_false : (b c : Bool) → (if b then true else c) ≡ false → (b ≡ false) × (c ≡ false)
+either_false true c h = absurd cc
+either_false false c h = (refl, h)
+
+put_other : (k l : List ℕ) (d : Option Data) (ms : Members) → is_eq (slice_cmp nat_cmp k l) ≡ false → get_member k (put_some l d ms) ≡ get_member k ms
+put_other k l None ms h = refl
+put_other k l (Some d) ms h = get_put-other k l d ms h
+
+put_same : (k : List ℕ) (d : Option Data) (ms : Members) → get_member k ms ≡ None → get_member k (put_some k d ms) ≡ d
+put_same k None ms h = h
+put_same k (Some d) ms h = get_put-same k d ms
+
+-- which rows leave as it was
+pub untouched : (k : List ℕ) (rows : List Row) (old new : Members) → is_among (row_keys rows) k ≡ false → AreWritten rows old new → get_member k new ≡ get_member k old
+untouched k [] old new other is = ap (get_member k) is
+untouched k (row ∷ rows) old new other (mid, one, rest) =
+    let parts = either_false (bytes_eq row.key k) (is_among (row_keys rows) k) other in
+    untouched k rows mid new parts.1 rest ∙ ap (get_member k) one.3 ∙ put_other k row.key one.0 old (apart k row.key parts.0)
+
+still_missing : (k : List ℕ) (d : Option Data) (ks : List (List ℕ)) (ms : Members) → is_among ks k ≡ false → AllMissing ks ms → AllMissing ks (put_some k d ms)
+still_missing k d [] ms other missing = tt
+still_missing k d (l ∷ ks) ms other missing =
+    let parts = either_false (bytes_eq l k) (is_among ks k) other in
+    (put_other l k d ms (is_eq-slice_cmp l k ∙ parts.0) ∙ missing.0, still_missing k d ks ms parts.1 missing.1)
+
+-- rows of keys that differ, where nothing stood at these
+pub all_held : (rows : List Row) (old new : Members) → differ (row_keys rows) ≡ true → AllMissing (row_keys rows) old → AreWritten rows old new → AllHeld rows new
+all_held [] old new apart missing written = tt
+all_held (row ∷ rows) old new apart missing (mid, one, rest) =
+    let parts = and_parts _ _ apart in
+    let other : is_among (row_keys rows) row.key ≡ false = not-true _ parts.0 in
+    let here : get_member row.key new ≡ one.0 = untouched row.key rows mid new other rest ∙ ap (get_member row.key) one.3 ∙ put_same row.key one.0 old missing.0 in (
+      record { is = subst (IsHeld row.way row.value) (sym here) one.1 },
+      all_held rows mid new parts.1 (subst (AllMissing (row_keys rows)) (sym one.3) (still_missing row.key one.0 (row_keys rows) old other missing.1)) rest,
+    )
+
+pub whole : (rows : List Row) (ms : Members) → differ (row_keys rows) ≡ true → AreWritten rows no_members ms → AllHeld rows ms
+whole rows ms apart written = all_held rows no_members ms apart (none_there (row_keys rows)) written
+
+-- every tree of a value reads as m
+abbrev pub ReadsAs : {X M : Type 0} → Way X → (Data → Option M) → X → M → Type 0
+ReadsAs way reads x m = (d : Data) → way.trees x d → reads d ≡ Some m
+
+-- a value that is such reads as f of it; any value reads as itself
+pub record AgainAs {X M : Type 0} (way : Way X) (reads : Data → Option M) (P : X → Type 0) (f : X → M) : Type 0 where
+  pub each : (x : X) → P x → ReadsAs way reads x (f x)
+
+abbrev pub Any : {X : Type 0} → X → Type 0
+Any x = Unit {0}
+
+abbrev pub Again : {X : Type 0} → Way X → (Data → Option X) → Type 0
+Again {X = X} way reads = AgainAs way reads Any (λ (x : X). x)
+
+pub again : {X : Type 0} {way : Way X} {reads : Data → Option X} → ((x : X) → ReadsAs way reads x x) → Again way reads
+again each = record { each = λ x h. each x }
+
+-- where such a value is left out, a missing key stands for it
+pub record StandsFor {X M : Type 0} (left_out : X → Bool) (P : X → Type 0) (f : X → M) (missing : M) : Type 0 where
+  pub each : (x : X) → P x → left_out x ≡ true → f x ≡ missing
 
 -- what was written holds no float, so the public reader reads it as the reader itself does
 pub floatless_again : {M : Type 0} (reads : Data → Option M) (d : Data) (m : M) → IsTrue (has_no_float d) → reads d ≡ Some m → without_floats reads d ≡ Some m
@@ -37,11 +129,13 @@ floatless_again {M = M} reads d m floatless again =
     let P : Bool → Type 0 = λ b. (if b then reads d else None) ≡ Some m in
     subst P (sym floatless) again
 
--- each tree of a value reads as it: so does the one that was written
-pub reads_again : {X M : Type 0} {way : Way X} → IsLawful way → (x : X) (reads : Data → Option M) (m : M) (r : Result Value Error) → IsWriting way x r
-    → ((d : Data) → way.trees x d → reads d ≡ Some m) → IsReadAgain reads m r
-reads_again law x reads m (Ok v) tree again = floatless_again reads (view v) m ((law.each x).floatless (view v) tree) (again (view v) tree)
-reads_again law x reads m (Err e) fault again = tt
+-- each tree of a value reads as m: so does the one that was written
+pub tree_again : {X M : Type 0} {way : Way X} → IsLawful way → (x : X) (reads : Data → Option M) (m : M) (r : Result Value Error) → IsWriting way x r → ReadsAs way reads x m → IsReadAgain reads m r
+tree_again law x reads m (Ok v) tree again = floatless_again reads (view v) m ((law.each x).floatless (view v) tree) (again (view v) tree)
+tree_again law x reads m (Err e) fault again = tt
+
+pub reads_again : {X M : Type 0} {way : Way X} {reads : Data → Option M} {P : X → Type 0} {f : X → M} → IsLawful way → AgainAs way reads P f → (x : X) (r : Result Value Error) → IsWriting way x r → P x → IsReadAgain reads (f x) r
+reads_again {reads = reads} {f = f} law again x r written h = tree_again law x reads (f x) r written (again.each x h)
 
 -- a value that is as asked is refused with `Memory` alone
 pub alone : {X : Type 0} {way : Way X} → IsLawful way → (x : X) (r : Result Value Error) → IsWriting way x r → way.asks x → IfErr r (λ e. e ≡ Memory)
@@ -49,157 +143,131 @@ alone law x (Ok v) tree asked = tt
 alone law x (Err e) (inl memory) asked = memory
 alone law x (Err e) (inr refused) asked = absurd ((law.each x).never asked e refused.1)
 
--- what a key holds after a row was written
-abbrev pub or_else : Option Data → Option Data → Option Data
-or_else None o = o
-or_else (Some d) o = Some d
+-- a step of a reader, by what stands at its key, and what follows it
+pub step : {A B : Type 0} (o : Option A) (f : A → Option B) (x : A) (r : Option B) → o ≡ Some x → f x ≡ r → option_and_then f o ≡ r
+step o f x r e h = rw e h
 
-put_at : (b : Bool) (k l : List ℕ) (d : Data) (ms : Members) → b ≡ is_eq (slice_cmp nat_cmp k l) → get_member k (put_member l d ms) ≡ cond b (Some d) (get_member k ms)
-put_at true k l d ms h =
-    let same : k ≡ l = (bytes_eq-Decides k l).0 (sym (h ∙ is_eq-slice_cmp k l)) in
-    rw same (get_put-same l d ms)
-put_at false k l d ms h = get_put-other k l d ms (sym h)
+module _ {X M N : Type 0} {way : Way X} {reads : Data → Option M} {P : X → Type 0} {g : X → M} (o : Option Data) (r : Option N) where
+  required_at : (x : X) (o : Option Data) → AgainAs way reads P g → P x → IsHeld way (Some x) o → required_of reads o ≡ Some (g x)
+  required_at x None law h is = absurd is
+  required_at x (Some d) law h is = law.each x h d is
 
-either : (b : Bool) (o : Option Data) → o ≡ cond b o o
-either true o = refl
-either false o = refl
+  given_at : (b : Bool) (x : X) (missing : M) (o : Option Data) → AgainAs way reads P g → P x → (b ≡ true → g x ≡ missing) → IsHeld way (unless b x) o → given_of reads missing o ≡ Some (g x)
+  given_at true x missing o law h left_out is = ap (given_of reads missing) is ∙ ap Some (sym (left_out refl))
+  given_at false x missing None law h left_out is = absurd is
+  given_at false x missing (Some d) law h left_out is = law.each x h d is
 
-put_some_at : (k l : List ℕ) (d : Option Data) (ms : Members)
-    → get_member k (put_some l d ms) ≡ cond (is_eq (slice_cmp nat_cmp k l)) (or_else d (get_member k ms)) (get_member k ms)
-put_some_at k l None ms = either (is_eq (slice_cmp nat_cmp k l)) (get_member k ms)
-put_some_at k l (Some d) ms = put_at (is_eq (slice_cmp nat_cmp k l)) k l d ms refl
+  pub required : (x : X) → StandsAt o way (Some x) → AgainAs way reads P g → P x → required_of reads o ≡ Some (g x)
+  required x held law h = required_at x o law h held.is
 
--- what a key that held `old` holds after the rows: what the rows of that key say, and else what it held
-abbrev pub Got : List ℕ → List Row → Option Data → Option Data → Type 0
-Got k [] old new = new ≡ old
-Got k (r ∷ rs) old new = MatchBool (is_eq (slice_cmp nat_cmp k r.key)) ((o : Option Data) × IsHeld r.way r.value o × Got k rs (or_else o old) new) (Got k rs old new)
+  pub required_read : (x : X) (f : M → Option N) → StandsAt o way (Some x) → AgainAs way reads P g → P x → f (g x) ≡ r → option_and_then f (required_of reads o) ≡ r
+  required_read x f held law h rest = step (required_of reads o) f (g x) r (required_at x o law h held.is) rest
 
-one_got : (b : Bool) (k : List ℕ) (r : Row) (rs : List Row) (o old mid new : Option Data) → IsHeld r.way r.value o → mid ≡ cond b (or_else o old) old → Got k rs mid new
-    → MatchBool b ((o : Option Data) × IsHeld r.way r.value o × Got k rs (or_else o old) new) (Got k rs old new)
-one_got true k r rs o old mid new holds at rest = (o, holds, rw at at rest)
-one_got false k r rs o old mid new holds at rest = rw at at rest
+  pub given : (x : X) (missing : M) → StandsAt o way (unless (way.left_out x) x) → AgainAs way reads P g → P x → StandsFor way.left_out P g missing → given_of reads missing o ≡ Some (g x)
+  given x missing held law h stands = given_at (way.left_out x) x missing o law h (stands.each x h) held.is
 
-pub got : (k : List ℕ) (rows : List Row) (old new : Members) → AreWritten rows old new → Got k rows (get_member k old) (get_member k new)
-got k [] old new is = ap (get_member k) is
-got k (r ∷ rs) old new (mid, row, rest) =
-    one_got (is_eq (slice_cmp nat_cmp k r.key)) k r rs row.0 (get_member k old) (get_member k mid) (get_member k new) row.1
-    (ap (get_member k) row.3 ∙ put_some_at k r.key row.0 old) (got k rs mid new rest)
+  pub given_read : (b : Bool) (x : X) (missing : M) (f : M → Option N) → StandsAt o way (unless b x) → b ≡ way.left_out x → AgainAs way reads P g → P x → StandsFor way.left_out P g missing → f (g x) ≡ r → option_and_then f (given_of reads missing o) ≡ r
+  given_read b x missing f held left law h stands rest = step (given_of reads missing o) f (g x) r (given_at b x missing o law h (λ e. stands.each x h (sym left ∙ e)) held.is) rest
 
--- a key of one row, in a table that held nothing before
-abbrev pub Holds : {X : Type 0} → Way X → Option X → Option Data → Type 0
-Holds way x new = (o : Option Data) × IsHeld way x o × (new ≡ or_else o None)
+  -- what is always written, and may be missing
+  pub always_read : (x : X) (missing : M) (f : M → Option N) → StandsAt o way (Some x) → AgainAs way reads P g → P x → f (g x) ≡ r → option_and_then f (given_of reads missing o) ≡ r
+  always_read x missing f held law h rest = step (given_of reads missing o) f (g x) r (given_at false x missing o law h (λ e. absurd (false≢true e)) held.is) rest
 
-pub holds : {X : Type 0} (way : Way X) (x : Option X) (new : Option Data) → Holds way x new → IsHeld way x new
-holds way x new (None, is, at) = subst (IsHeld way x) (sym at) is
-holds way x new (Some d, is, at) = subst (IsHeld way x) (sym at) is
+module _ {X N : Type 0} {way : Way X} {reads : Data → Option X} {P : X → Type 0} (o : Option Data) (r : Option N) where
+  optional : (x : Option X) (o : Option Data) → AgainAs way reads P (λ (y : X). y) → IfSome x P → IsHeld way x o → optional_of reads o ≡ Some x
+  optional None o law h is = ap (optional_of reads) is
+  optional (Some x) None law h is = absurd is
+  optional (Some x) (Some d) law h is = ap (option_map Some) (law.each x h d is)
 
--- every tree of the value reads as it
-abbrev pub ReadsAs : {X M : Type 0} → Way X → (Data → Option M) → X → M → Type 0
-ReadsAs way reads x m = (d : Data) → way.trees x d → reads d ≡ Some m
+  pub optional_read : (x : Option X) (f : Option X → Option N) → StandsAt o way x → AgainAs way reads P (λ (y : X). y) → IfSome x P → f x ≡ r → option_and_then f (optional_of reads o) ≡ r
+  optional_read x f held law h rest = step (optional_of reads o) f x r (optional x o law h held.is) rest
 
--- such a key that is read: a value that must be there, one that may be missing, one that is left out where it is that of a
--- missing key, and a truth value
-required_read : {X M : Type 0} (way : Way X) (reads : Data → Option M) (x : X) (m : M) (o : Option Data) → ReadsAs way reads x m → IsHeld way (Some x) o → required_of reads o ≡ Some m
-required_read way reads x m None again is = absurd is
-required_read way reads x m (Some d) again is = again d is
+flag : (missing b : Bool) (o : Option Data) → IsHeld truth_way (unless_missing missing b) o → given_of as_bool missing o ≡ Some b
+flag true true o is = ap (given_of as_bool true) is
+flag false false o is = ap (given_of as_bool false) is
+flag true false None is = absurd is
+flag true false (Some d) is = ap as_bool is
+flag false true None is = absurd is
+flag false true (Some d) is = ap as_bool is
 
-pub required_again : {X M : Type 0} (key : Words) (way : Way X) (reads : Data → Option M) (x : X) (m : M) (ms : Members) → ReadsAs way reads x m → Holds way (Some x) (get_member (codes key) ms)
-    → required_at key reads ms ≡ Some m
-required_again key way reads x m ms again h = required_read way reads x m _ again (holds way (Some x) _ h)
+pub flagged : (missing b : Bool) (o : Option Data) → StandsAt o truth_way (unless_missing missing b) → given_of as_bool missing o ≡ Some b
+flagged missing b o held = flag missing b o held.is
 
-optional_read : {X M : Type 0} (way : Way X) (reads : Data → Option M) (meaning : X → M) (x : Option X) (o : Option Data) → ((y : X) → x ≡ Some y → ReadsAs way reads y (meaning y)) → IsHeld way x o
-    → optional_of reads o ≡ Some (option_map meaning x)
-optional_read way reads meaning None o again is = ap (optional_of reads) is
-optional_read way reads meaning (Some x) None again is = absurd is
-optional_read way reads meaning (Some x) (Some d) again is = ap (option_map Some) (again x refl d is)
+pub flag_read : {M : Type 0} (o : Option Data) (r : Option M) (missing b : Bool) (f : Bool → Option M) → StandsAt o truth_way (unless_missing missing b) → f b ≡ r → option_and_then f (given_of as_bool missing o) ≡ r
+flag_read o r missing b f held rest = step (given_of as_bool missing o) f b r (flagged missing b o held) rest
 
-pub optional_again : {X : Type 0} (key : Words) (way : Way X) (reads : Data → Option X) (x : Option X) (ms : Members) → ((y : X) → ReadsAs way reads y y) → Holds way x (get_member (codes key) ms)
-    → optional_at key reads ms ≡ Some x
-optional_again {X = X} key way reads x ms again h =
-    optional_read way reads (λ (y : X). y) x _ (λ y is. again y) (holds way x _ h) ∙ ap Some (option_map_id x)
+-- of any value nothing is asked
+pub if_any : {X : Type 0} (x : Option X) → IfSome x (Any {X = X})
+if_any None = tt
+if_any (Some x) = tt
 
--- the same where the value is such as is read again
-pub optional_such : {X : Type 0} (key : Words) (way : Way X) (reads : Data → Option X) (P : X → Type 0) → ((y : X) → P y → ReadsAs way reads y y) → (x : Option X) (ms : Members) → IfSome x P
-    → Holds way x (get_member (codes key) ms) → optional_at key reads ms ≡ Some x
-optional_such {X = X} key way reads P again x ms such h =
-    optional_read way reads (λ (y : X). y) x _ (λ y is. again y (subst (λ (o : Option X). IfSome o P) is such)) (holds way x _ h) ∙ ap Some (option_map_id x)
+pub set_any : {X : Type 0} (x : Inheritable X) → IfSet (Any {X = X}) x
+set_any (Set x) = tt
+set_any Inherited = tt
 
-pub given_read : {X M : Type 0} (b : Bool) (way : Way X) (reads : Data → Option M) (missing m : M) (x : X) (o : Option Data) → ReadsAs way reads x m → (b ≡ true → m ≡ missing) → IsHeld way (unless b x) o
-    → given_of reads missing o ≡ Some m
-given_read true way reads missing m x o again left_out is = ap (given_of reads missing) is ∙ ap Some (sym (left_out refl))
-given_read false way reads missing m x None again left_out is = absurd is
-given_read false way reads missing m x (Some d) again left_out is = again d is
+pub if_set_any : {X : Type 0} (x : Option (Inheritable X)) → IfSome x (IfSet (Any {X = X}))
+if_set_any None = tt
+if_set_any (Some x) = set_any x
 
-pub given_again : {X M : Type 0} (key : Words) (way : Way X) (reads : Data → Option M) (missing m : M) (x : X) (ms : Members) → ReadsAs way reads x m → (way.left_out x ≡ true → m ≡ missing)
-    → Holds way (unless (way.left_out x) x) (get_member (codes key) ms) → given_at key missing reads ms ≡ Some m
-given_again key way reads missing m x ms again left_out h = given_read (way.left_out x) way reads missing m x _ again left_out (holds way _ _ h)
+pub ruleset read_back = (required_read, optional_read, flag_read, given_read, always_read, if_any, set_any, if_set_any)
 
--- what is always written, and may be missing
-pub required_given : {X M : Type 0} (key : Words) (way : Way X) (reads : Data → Option M) (missing m : M) (x : X) (ms : Members) → ReadsAs way reads x m → Holds way (Some x) (get_member (codes key) ms)
-    → given_at key missing reads ms ≡ Some m
-required_given key way reads missing m x ms again h = given_read false way reads missing m x _ again (λ e. absurd (false≢true e)) (holds way (Some x) _ h)
-
-flag_read : (missing b : Bool) (o : Option Data) → IsHeld truth_way (unless_missing missing b) o → given_of as_bool missing o ≡ Some b
-flag_read true true o is = ap (given_of as_bool true) is
-flag_read false false o is = ap (given_of as_bool false) is
-flag_read true false None is = absurd is
-flag_read true false (Some d) is = ap as_bool is
-flag_read false true None is = absurd is
-flag_read false true (Some d) is = ap as_bool is
-
-pub flag_again : (key : Words) (missing b : Bool) (ms : Members) → Holds truth_way (unless_missing missing b) (get_member (codes key) ms) → given_at key missing as_bool ms ≡ Some b
-flag_again key missing b ms h = flag_read missing b _ (holds truth_way _ _ h)
+-- a table of rows whose keys differ
+pub table_again : {X : Type 0} (rows : X → List Row) (of : Members → Option X) → ((x : X) → differ (row_keys (rows x)) ≡ true)
+    → ((x : X) (ms : Members) → AreWritten (rows x) no_members ms → AllHeld (rows x) ms → of ms ≡ Some x)
+    → (x : X) → ReadsAs (table_way rows) (λ d. option_and_then of (as_table d)) x x
+table_again rows of distinct read x d (ms, is, written) =
+    ap (λ t. option_and_then of (as_table t)) is ∙ read x ms written (whole (rows x) ms (distinct x) written)
 
 -- texts, truth values, free values, versions and lists
-pub text_again : (t : List ℕ) → ReadsAs text_way as_str t t
-text_again t d is = ap as_str is
+pub same_tree : {X : Type 0} (tree : X → Data) (reads : Data → Option X) → ((x : X) → reads (tree x) ≡ Some x) → (x : X) → ReadsAs (exactly tree) reads x x
+same_tree tree reads same x d is = ap reads is ∙ same x
 
-pub truth_again : (b : Bool) → ReadsAs truth_way as_bool b b
-truth_again b d is = ap as_bool is
+pub text_again : Again text_way as_str
+text_again = again (same_tree string as_str (λ t. refl))
 
-pub free_again : (x : Data) → ReadsAs free_way (λ d. Some d) x x
-free_again x d is = ap Some is.1
+pub truth_again : Again truth_way as_bool
+truth_again = again (same_tree boolean as_bool (λ b. refl))
 
-pub version_again : (v : Parts) → IsVersionAgain v → ReadsAs version_way version_of v v
-version_again v h d is = ap version_of is ∙ ap result_ok h
+pub free_again : Again free_way (λ d. Some d)
+free_again = again (λ x d is. ap Some is.1)
 
-items_again : {X : Type 0} (way : Way X) (reads : Data → Option X) → ((x : X) → ReadsAs way reads x x) → (xs : List X) (ds : Items) → AreItems way xs ds → items_reads reads ds ≡ Some xs
-items_again way reads again [] no_items is = refl
-items_again way reads again [] (item d ds) is = absurd is
-items_again way reads again (x ∷ xs) no_items is = absurd is
-items_again way reads again (x ∷ xs) (item d ds) (here, rest) = rw (again x d here, items_again way reads again xs ds rest) refl
+pub version_again : AgainAs version_way version_of IsVersionAgain (λ (v : Parts). v)
+version_again = record { each = λ v h d is. ap version_of is ∙ ap result_ok h }
 
-pub list_again : {X : Type 0} (way : Way X) (reads : Data → Option X) → ((x : X) → ReadsAs way reads x x) → (xs : List X) → ReadsAs (list_way way) (array_of reads) xs xs
-list_again way reads again xs d (ds, is, items) = ap (array_of reads) is ∙ items_again way reads again xs ds items
+items_again : {X : Type 0} (way : Way X) (reads : Data → Option X) → Again way reads → (xs : List X) (ds : Items) → AreItems way xs ds → items_reads reads ds ≡ Some xs
+items_again way reads law [] no_items is = refl
+items_again way reads law [] (item d ds) is = absurd is
+items_again way reads law (x ∷ xs) no_items is = absurd is
+items_again way reads law (x ∷ xs) (item d ds) (here, rest) = rw (law.each x tt d here, items_again way reads law xs ds rest) refl
 
-pub texts_again : (ts : List (List ℕ)) → ReadsAs texts_way list_of ts ts
-texts_again ts d tree = list_again text_way as_str text_again ts d tree
+pub list_again : {X : Type 0} (way : Way X) (reads : Data → Option X) → Again way reads → Again (list_way way) (array_of reads)
+list_again way reads law = again (λ xs d (ds, is, items). ap (array_of reads) is ∙ items_again way reads law xs ds items)
+
+pub texts_again : Again texts_way list_of
+texts_again = list_again text_way as_str text_again
 
 pub nil_left : {X : Type 0} (xs : List X) → is_nil xs ≡ true → xs ≡ []
 nil_left [] h = refl
 nil_left (x ∷ xs) h = absurd cc
 
-pub none_of : {A : Type 0} (o : Option A) → is_none o ≡ true → o ≡ None
-none_of None h = refl
-none_of (Some x) h = absurd cc
+pub nil : {X : Type 0} {P : List X → Type 0} → StandsFor (λ (xs : List X). is_nil xs) P (λ (xs : List X). xs) []
+nil = record { each = λ xs h none. nil_left xs none }
 
 -- what the workspace may give
-pub inheritable_such : {X : Type 0} (way : Way X) (reads : Data → Option X) (P : X → Type 0) → ((x : X) → P x → ReadsAs way reads x x) → reads inherited_tree ≡ None
-    → (x : Inheritable X) → IfSet P x → ReadsAs (inheritable_way way) (inheritable_of reads) x x
-inheritable_such way reads P again none (Set x) h d tree = ap (λ o. set_or o (workspace_flag d)) (again x h d tree)
-inheritable_such way reads P again none Inherited h d is = ap (inheritable_of reads) is ∙ ap (λ o. set_or o (workspace_flag inherited_tree)) none
+set_or_inherited : {X : Type 0} (way : Way X) (reads : Data → Option X) (P : X → Type 0) → AgainAs way reads P (λ (x : X). x) → reads inherited_tree ≡ None → (x : Inheritable X) → IfSet P x → ReadsAs (inheritable_way way) (inheritable_of reads) x x
+set_or_inherited way reads P law none (Set x) h d tree = ap (λ o. set_or o (workspace_flag d)) (law.each x h d tree)
+set_or_inherited way reads P law none Inherited h d is = ap (inheritable_of reads) is ∙ ap (λ o. set_or o (workspace_flag inherited_tree)) none
 
-if_set : {X : Type 0} (x : Inheritable X) → IfSet (λ (y : X). Unit {0}) x
-if_set (Set x) = tt
-if_set Inherited = tt
+pub inheritable_again : {X : Type 0} {way : Way X} {reads : Data → Option X} {P : X → Type 0} → AgainAs way reads P (λ (x : X). x) → reads inherited_tree ≡ None
+    → AgainAs (inheritable_way way) (inheritable_of reads) (IfSet P) (λ (x : Inheritable X). x)
+inheritable_again {way = way} {reads = reads} {P = P} law none = record { each = set_or_inherited way reads P law none }
 
-pub inheritable_again : {X : Type 0} (way : Way X) (reads : Data → Option X) (x : Inheritable X) → ((y : X) → ReadsAs way reads y y) → reads inherited_tree ≡ None
-    → ReadsAs (inheritable_way way) (inheritable_of reads) x x
-inheritable_again {X = X} way reads x again none = inheritable_such way reads (λ (y : X). Unit {0}) (λ y h. again y) none x (if_set x)
+set_left : {X : Type 0} (P : X → Type 0) (test : X → Bool) (missing : X) → StandsFor test P (λ (x : X). x) missing → (x : Inheritable X) → IfSet P x → is_set_and test x ≡ true → x ≡ Set missing
+set_left P test missing stands (Set x) h none = ap Set (stands.each x h none)
+set_left P test missing stands Inherited h none = absurd cc
 
-pub set_again : {X : Type 0} (test : X → Bool) (missing : X) (x : Inheritable X) → ((y : X) → test y ≡ true → y ≡ missing) → is_set_and test x ≡ true → x ≡ Set missing
-set_again test missing (Set x) left_out h = ap Set (left_out x h)
-set_again test missing Inherited left_out h = absurd cc
+pub set_stands : {X : Type 0} {P : X → Type 0} (test : X → Bool) (missing : X) → StandsFor test P (λ (x : X). x) missing → StandsFor (is_set_and test) (IfSet P) (λ (x : Inheritable X). x) (Set missing)
+set_stands {P = P} test missing stands = record { each = set_left P test missing stands }
 
 -- a map is read again, where each value is, since its keys ascend; and so are known keys that are put over its entries
 -- names above a name, and members of which each key is below a name
@@ -302,32 +370,39 @@ module _ {X M : Type 0} (way : Way X) (reads : Data → Option M) (f : X → M) 
       ap (map_of reads) is
       ∙ entries_from [] es [] no_members ms ascend (none_named es) (recursion_from_All (λ (e : List ℕ × X). P e.1) es all) (nothing_below (keys_of es)) refl written
 
--- a named key then holds what the known rows say, where it is in no entry
-passed : (b : Bool) (P Q : Type 0) → b ≡ false → MatchBool b P Q → Q
-passed true P Q h m = cc h
-passed false P Q h m = m
+-- a named key is in no entry
+entries_miss : {X : Type 0} (way : Way X) (names : List (List ℕ)) (k : List ℕ) (es : List (List ℕ × X)) → is_among names k ≡ true → AreOthers names es → is_among (row_keys (entry_rows way es)) k ≡ false
+entries_miss way names k [] named others = refl
+entries_miss way names k (e ∷ es) named others = rw (sym (is_eq-slice_cmp e.0 k) ∙ apart e.0 k (sym (is_eq-slice_cmp k e.0) ∙ are_apart names k e.0 _ refl named others.0), entries_miss way names k es named others.1) refl
 
-past_entries : {X : Type 0} (way : Way X) (names : List (List ℕ)) (k : List ℕ) (es : List (List ℕ × X)) (known : List Row) (old new : Option Data) → is_among names k ≡ true → AreOthers names es
-    → Got k (entry_rows way es ++ known) old new → Got k known old new
-past_entries way names k [] known old new named others h = h
-past_entries way names k (e ∷ es) known old new named others h =
-    past_entries way names k es known old new named others.1
-    (passed (is_eq (slice_cmp nat_cmp k e.0)) _ _ (are_apart names k e.0 _ refl named others.0) h)
+all_missing : {X : Type 0} (way : Way X) (names : List (List ℕ)) (es : List (List ℕ × X)) (known : List Row) (mid : Members) → all_named names known ≡ true → AreOthers names es → AreWritten (entry_rows way es) no_members mid → AllMissing (row_keys known) mid
+all_missing way names es [] mid named others written = tt
+all_missing way names es (row ∷ known) mid named others written =
+    let parts = and_parts _ _ named in
+    (untouched row.key (entry_rows way es) no_members mid (entries_miss way names row.key es parts.0 others) written, all_missing way names es known mid parts.1 others written)
 
-pub at_known : {X : Type 0} (way : Way X) (names : List (List ℕ)) (es : List (List ℕ × X)) (known : List Row) (ms : Members) → AreOthers names es → AreWritten (entry_rows way es ++ known) no_members ms
-    → (k : List ℕ) → is_among names k ≡ true → Got k known None (get_member k ms)
-at_known way names es known ms others written k named =
-    past_entries way names k es known None (get_member k ms) named others (got k (entry_rows way es ++ known) no_members ms written)
+-- entries of other keys than some names, over which known rows of these names are put: what is read of both
+pub collected : {X : Type 0} (way : Way X) (reads : Data → Option X) (names : List (List ℕ)) (es : List (List ℕ × X)) (known : List Row) (ms : Members) → Again way reads → All (λ (e : List ℕ × X). is_among names e.0 ≡ false) es
+    → Ascend (keys_of es) → all_named names known ≡ true → differ (row_keys known) ≡ true → AreWritten (entry_rows way es ++ known) no_members ms → AllHeld known ms × (others_read names reads ms ≡ Some es)
+collected {X = X} way reads names es known ms law apart ascend named distinct written =
+    let others : AreOthers names es = recursion_from_All (λ (e : List ℕ × X). is_among names e.0 ≡ false) es apart in
+    let parts = apart_rows (entry_rows way es) known no_members ms written in (
+      all_held known parts.0 ms distinct (all_missing way names es known parts.0 named others parts.1) parts.2,
+      others_again way reads (λ x. x) (λ (x : X). Unit {0}) law.each names es known ms ascend others (nothing_asked es) named written ∙ ap Some (each_same es),
+    )
 
--- entries, and maps, of which each value is read as itself
-pub others_same : {X : Type 0} (way : Way X) (reads : Data → Option X) → ((x : X) → ReadsAs way reads x x) → (names : List (List ℕ)) (es : List (List ℕ × X)) (known : List Row) (ms : Members)
-    → Ascend (keys_of es) → AreOthers names es → all_named names known ≡ true → AreWritten (entry_rows way es ++ known) no_members ms → others_read names reads ms ≡ Some es
-others_same {X = X} way reads again names es known ms ascend others named written =
-    others_again way reads (λ x. x) (λ (x : X). Unit {0}) (λ x h. again x) names es known ms ascend others (nothing_asked es) named written ∙ ap Some (each_same es)
+-- maps
+pub map_as : {X M : Type 0} {way : Way X} {reads : Data → Option M} {P : X → Type 0} {f : X → M} → AgainAs way reads P f → AgainAs (map_way way) (map_of reads) (EachValue P) (each_value f)
+map_as {way = way} {reads = reads} {P = P} {f = f} law = record { each = map_again way reads f P law.each }
 
-pub map_same : {X : Type 0} (way : Way X) (reads : Data → Option X) (P : X → Type 0) → ((x : X) → P x → ReadsAs way reads x x) → (es : List (List ℕ × X)) → EachValue P es → ReadsAs (map_way way) (map_of reads) es es
-map_same way reads P again es all d tree = map_again way reads (λ x. x) P again es all d tree ∙ ap Some (each_same es)
+pub map_same : {X : Type 0} {way : Way X} {reads : Data → Option X} {P : X → Type 0} → AgainAs way reads P (λ (x : X). x) → AgainAs (map_way way) (map_of reads) (EachValue P) (λ (es : List (List ℕ × X)). es)
+map_same law = record { each = λ es all d tree. (map_as law).each es all d tree ∙ ap Some (each_same es) }
 
-pub each_read : {X : Type 0} (way : Way X) (reads : Data → Option X) → ((x : X) → ReadsAs way reads x x) → (es : List (List ℕ × X)) → ReadsAs (map_way way) (map_of reads) es es
-each_read {X = X} way reads again es d tree =
-    map_same way reads (λ (x : X). Unit {0}) (λ x h. again x) es (All-from_recursion (λ (e : List ℕ × X). Unit {0}) es (nothing_asked es)) d tree
+pub map_any : {X : Type 0} {way : Way X} {reads : Data → Option X} → Again way reads → Again (map_way way) (map_of reads)
+map_any {X = X} law = again (λ es. (map_same law).each es (All-from_recursion (λ (e : List ℕ × X). Unit {0}) es (nothing_asked es)))
+
+pub free_maps : Again (map_way free_way) (map_of (λ d. Some d))
+free_maps = map_any free_again
+
+pub nil_map : {X M : Type 0} {P : List (List ℕ × X) → Type 0} (f : X → M) → StandsFor (λ (es : List (List ℕ × X)). is_nil es) P (each_value f) []
+nil_map f = record { each = λ es h none. ap (each_value f) (nil_left es none) }

@@ -3,7 +3,6 @@ use Rattle.std.proofs.Common.{◌≡◌, ◌<◌, ◌≤◌, ◌^◌, ◌==◌, 
 use Rattle.std.specs.Prelude.{◌⊎◌, if◌then◌else◌}
 use Rattle.std.specs.List.{list_all}
 use Rattle.std.proofs.lemmas.Bool.{cases_Bool, eq-eqb}
-use Rattle.std.proofs.lemmas.Bool.Decides.{nat_tests}
 use Rattle.std.specs.Char.{is_ascii_digit}
 use Rattle.std.specs.Fmt.{decimal}
 use Rattle.std.proofs.lemmas.List.{drop_at, take_at}
@@ -14,7 +13,7 @@ use Rattle.semver.specs.declared.error.Error.{Error}
 use Rattle.semver.specs.declared.error.Position.{Position}
 use Rattle.semver.specs.declared.error.Position.TheVariants as place
 use Rattle.semver.specs.declared.Op.{Op}
-use Rattle.semver.specs.declared.Op.TheVariants.{Greater, GreaterEq, Less, LessEq, Wildcard, Caret}
+use Rattle.semver.specs.declared.Op.TheVariants.{Wildcard, Caret}
 use Rattle.semver.proofs.Grammar.{bind-ok, identifier-ok}
 use Rattle.semver.proofs.Numerals.{numeric-text, ok-value, numeric-of_text, starts_digit}
 use Rattle.semver.proofs.Requirements.{held, req-end, req-more}
@@ -57,10 +56,7 @@ equal-plain one two [] p q = p
 equal-plain one two (b ∷ rest) p q = either-plain (b == 61) (two, rest) (one, b ∷ rest) q p
 
 op-plain : (text : List ℕ) → is_wildcard (op_of text).0 ≡ false
-op-plain [] = refl
-op-plain (a ∷ rest) =
-    either-plain (a == 61) _ _ refl (either-plain (a == 62) _ _ (equal-plain Greater GreaterEq rest refl refl)
-    (either-plain (a == 60) _ _ (equal-plain Less LessEq rest refl refl) (either-plain (a == 126) _ _ refl (either-plain (a == 94) _ _ refl refl))))
+op-plain text = grind (arith, either-plain, equal-plain)
 
 -- a text that does not go on with a dot
 abbrev no_dot : List ℕ → Bool
@@ -83,11 +79,7 @@ minor_of-ok default o text None m h =
     subst (MinorRead o) (ok-value _ _ b.2) (n.1, refl)
 
 minor_part-ok : (default : Bool) (o : Op) (text : List ℕ) (m : Minor) → minor_part default o text ≡ Ok m → MinorRead o m
-minor_part-ok default o [] m h = subst (MinorRead o) (ok-value _ _ h) (inr refl)
-minor_part-ok default o (b ∷ rest) m h = elim (cases_Bool (b == 46)) [
-  | inl dot ↦ minor_of-ok default o rest (wildcard_of rest) m (rw dot at h)
-  | inr other ↦ subst (MinorRead o) (ok-value _ _ (rw other at h)) (inr (rw other refl))
-]
+minor_part-ok default o text m h1 = grind (arith, minor_of-ok, ok-value)
 
 -- what was read of the patch number
 abbrev PatchIs : Op → Bool → List ℕ → Op → Option ℕ → Type 0
@@ -107,17 +99,11 @@ patch_number-ok o false text rest None default p dot h =
     subst (PatchRead o false text) (ok-value _ _ b.2) (n.1, refl, refl, dot)
 
 patch_of-ok : (default : Bool) (o : Op) (wild : Bool) (pos : Position) (text : List ℕ) (p : Patch) → patch_of default o wild pos text ≡ Ok p → PatchRead o wild text p
-patch_of-ok default o wild pos [] p h = subst (PatchRead o wild []) (ok-value _ _ h) tt
-patch_of-ok default o wild pos (b ∷ rest) p h = elim (cases_Bool (b == 46)) [
-  | inl dot ↦ patch_number-ok o wild (b ∷ rest) rest (wildcard_of rest) default p (rw dot refl) (rw dot at h)
-  | inr other ↦ subst (PatchRead o wild (b ∷ rest)) (ok-value _ _ (rw other at h)) tt
-]
+patch_of-ok default o wild pos text p h1 = grind (arith, ok-value, patch_number-ok)
 
 -- what was read of the pre-release. The kit keeps these three to its own proofs.
 good-pre : (p : List ℕ) → good place.Pre p ≡ is_pre_identifier p
-good-pre [] = refl
-good-pre (b ∷ []) = grind (arith, nat_tests)
-good-pre (b ∷ c ∷ rest) = grind (arith, nat_tests)
+good-pre p = grind arith
 
 pub all-same : (f g : List ℕ → Bool) (xs : List (List ℕ)) → ((x : List ℕ) → f x ≡ g x) → list_all f xs ≡ true → list_all g xs ≡ true
 all-same f g [] same h = refl
@@ -153,11 +139,7 @@ pre_part-ok true pos (b ∷ rest) e h = elim (cases_Bool (b == 45)) [
 -- the three of them
 numbers-ok : (o now last : Op) (minor patch : Option ℕ) (wild : Bool) (text pre : List ℕ) → is_wildcard o ≡ false → MinorIs o now minor wild text
     → PatchIs now wild text last patch → PreIs (has patch) pre → AreNumbers last minor patch pre
-numbers-ok o now last None None wild text pre plain m p e = e
-numbers-ok o now last None (Some y) wild text pre plain (inl m) p e = let w = p.2 in absurd cc
-numbers-ok o now last None (Some y) wild text pre plain (inr m) p e = let w = p.3 in absurd cc
-numbers-ok o now last (Some x) None wild text pre plain m p e = (m.0, e)
-numbers-ok o now last (Some x) (Some y) wild text pre plain m p e = (m.0, p.0, e, rw (p.1, m.1) plain)
+numbers-ok o now last minor patch wild text pre h1 h2 h3 h4 = grind arith
 
 -- what is read after the first number, after the minor number and after the patch number
 abbrev pub from_patch : ℕ → Option ℕ → Patch → Result Parsed Error
@@ -220,11 +202,7 @@ from-ok (suc n) text cs h =
     next-ok n (held c.0) next.0 cs (λ t ds g. from-ok n t ds g) (comparator-ok text c.0 (or-ok _ text c.0 c.1)) next.2
 
 wild-ok : (ch : ℕ) (text : List ℕ) (cs : List Held) → wild_req ch text ≡ Ok cs → AreSpelled 32 cs
-wild-ok ch [] cs h = subst (AreSpelled 32) (ok-value _ _ h) (omega arith, tt)
-wild-ok ch (b ∷ rest) cs h = elim (cases_Bool (b == 44)) [
-  | inl comma ↦ cc (rw comma at h)
-  | inr other ↦ cc (rw other at h)
-]
+wild-ok ch text cs h1 = grind (arith, ok-value)
 
 after-ok : (w : Option (ℕ × List ℕ)) (text : List ℕ) (cs : List Held) → req_after w text ≡ Ok cs → AreSpelled 32 cs
 after-ok None text cs h = from-ok 32 text cs h
@@ -266,12 +244,7 @@ digit-strip (b ∷ rest) h =
     rw e refl
 
 digit-wild : (text : List ℕ) → starts_digit text ≡ true → wildcard_of text ≡ None
-digit-wild [] h = refl
-digit-wild (b ∷ rest) h =
-    let e : (b == 42) ≡ false = grind arith in
-    let f : (b == 120) ≡ false = grind arith in
-    let g : (b == 88) ≡ false = grind arith in
-    rw (e, f, g) refl
+digit-wild text h1 = grind arith
 
 -- the operator that is read where this one is written
 abbrev read_op : Op → Op
@@ -279,21 +252,7 @@ read_op Wildcard = Caret
 read_op o = o
 
 digit-op : (o : Op) (text : List ℕ) → starts_digit text ≡ true → op_of (sign_of o ++ text) ≡ (read_op o, text)
-digit-op o [] h = cc h
-digit-op Wildcard (b ∷ rest) h =
-    let e : (b == 61) ≡ false = grind arith in
-    let f : (b == 62) ≡ false = grind arith in
-    let g : (b == 60) ≡ false = grind arith in
-    let i : (b == 126) ≡ false = grind arith in
-    let j : (b == 94) ≡ false = grind arith in
-    rw (e, f, g, i, j) refl
-digit-op Greater (b ∷ rest) h =
-    let e : (b == 61) ≡ false = grind arith in
-    rw e refl
-digit-op Less (b ∷ rest) h =
-    let e : (b == 61) ≡ false = grind arith in
-    rw e refl
-digit-op o (b ∷ rest) h = refl
+digit-op o text h1 = grind arith
 
 -- a pre-release is read whole. The kit keeps this to its own proofs.
 bind-on : {A B : Type 0} (r : Result A Error) (x : A) (f : A → Result B Error) → r ≡ Ok x → (r >>= f) ≡ f x
@@ -348,9 +307,7 @@ pre-again o major minor patch (b ∷ r) (Some text) h =
     (place.Pre, rw read refl)
 
 no-digit : (pre : List ℕ) (next : Option (List ℕ)) → starts_digit (marked 45 pre ++ after next) ≡ false
-no-digit [] None = refl
-no-digit [] (Some text) = refl
-no-digit (b ∷ r) next = refl
+no-digit pre next = grind arith
 
 after-no_digit : (next : Option (List ℕ)) → starts_digit (after next) ≡ false
 after-no_digit None = refl
@@ -456,14 +413,7 @@ is_front [] = false
 is_front (b ∷ rest) = not (b == 32) && not (b == 42 || b == 120 || b == 88)
 
 digit-front : (o : Op) (text : List ℕ) → starts_digit text ≡ true → is_front (sign_of o ++ text) ≡ true
-digit-front o [] h = cc h
-digit-front Wildcard (b ∷ rest) h =
-    let d : (b == 32) ≡ false = grind arith in
-    let e : (b == 42) ≡ false = grind arith in
-    let f : (b == 120) ≡ false = grind arith in
-    let g : (b == 88) ≡ false = grind arith in
-    rw (d, e, f, g) refl
-digit-front o (b ∷ rest) h = refl
+digit-front o text h1 = grind arith
 
 front-strip : (text : List ℕ) → is_front text ≡ true → strip_spaces text ≡ text
 unfolding strip_spaces
@@ -473,10 +423,7 @@ front-strip (b ∷ rest) h =
     rw e refl
 
 front-wild : (text : List ℕ) → is_front text ≡ true → wildcard_of text ≡ None
-front-wild [] h = refl
-front-wild (b ∷ rest) h =
-    let e : (b == 42 || b == 120 || b == 88) ≡ false = grind arith in
-    rw e refl
+front-wild text h1 = grind arith
 
 text-front : (c : Held) (more : List ℕ) → c.1 < 2 ^ 64 → is_front (comparator_text c ++ more) ≡ true
 text-front c more fits =

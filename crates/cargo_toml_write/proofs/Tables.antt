@@ -1,5 +1,5 @@
 -- What an insert into the map of a table does to its members, and which other keys a table has beside those of some names.
-use Rattle.std.proofs.Common.{◌≡◌, true, false, Option, Some, is_eq, sym, ap, ℕ, List, [], ◌∷◌, String, Global, Ordering, Less, Equal, Greater, string_bytes, nat_cmp, refl, ◌∙◌, ◌&&◌, Bool, None, option_map, subst, inl, inr}
+use Rattle.std.proofs.Common.{arith, ◌≡◌, true, false, Option, Some, is_eq, sym, ap, ℕ, List, [], ◌∷◌, String, Global, Ordering, Less, Equal, Greater, string_bytes, nat_cmp, refl, ◌∙◌, ◌&&◌, Bool, None, option_map, subst, inl, inr}
 use Rattle.std.specs.Cmp.Lexicographic.{slice_cmp}
 use Rattle.std.specs.Ordering.{match_ordering, ordering_reverse}
 use Rattle.std.specs.Cmp.{tied_itself}
@@ -19,9 +19,7 @@ use Rattle.cargo_toml_write.specs.Ways.{members_of}
 use Rattle.cargo_toml_write.specs.Writes.{put_member, Row, AreWritten, put_some}
 
 chosen : (o : Ordering) (a b c : List Entry) → members_view (match_ordering o a b c) ≡ match_ordering o (members_view a) (members_view b) (members_view c)
-chosen Less a b c = refl
-chosen Equal a b c = refl
-chosen Greater a b c = refl
+chosen o a b c = grind arith
 
 pub members_view-insert : (es : List Entry) (k : String Global) (v : Value) → members_view (insert_entry string_cmp es k v) ≡ put_member (string_bytes k) (view v) (members_view es)
 members_view-insert [] k v = refl
@@ -32,24 +30,16 @@ same_order k l m e =
     nat_list_cmp_total.antisymm k m ∙ ap ordering_reverse (sym (nat_list_cmp_total.congr l m k e)) ∙ sym (nat_list_cmp_total.antisymm k l)
 
 pub passes : (o : Ordering) (r s : Option Data) → is_eq o ≡ false → match_ordering o r s r ≡ r
-passes Less r s h = refl
-passes Equal r s h = absurd (false≢true (sym h))
-passes Greater r s h = refl
+passes o r s h1 = grind arith
 
 found : (o : Ordering) (r s : Option Data) → is_eq o ≡ true → match_ordering o r s r ≡ s
-found Less r s h = absurd (false≢true h)
-found Equal r s h = refl
-found Greater r s h = absurd (false≢true h)
+found o r s h1 = grind arith
 
 -- what a key holds after another key was written
 other_at : (o : Ordering) (k l m : List ℕ) (d e : Data) (ms : Members) → o ≡ slice_cmp nat_cmp l m → is_eq (slice_cmp nat_cmp k l) ≡ false
     → get_member k (put_member l d ms) ≡ get_member k ms
     → get_member k (match_ordering o (member l d (member m e ms)) (member m d ms) (member m e (put_member l d ms))) ≡ get_member k (member m e ms)
-other_at Less k l m d e ms same ne ih = passes (slice_cmp nat_cmp k l) _ _ ne
-other_at Equal k l m d e ms same ne ih =
-    let at : slice_cmp nat_cmp k m ≡ slice_cmp nat_cmp k l = same_order k l m (sym same) in
-    rw at (passes (slice_cmp nat_cmp k l) _ _ ne ∙ sym (passes (slice_cmp nat_cmp k l) _ _ ne))
-other_at Greater k l m d e ms same ne ih = ap (λ r. match_ordering (slice_cmp nat_cmp k m) r (Some e) r) ih
+other_at o k l m d e ms h1 h2 h3 = grind (arith, passes, same_order)
 
 pub get_put-other : (k l : List ℕ) (d : Data) (ms : Members) → is_eq (slice_cmp nat_cmp k l) ≡ false → get_member k (put_member l d ms) ≡ get_member k ms
 get_put-other k l d no_members ne = passes (slice_cmp nat_cmp k l) _ _ ne

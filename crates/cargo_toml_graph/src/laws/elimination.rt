@@ -8,8 +8,7 @@ ghost use Rattle.cargo_toml_graph.specs.Graph.{IsKept, IsResolved, IsUnremoved, 
 ghost use Rattle.cargo_toml_graph.specs.Kept.{KeepsEnabling, LosesNothing, NoneIsLeft};
 ghost use Rattle.cargo_toml_graph.specs.Reach.{Among, IsOnce};
 ghost use Rattle.cargo_toml_graph.specs.Redirects.{RedirectsTo};
-ghost use Rattle.cargo_toml_graph.specs.Removal.{SameKept, pass_all};
-ghost use Rattle.cargo_toml_graph.specs.Removal.{unremoved, without_all};
+ghost use Rattle.cargo_toml_graph.specs.Removal.{SameKept, pass_all, unremoved, without_all};
 
 /// Every table has a resolution with nothing removed.
 pub fn every_table_is_unremoved_at_first()

@@ -1,4 +1,5 @@
 //! Dependencies: questions, and details that are made of mere requirements.
+use crate::row::Shown;
 use cargo_toml::{Dependency, Error, FromValue, Value};
 use std::alloc::Global;
 
@@ -8,27 +9,27 @@ fn dependency(alloc: Global, value: &str) -> Result<Dependency, Error> {
 }
 
 /// What is answered to who asks for the requirement, and for the detail, of one that is inherited.
-pub fn questions_to_inherited(alloc: Global) -> Result<String, Error> {
+pub fn questions_to_inherited(alloc: Global) -> Shown {
     let mut inherited = dependency(alloc, "{ workspace = true }")?;
     let req = match inherited.try_req() {
-        Ok(_) => format!(in alloc; "answered")?,
+        Ok(_) => String::from_str(alloc, "answered")?,
         Err(fault) => format!(in alloc; "{fault:?}")?,
     };
     let detail = match inherited.try_detail_mut(alloc) {
-        Ok(_) => format!(in alloc; "answered")?,
+        Ok(_) => String::from_str(alloc, "answered")?,
         Err(fault) => format!(in alloc; "{fault:?}")?,
     };
     Ok(format!(in alloc; "try_req(): {req}\ntry_detail_mut(): {detail}\n")?)
 }
 
 /// The requirement of a detail without one.
-pub fn try_req_without_version(alloc: Global) -> Result<String, Error> {
+pub fn try_req_without_version(alloc: Global) -> Shown {
     let detailed = dependency(alloc, "{ path = 'p' }")?;
     Ok(format!(in alloc; "try_req(): {:?}\n", detailed.try_req()?)?)
 }
 
 /// Where a detail comes from that has the key `rev` alone, and one with `git`.
-pub fn rev_is_not_crates_io(alloc: Global) -> Result<String, Error> {
+pub fn rev_is_not_crates_io(alloc: Global) -> Shown {
     let revised = dependency(alloc, "{ rev = '4c59b707' }")?;
     let _ = revised.try_req()?;
     let from_git = dependency(alloc, "{ git = 'g' }")?;
@@ -42,7 +43,7 @@ pub fn rev_is_not_crates_io(alloc: Global) -> Result<String, Error> {
 }
 
 /// What is answered of a detail that says something to each question.
-fn answers(alloc: Global, dependency: &Dependency) -> Result<String, Error> {
+fn answers(alloc: Global, dependency: &Dependency) -> Shown {
     let _ = dependency.try_req()?;
     Ok(format!(in alloc;
         "req() {}, detail() {}, optional() {}, package() {:?}, req_features() {:?}\n",
@@ -55,17 +56,15 @@ fn answers(alloc: Global, dependency: &Dependency) -> Result<String, Error> {
 }
 
 /// The questions to a mere requirement and to a detail.
-pub fn questions(alloc: Global) -> Result<String, Error> {
-    let simple = dependency(alloc, "'1'")?;
-    let simple = answers(alloc, &simple)?;
+pub fn questions(alloc: Global) -> Shown {
+    let simple = answers(alloc, &dependency(alloc, "'1'")?)?;
     let text = "{ package = 'q', features = ['f'], optional = true }";
-    let detailed = dependency(alloc, text)?;
-    let detailed = answers(alloc, &detailed)?;
+    let detailed = answers(alloc, &dependency(alloc, text)?)?;
     Ok(format!(in alloc; "Simple: {simple}Detailed: {detailed}")?)
 }
 
 /// The details that both calls make of a mere requirement.
-pub fn simple_becomes_detailed(alloc: Global) -> Result<String, Error> {
+pub fn simple_becomes_detailed(alloc: Global) -> Shown {
     let mut tried = dependency(alloc, "'1.2'")?;
     let tried = format!(in alloc; "{:?}", tried.try_detail_mut(alloc)?)?;
     let mut known = dependency(alloc, "'1.2'")?;

@@ -1,4 +1,5 @@
 //! What faults and outcomes print.
+use crate::row::Shown;
 use cargo_toml::{Error, Value};
 use cargo_toml_program::Outcome;
 use std::alloc::Global;
@@ -14,13 +15,13 @@ fn wrapped(alloc: Global, fault: Error, path: Option<&str>) -> Result<Error, Err
 }
 
 /// What is printed of a workspace whose path isn't known.
-pub fn without_path(alloc: Global) -> Result<String, Error> {
+pub fn without_path(alloc: Global) -> Shown {
     let fault = wrapped(alloc, Error::InheritedUnknownValue, None)?;
     Ok(format!(in alloc; "{fault}\n")?)
 }
 
 /// What is printed of a workspace within another.
-pub fn nested(alloc: Global) -> Result<String, Error> {
+pub fn nested(alloc: Global) -> Shown {
     let inner = wrapped(alloc, Error::Other("utf8"), Some("/w"))?;
     let fault = wrapped(alloc, inner, None)?;
     Ok(format!(in alloc; "{fault}\n")?)
@@ -28,7 +29,7 @@ pub fn nested(alloc: Global) -> Result<String, Error> {
 
 /// What is printed of the fault at a path, of its copy, and of an outcome, with `WORDS` for what
 /// the fault itself prints.
-fn around(alloc: Global, fault: Error) -> Result<String, Error> {
+fn around(alloc: Global, fault: Error) -> Shown {
     let words = format!(in alloc; "{fault}")?;
     let outer = wrapped(alloc, fault, Some("/w"))?;
     let copy = outer.clone()?;
@@ -38,28 +39,27 @@ fn around(alloc: Global, fault: Error) -> Result<String, Error> {
 }
 
 /// The crate's own words before those of the system, of `toml` and of a workspace.
-pub fn before_inner_words(alloc: Global) -> Result<String, Error> {
-    let absent = Error::from(io::Error::from(io::ErrorKind::NotFound));
-    let mut text = around(alloc, absent)?;
-    match Value::from_str(alloc, "[package") {
-        Ok(_) => text.push_str("read\n")?,
-        Err(fault) => text.push_str(around(alloc, Error::from(fault))?.as_str())?,
-    }
+pub fn before_inner_words(alloc: Global) -> Shown {
+    let absent = around(alloc, Error::from(io::Error::from(io::ErrorKind::NotFound)))?;
+    let unread = match Value::from_str(alloc, "[package") {
+        Ok(_) => String::new(alloc),
+        Err(fault) => around(alloc, Error::from(fault))?,
+    };
     let integrity = Error::WorkspaceIntegrity(String::from_str(alloc, "Not a Workspace.")?);
-    text.push_str(around(alloc, integrity)?.as_str())?;
+    let integrity = around(alloc, integrity)?;
     let denied = Error::from(io::Error::from(io::ErrorKind::PermissionDenied));
     let words = format!(in alloc; "{denied}")?;
     let refused = format!(in alloc; "{}", Outcome::Refused(denied))?;
-    text.push_str(refused.replace(alloc, words.as_str(), "WORDS")?.as_str())?;
-    Ok(text)
+    let refused = refused.replace(alloc, words.as_str(), "WORDS")?;
+    Ok(format!(in alloc; "{absent}{unread}{integrity}{refused}")?)
 }
 
-fn ended(alloc: Global, outcome: Outcome) -> Result<String, Error> {
+fn ended(alloc: Global, outcome: Outcome) -> Shown {
     Ok(format!(in alloc; "{outcome}status {}\n", outcome.status())?)
 }
 
 /// How runs end, and what they write then.
-pub fn outcomes(alloc: Global) -> Result<String, Error> {
+pub fn outcomes(alloc: Global) -> Shown {
     let done = ended(alloc, Outcome::of_command(Ok(())))?;
     let refused = ended(alloc, Outcome::of_command(Err(Error::Memory)))?;
     let no_text = ended(alloc, Outcome::of_command(Err(Error::Other("utf8"))))?;

@@ -1,4 +1,5 @@
 //! Values that may be inherited, publishing, optional files and settings.
+use crate::row::Shown;
 use cargo_toml::{
     DebugSetting, Edition, Error, Inheritable, Lint, LintLevel, OptionalFile, Publish, Resolver,
     ToValue,
@@ -7,7 +8,7 @@ use std::alloc::Global;
 use std::collections::BTreeMap;
 
 /// Publishing, beside a truth value.
-pub fn eq_bool(alloc: Global) -> Result<String, Error> {
+pub fn eq_bool(alloc: Global) -> Shown {
     let mut names = Vec::new(alloc);
     names.push(String::from_str(alloc, "x")?)?;
     let named = Publish::Registry(names).eq_bool(true);
@@ -18,18 +19,14 @@ pub fn eq_bool(alloc: Global) -> Result<String, Error> {
 }
 
 /// A value that is inherited equals none.
-pub fn equality(alloc: Global) -> Result<String, Error> {
-    let left: Inheritable<bool> = Inheritable::Inherited;
-    let right: Inheritable<bool> = Inheritable::Inherited;
+pub fn equality(alloc: Global) -> Shown {
+    let inherited = Inheritable::<bool>::Inherited == Inheritable::Inherited;
     let set = Inheritable::Set(true) == Inheritable::Set(true);
-    Ok(format!(in alloc;
-        "Inherited == Inherited: {}\nSet(true) == Set(true): {set}\n",
-        left == right
-    )?)
+    Ok(format!(in alloc; "Inherited == Inherited: {inherited}\nSet(true) == Set(true): {set}\n")?)
 }
 
 /// A value that is inherited, taken over, and then put in by each way to do so.
-pub fn inheritable(alloc: Global) -> Result<String, Error> {
+pub fn inheritable(alloc: Global) -> Shown {
     let mut edition: Inheritable<Edition> = Inheritable::Inherited;
     let before = edition.is_set();
     edition.inherit(&Edition::E2018)?;
@@ -51,7 +48,7 @@ as_mut(), is_default(): {lent}\nset(E2024), as_ref().is_set(): {told}\nunwrap():
 }
 
 /// Defaults, options, and what is known to be empty.
-pub fn conversions(alloc: Global) -> Result<String, Error> {
+pub fn conversions(alloc: Global) -> Shown {
     let default = Inheritable::<Edition>::default();
     let there = Inheritable::from(Some(7u8));
     let back: Option<u8> = Option::from(there);
@@ -68,23 +65,21 @@ is_empty() of a list, a map, Inherited: {list}, {map}, {unknown}
 }
 
 /// The questions to an optional file.
-pub fn optional_files(alloc: Global) -> Result<String, Error> {
-    let named = OptionalFile::Path(String::from_str(alloc, "R.md")?);
-    let answers = format!(in alloc;
-        "Path(\"R.md\"): {}, {:?}, {}\ndefault(): {}\nFlag(false): {}, {}\n",
-        named.display(),
-        named.as_path(),
-        named.is_some(),
-        OptionalFile::default().display(),
-        OptionalFile::Flag(false).display(),
-        OptionalFile::Flag(false).is_some()
-    );
-    drop(named);
-    Ok(answers?)
+fn questions(alloc: Global, file: &OptionalFile) -> Shown {
+    let (text, path, is_some) = (file.display(), file.as_path(), file.is_some());
+    Ok(format!(in alloc; "{text}, {path:?}, {is_some}")?)
+}
+
+/// These of a path, of what is there where nothing is said, and of none.
+pub fn optional_files(alloc: Global) -> Shown {
+    let path = questions(alloc, &OptionalFile::Path(String::from_str(alloc, "R.md")?))?;
+    let default = questions(alloc, &OptionalFile::default())?;
+    let none = questions(alloc, &OptionalFile::Flag(false))?;
+    Ok(format!(in alloc; "Path(\"R.md\"): {path}\ndefault(): {default}\nFlag(false): {none}\n")?)
 }
 
 /// The tree that a value is written as.
-fn tree<T: ToValue + Drop>(alloc: Global, value: T) -> Result<String, Error> {
+fn tree<T: ToValue + Drop>(alloc: Global, value: T) -> Shown {
     let tree = value.to_value(alloc)?;
     Ok(format!(in alloc; "{tree}")?)
 }
@@ -98,17 +93,15 @@ fn warn(alloc: Global, priority: i8) -> Lint {
 }
 
 /// Small values, written, and what editions need.
-pub fn written_small(alloc: Global) -> Result<String, Error> {
+pub fn written_small(alloc: Global) -> Shown {
     let inherited = tree(alloc, Inheritable::<String>::Inherited)?;
     let set = tree(alloc, Inheritable::Set(String::from_str(alloc, "hello")?))?;
     let empty = Publish::Registry(Vec::new(alloc)).eq_bool(false);
     let lines = tree(alloc, DebugSetting::Lines)?;
     let text = tree(alloc, warn(alloc, 0))?;
     let table = tree(alloc, warn(alloc, -1))?;
-    let (new, old) = (
-        Edition::E2024.min_rust_version_minor(),
-        Edition::E2021.min_rust_version_minor(),
-    );
+    let new = Edition::E2024.min_rust_version_minor();
+    let old = Edition::E2021.min_rust_version_minor();
     Ok(format!(in alloc;
         "Inherited: {inherited}\nSet(\"hello\"): {set}\nRegistry([]).eq_bool(false): {empty}
 E2024 needs: {new}\nE2021 needs: {old}\nLines: {lines}\nwarn, 0: {text}\nwarn, -1: {table}
@@ -117,7 +110,7 @@ E2024 needs: {new}\nE2021 needs: {old}\nLines: {lines}\nwarn, 0: {text}\nwarn, -
 }
 
 /// Editions and resolvers as texts and as numbers.
-pub fn numbers(alloc: Global) -> Result<String, Error> {
+pub fn numbers(alloc: Global) -> Shown {
     Ok(format!(in alloc;
         "E2018: {}\nV3: {}\nE2021 as a number: {}\nV2 as a number: {}\n",
         Edition::E2018,

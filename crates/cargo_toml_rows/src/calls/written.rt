@@ -1,4 +1,5 @@
 //! What is written of values that no text reads as.
+use crate::row::Shown;
 use cargo_toml::{
     Dependency, Error, FeatureDetail, FeatureDetails, Manifest, Profile, Profiles, ToValue, Value,
 };
@@ -29,11 +30,8 @@ fn collect(
 fn hide(alloc: Global, profiles: &mut Profiles, name: &str) -> Result<(), AllocError> {
     let mut other = Profile::default(alloc);
     other.rpath = Some(false);
-    drop(
-        profiles
-            .custom
-            .insert(String::from_str(alloc, name)?, other)?,
-    );
+    let custom = &mut profiles.custom;
+    drop(custom.insert(String::from_str(alloc, name)?, other)?);
     Ok(())
 }
 
@@ -53,7 +51,7 @@ fn change(alloc: Global, manifest: &mut Manifest) -> Result<(), Error> {
 /// What is said of a feature is written where the feature is there, and as a table even where it
 /// says nothing. A key that was collected gives way to the field of its name, and so does a
 /// profile.
-pub fn changed(alloc: Global) -> Result<String, Error> {
+pub fn changed(alloc: Global) -> Shown {
     let text = "features = { f = [] }\nprofile = { dev = {} }\n\
         dependencies = { d = { optional = true }, e = { git = \"g\" } }\n";
     let mut held = HeldManifest::from_str(alloc, text)?;

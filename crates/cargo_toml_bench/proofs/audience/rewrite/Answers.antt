@@ -1,4 +1,4 @@
-use Rattle.std.proofs.Common.{ℕ, List, Result, Ok, Err, inl, inr}
+use Rattle.std.proofs.Common.{arith, ℕ, List, Result, Err, inl, inr}
 use Rattle.std.proofs.lemmas.Result.{IfErr-weaker, IfOk-weaker, err_from_is_err_and}
 use Rattle.std.specs.Prelude.{IfErr, IfOk}
 use Rattle.toml.specs.View.{view}
@@ -14,18 +14,14 @@ use Rattle.cargo_toml_bench.proofs.audience.rewrite.Goals as goal
 
 -- What a writer answers, and why bytes are refused.
 tree_of : {X : Type 0} (way : Way X) (x : X) (answer : Result Value Error) → IsWriting way x answer → IfOk answer (λ v. way.trees x (view v))
-tree_of way x (Ok v) tree = tree
-tree_of way x (Err e) refused = tt
+tree_of way x answer tree = grind arith
 
 fault_of_tree : {X : Type 0} (way : Way X) (x : X) (answer : Result Value Error) → IsWriting way x answer → IfErr answer (λ e. IsWriting way x (Err e))
-fault_of_tree way x (Ok v) tree = tt
-fault_of_tree way x (Err e) refused = refused
+fault_of_tree way x answer tree = grind arith
 
 refuses_bytes : {X : Type 0} (meaning : X → ManifestMeaning Audience) (bytes : List ℕ) (e : Error) →
     IsFromBytes meaning (manifest_reads audience_reads) (ManifestRefuses audience_reads AudienceRefuses) bytes (Err e) → Refuses bytes e
-refuses_bytes meaning bytes e (inl no_text) = inr (inl no_text)
-refuses_bytes meaning bytes e (inr (text, inl memory)) = inl memory
-refuses_bytes meaning bytes e (inr (text, inr (none, refused))) = inr (inr (text, none, refused))
+refuses_bytes meaning bytes e p = grind arith
 
 pub returns-clause-answer : goal.returns-clause-answer
 returns-clause-answer c =

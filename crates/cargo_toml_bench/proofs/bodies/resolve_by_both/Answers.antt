@@ -1,4 +1,4 @@
-use Rattle.std.proofs.Common.{ℕ, Bool, IsTrue}
+use Rattle.std.proofs.Common.{rules, ℕ, Bool, IsTrue}
 use Rattle.cargo_toml.specs.Action.{Text}
 use Rattle.cargo_toml.specs.Admitted.{admitted}
 use Rattle.cargo_toml.specs.Manifests.{ManifestMeaning, manifest_meaning}
@@ -20,8 +20,7 @@ module _ {M : Type 0} (limit : ℕ) (m : ManifestMeaning M) (keep : Text → Boo
       let t = parsed_table limit m in
       let own = own_of (requirements m) in
       record {
-        agree = settled (admitted limit m.features) (parsed_entries limit m)
-            m.feature_details m.feature_details own own keep a b h k;
+        agree = search (rules, settled);
         bins = λ f there. passed_once t (λ r. IsTrue (is_removed t keep r)) own a.bins b.bins
             h.passed_on k.passed_on f ((h.kept.resolved.kept f).0 there);
       }

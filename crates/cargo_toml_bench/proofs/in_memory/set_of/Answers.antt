@@ -1,4 +1,4 @@
-use Rattle.std.proofs.Common.{◌≡◌, ℕ, Bool, true, false, cond, ◌||◌, List, [], ◌∷◌, ◌++◌, map, refl, take, get_or, length, ◌+◌, ◌<◌, ◌∙◌, sym, arith, string_bytes}
+use Rattle.std.proofs.Common.{◌≡◌, ℕ, Bool, true, cond, ◌||◌, List, [], ◌∷◌, ◌++◌, map, take, get_or, length, ◌+◌, ◌<◌, sym, arith, string_bytes}
 use Rattle.std.proofs.Math.Bool.{or-false, or_assoc}
 use Rattle.std.proofs.lemmas.List.{take_more, map_push}
 use Rattle.std.proofs.lemmas.Map.Text.{hash_set_updates_text}
@@ -13,16 +13,12 @@ any-push [] u t = or-false (bytes_eq t u)
 any-push (v ∷ ts) u t = rw (any-push ts u t) (sym (or_assoc (bytes_eq t v) (list_any (bytes_eq t) ts) (bytes_eq t u)))
 
 or-cond : (a b : Bool) → cond b true a ≡ a || b
-or-cond true true = refl
-or-cond true false = refl
-or-cond false true = refl
-or-cond false false = refl
+or-cond a b = grind arith
 
 -- one more text in the set, and in the list
 has_more : {X : Type 0} (f : X → List ℕ) (xs : List X) (i : ℕ) (x : X) (bs t : List ℕ) → i < length xs → x ≡ get_or xs i x → bs ≡ f x →
     (had now : Bool) → had ≡ list_any (bytes_eq t) (map f (take i xs)) → now ≡ cond (bytes_eq bs t) true had → now ≡ list_any (bytes_eq t) (map f (take (i + 1) xs))
-has_more f xs i x bs t below read same had now h e =
-    rw (take_more xs i x below, ← read, map_push f (take i xs) x, any-push (map f (take i xs)) (f x) t, ← h, ← same, bytes_eq_sym t bs) (e ∙ or-cond had (bytes_eq bs t))
+has_more f xs i x bs t below read same had now h e = grind (arith, take_more xs i x below, map_push f (take i xs) x, any-push (map f (take i xs)) (f x) t, bytes_eq_sym t bs, or-cond had (bytes_eq bs t))
 
 pub loop-name-preserved : goal.loop-name-preserved
 loop-name-preserved c = λ t.

@@ -1,4 +1,4 @@
-use Rattle.std.proofs.Common.{◌≡◌, ℕ, false, Option, Some, None, Result, Ok, IsSome, IfSome, Bor, sym, subst, ◌||◌, List, [], ◌∷◌, map, bytes_eq, is_some, refl, ap, inl, inr, ◌∙◌}
+use Rattle.std.proofs.Common.{arith, ◌≡◌, ℕ, false, Option, Some, None, Result, Ok, IsSome, IfSome, Bor, sym, subst, ◌||◌, List, [], ◌∷◌, map, bytes_eq, is_some, refl, ap, inl, inr, ◌∙◌}
 use Rattle.std.proofs.lemmas.Bool.{false≢true}
 use Rattle.std.proofs.lemmas.List.{length-map}
 use Rattle.std.proofs.lemmas.Map.Made.{is_some-lookup}
@@ -34,8 +34,7 @@ module _ {M F S H : Type 0} (old new : Manifest M) (outcome : Outcome (ManifestM
 
   told_of : (lent : Option (Bor (Manifest M))) (a : Features S H) → IsLeft old lent new → IsSome (with_lent lent (Some (Ok a)))
       → Told (with_lent lent (Some (Ok a))) → IsParsedBy limit (held new) g filter (answer_of a)
-  told_of None a left there told = absurd (false≢true there)
-  told_of (Some lent) a left there told = subst (λ m. IsParsedBy limit (held m) g filter (answer_of a)) (sym left) told.features.parsed
+  told_of lent a left there told = grind arith
 
   parsed_of_left : filter ≡ None → limit ≡ MAX_ITEMS → (lent : Option (Bor (Manifest M))) (slot : Option (Result (Features S H) Error)) (a : Features S H)
       → IsLeft old lent new → slot ≡ Some (Ok a) → IsSome (with_lent lent slot) → Told (with_lent lent slot)
@@ -73,15 +72,7 @@ module _ {S : Type 0} (m : HashMap (Bor Text) Feature S) where
 module _ {S M : Type 0} (m : ManifestMeaning M) (features : HashMap (Bor Text) Feature S)
     (resolved : IsResolved (parsed_table MAX_ITEMS m) (IsHidden (parsed_table MAX_ITEMS m)) (resolution_of features)) where
   counted : (count : ℕ) → count ≡ hash_map_len features → IsUnique (λ x y. bytes_eq x.now y.now) features → IsFeatureCount m count
-  counted count long unique = record {
-    names = texts_now (keys features);
-    once = key_once features unique;
-    exact = λ f. (
-      λ i. (resolved.kept f).0 (sym (key_listed features f) ∙ among-true (texts_now (keys features)) f i),
-      λ k. is_among-true (texts_now (keys features)) f (key_listed features f ∙ (resolved.kept f).1 k),
-    );
-    counted = long ∙ sym (length-map (keys features) _ ∙ length-map features.entries _);
-  }
+  counted count long unique = grind (arith, key_once, key_listed, among-true, is_among-true, length-map)
 
 pub returns-in-Some-Ok-clause-counted : goal.returns-in-Some-Ok-clause-counted
 returns-in-Some-Ok-clause-counted g c =

@@ -1,19 +1,17 @@
-use Rattle.std.proofs.Common.{◌≡◌, ◌↔◌, Bool, false, Bor, IsTrue, Some, None, is_some, sym, ap, subst, ◌∙◌, true}
-use Rattle.std.proofs.lemmas.Bool.{false≢true}
+use Rattle.std.proofs.Common.{arith, ◌≡◌, ◌↔◌, Bool, false, Bor, IsTrue, Some, None, is_some, sym, ap, ◌∙◌, true}
 use Rattle.std.specs.HashMap.{HashMap}
 use Rattle.std.specs.Option.{option_copied}
 use Rattle.cargo_toml.specs.Action.{Text}
 use Rattle.cargo_toml.specs.Feature.{Feature}
 use Rattle.cargo_toml.specs.Graph.{Table, IsResolved}
 use Rattle.cargo_toml.specs.Reached.{AreEnabled, Found, IsKeyed}
-use Rattle.cargo_toml.specs.Recursive.{Enables}
-use Rattle.cargo_toml.specs.Views.{resolution_of, table_in, value_at}
+use Rattle.cargo_toml.specs.Views.{resolution_of, value_at}
 use Rattle.cargo_toml.specs.Limits.{MAX_ITEMS}
 use Rattle.cargo_toml.specs.Manifests.{manifest_meaning}
 use Rattle.cargo_toml.specs.Parsed.{parsed_table}
 use Rattle.cargo_toml.specs.Removal.{is_removed}
 use Rattle.cargo_toml_features.proofs.Pending.{key_of}
-use Rattle.cargo_toml_features.proofs.Unremoved.{enables_in, enables_out, held, there}
+use Rattle.cargo_toml_features.proofs.Unremoved.{enables_in, enables_out, held}
 use Rattle.cargo_toml_bench.specs.Pairs.{HasEnabling}
 use Rattle.cargo_toml_bench.proofs.Unreferenced.{nothing_removed}
 use Rattle.cargo_toml_bench.proofs.pairs.enables.Goals as goal
@@ -26,24 +24,11 @@ module _ {S : Type 0} (m : HashMap (Bor Text) Feature S) (t : Table) (Removed : 
   told_in : IsKeyed m → (v : Feature) → value_at m name ≡ Some v → (found : Found S)
       → AreEnabled m v.key.now found → (answer : Bool) → answer ≡ is_some (value_at found other)
       → IsTrue answer ↔ HasEnabling t name other
-  told_in keyed v here found enabled answer told =
-      let key : v.key.now ≡ name = key_of m keyed name v here in
-      let known = there m t Removed none resolved name (ap is_some here) in (
-        λ y. (
-          known,
-          enables_in m t Removed none resolved known
-              (subst (λ f. Enables (table_in m) f other) key ((enabled other).0 (sym told ∙ y))),
-        ),
-        λ h. told ∙ (enabled other).1 (subst (λ f. Enables (table_in m) f other) (sym key)
-            (enables_out m t Removed none resolved h.0 h.1)),
-      )
+  told_in keyed v here found enabled answer told = grind (arith, key_of, enables_in, enables_out)
 
   -- no feature has the name
   missing_in : value_at m name ≡ None → IsTrue false ↔ HasEnabling t name other
-  missing_in missing = (
-    λ y. absurd (false≢true y),
-    λ h. absurd (false≢true (sym (ap is_some missing) ∙ held m t Removed none resolved name h.0)),
-  )
+  missing_in missing = grind (arith, held)
 
 pub returns-in_default-clause-answer : goal.returns-in_default-clause-answer
 returns-in_default-clause-answer g c =

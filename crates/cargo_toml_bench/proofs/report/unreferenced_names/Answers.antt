@@ -3,7 +3,7 @@ use Rattle.std.proofs.lemmas.Map.Iter.{rest_more, rest_all}
 use Rattle.std.specs.Map.Iter.{deref_pair}
 use Rattle.cargo_toml_features.proofs.TextKeys.{inserted}
 use Rattle.cargo_toml_bench.specs.Alone.{is_alone}
-use Rattle.cargo_toml_bench.proofs.Gathering.{alone_from, gathered, all_gathered}
+use Rattle.cargo_toml_bench.proofs.Unreferenced.{alone_from, gathered, all_gathered}
 use Rattle.cargo_toml_bench.proofs.report.unreferenced_names.Goals as goal
 
 pub loop-name-preserved-then-ne : goal.loop-name-preserved-then-ne

@@ -1,4 +1,4 @@
-use Rattle.std.proofs.Common.{◌≡◌, ◌∙◌, refl, ap, false, Option, Some, None, IfSome, option_map, subst, sym, string_bytes}
+use Rattle.std.proofs.Common.{arith, ◌≡◌, ◌∙◌, ap, false, Option, IfSome, option_map, subst, sym, string_bytes}
 use Rattle.std.proofs.lemmas.Result.{IfOk-weaker}
 use Rattle.semver.specs.Identifiers.{parts_of}
 use Rattle.semver.specs.declared.Version.{Version}
@@ -20,40 +20,23 @@ use Rattle.cargo_toml_bench.proofs.versioned.with_version.Goals as goal
 
 -- A manifest with another version of its package: it is still told, and read again as it is.
 package_told : (v : Parts) (x : Option (PackageMeaning Data)) → IsVersionAgain v → IfSome (option_map (λ (p : PackageMeaning Data). record p { version = Set v }) x) (λ p. VersionAgain p.version)
-package_told v None again = tt
-package_told v (Some p) again = again
+package_told v x again = grind arith
 
 told_with : (v : Parts) (m : ManifestMeaning Data) → IsTold m → IsVersionAgain v → IsTold (with_version v m)
-told_with v m h again = record {
-  «package» = package_told v m.«package» again;
-  workspace = h.workspace;
-  dependencies = h.dependencies;
-  dev_dependencies = h.dev_dependencies;
-  build_dependencies = h.build_dependencies;
-  target = h.target;
-  replace = h.replace;
-  patch = h.patch;
-  profile = h.profile;
-  lints = h.lints;
-  features = h.features;
-}
+told_with v m h again = grind (arith, package_told)
 
 -- the rule of version 0.0.0 has nothing to do
 unruled : (v : Parts) (x : Option (PackageMeaning Data)) → is_zero (Set v) ≡ false
     → option_map by_zero_rule (option_map (λ (p : PackageMeaning Data). record p { version = Set v }) x) ≡ option_map (λ (p : PackageMeaning Data). record p { version = Set v }) x
-unruled v None zero = refl
-unruled v (Some p) zero = rw zero refl
+unruled v x p = grind arith
 
 same_with : (v : Parts) (m : ManifestMeaning Data) → reread m ≡ m → is_zero (Set v) ≡ false → reread (with_version v m) ≡ with_version v m
-same_with v m stays zero =
-    ap (λ (x : ManifestMeaning Data). record x { «package» = option_map by_zero_rule (option_map (λ (p : PackageMeaning Data). record p { version = Set v }) m.«package») }) stays
-    ∙ ap (λ (q : Option (PackageMeaning Data)). record m { «package» = q }) (unruled v m.«package» zero)
+same_with v m stays zero = grind (arith, unruled)
 
 -- what the code puts in is what is meant
 package_meant : (v : Version) (x : Option (Package Value)) → option_map (package_meaning view) (option_map (λ (p : Package Value). record p { version = Set v }) x)
     ≡ option_map (λ (p : PackageMeaning Data). record p { version = Set (parts_of v) }) (option_map (package_meaning view) x)
-package_meant v None = refl
-package_meant v (Some p) = refl
+package_meant v x = grind arith
 
 meant_with : (v : Version) (m : Manifest Value) → manifest_meaning view (record m { «package» = option_map (λ (p : Package Value). record p { version = Set v }) m.«package» })
     ≡ with_version (parts_of v) (manifest_meaning view m)

@@ -1,10 +1,8 @@
 use Rattle.std.proofs.Common.{◌≡◌, map, option_map, codes, None, refl}
-use Rattle.cargo_toml_tables.specs.Settings.{file_meaning}
-use Rattle.cargo_toml_tables.specs.Products.{product_meaning}
-use Rattle.cargo_toml_discovery.specs.Around.{Around}
+use Rattle.cargo_toml_tables.specs.{Settings.file_meaning, Products.product_meaning}
+use Rattle.cargo_toml_discovery.specs.{Around.Around, Answers.answers_of, Answers.around_in}
 use Rattle.cargo_toml_discovery.specs.Discovering.{StatedMeaning, discovered, discovered_meaning, library_around, main_around, listed_products, build_in, readme_in, stated_meaning}
 use Rattle.cargo_toml_discovery.specs.declared.discovery.Discovered as code
-use Rattle.cargo_toml_discovery.specs.Answers.{answers_of, around_in}
 use Rattle.cargo_toml_discovery.proofs.discovery.discover.Goals as goal
 
 joined : (s : StatedMeaning) (a : Around) (d : code.Discovered) →

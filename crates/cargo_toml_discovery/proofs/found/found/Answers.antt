@@ -1,7 +1,6 @@
 use Rattle.std.proofs.Common.{◌≡◌, ◌++◌, map, sym, ap, ◌∙◌, List, [], Option, Some, None, refl, filter, append-nil, option_to_list}
 use Rattle.std.specs.List.{cons_option}
-use Rattle.cargo_toml_discovery.proofs.Ascend.{offers-same, walk-found}
-use Rattle.cargo_toml_discovery.proofs.Walks.{walk-same}
+use Rattle.cargo_toml_discovery.proofs.{Ascend.offers-same, Ascend.walk-found, Walks.walk-same}
 use Rattle.cargo_toml_discovery.specs.Found.{has_path, is_path_of, last_waiting, offers, Offered}
 use Rattle.cargo_toml_discovery.specs.Sorting.{in_order}
 use Rattle.cargo_toml_discovery.specs.Walk.{with_extra, walk, walked, waiting_in, is_path_in, named_of}

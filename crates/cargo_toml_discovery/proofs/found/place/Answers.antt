@@ -1,13 +1,10 @@
 use Rattle.std.proofs.Common.{◌≡◌, ◌++◌, List, map, sym, ap, ◌∙◌, string_bytes, None, Option, cond, append_assoc}
-use Rattle.std.specs.Option.{option_map, option_copied}
-use Rattle.std.specs.Str.{bytes_eq}
-use Rattle.std.proofs.lemmas.List.{map_push}
-use Rattle.std.proofs.lemmas.Map.Text.{btree_map_updates_str}
+use Rattle.std.specs.{Option.option_map, Option.option_copied, Str.bytes_eq}
+use Rattle.std.proofs.lemmas.{List.map_push, Map.Text.btree_map_updates_str}
 use denote.Ref.{Bor}
 use Rattle.cargo_toml_tables.specs.declared.product.Product as code
 use Rattle.cargo_toml_discovery.proofs.Walks.{walk-step, seen_twice, removed}
-use Rattle.cargo_toml_discovery.specs.Names.{Name}
-use Rattle.cargo_toml_discovery.specs.Walk.{waiting_in}
+use Rattle.cargo_toml_discovery.specs.{Names.Name, Walk.waiting_in}
 use Rattle.cargo_toml_tables.specs.Products.{product_meaning, ProductMeaning}
 use Rattle.cargo_toml_discovery.proofs.found.place.Goals as goal
 

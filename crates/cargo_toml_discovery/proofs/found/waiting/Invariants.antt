@@ -1,7 +1,5 @@
 use Rattle.std.proofs.Common.{◌≡◌, map, take}
-use Rattle.cargo_toml_discovery.specs.Found.{last_waiting}
-use Rattle.cargo_toml_discovery.specs.Names.{Name}
-use Rattle.cargo_toml_discovery.specs.Walk.{waiting_in}
+use Rattle.cargo_toml_discovery.specs.{Found.last_waiting, Names.Name, Walk.waiting_in}
 use Rattle.cargo_toml_tables.specs.Products.{product_meaning}
 use Rattle.cargo_toml_discovery.proofs.found.waiting.Given as goal
 

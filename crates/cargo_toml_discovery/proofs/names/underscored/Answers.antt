@@ -1,13 +1,8 @@
 use Rattle.std.proofs.Common.{◌≡◌, ℕ, Bool, cond, zero, suc, List, [], ◌∷◌, ◌++◌, refl, ap, ◌∙◌, sym, subst, length, get_or, ◌<◌, take, drop, Option, Some, None, inl, inr, arith, take-append-drop, nat_eq}
-use Rattle.std.proofs.lemmas.List.{map-append}
-use Rattle.std.specs.Str.{NoCharPasses}
-use Rattle.std.specs.Str.Replace.{ReplacesMatches}
-use Rattle.std.specs.Str.Iter.{IsCharPattern}
-use Rattle.std.specs.Str.Pattern.{HasCharAt, FindsChar}
-use Rattle.std.proofs.lemmas.Str.Pattern.{NoCharPasses-char, drop_at_char}
-use Rattle.std.proofs.lemmas.Str.{len_utf8_ascii}
-use Rattle.std.proofs.lemmas.Bool.{ne_eqb}
-use Rattle.std.proofs.lemmas.Result.{IfOk-weaker}
+use Rattle.std.{proofs.lemmas.List.map-append, specs.Str.NoCharPasses, specs.Str.Iter.IsCharPattern}
+use Rattle.std.specs.Str.{Replace.ReplacesMatches, Pattern.HasCharAt, Pattern.FindsChar}
+use Rattle.std.proofs.lemmas.Str.{Pattern.NoCharPasses-char, Pattern.drop_at_char, len_utf8_ascii}
+use Rattle.std.proofs.lemmas.{Bool.ne_eqb, Result.IfOk-weaker}
 use Rattle.cargo_toml_discovery.specs.Names.{Name, underscored}
 use Rattle.cargo_toml_discovery.proofs.names.underscored.Goals as goal
 

@@ -1,5 +1,4 @@
-use Rattle.std.proofs.Common.{map, ap, ◌∙◌, rules}
-use Rattle.std.proofs.lemmas.Result.{on_ok_weaker}
+use Rattle.std.proofs.{Common.map, Common.ap, Common.◌∙◌, Common.rules, lemmas.Result.on_ok_weaker}
 use Rattle.std.proofs.lemmas.List.Sorted.{answers_always}
 use Rattle.cargo_toml_discovery.proofs.Stable.{products_rank, sort_gives, map-sorted_by}
 use Rattle.cargo_toml_discovery.specs.Sorting.{product_lt}

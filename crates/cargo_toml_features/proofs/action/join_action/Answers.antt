@@ -1,7 +1,6 @@
 use Rattle.std.proofs.Common.{ap, arith, unwrap_or, ◌∙◌}
 use Rattle.std.proofs.lemmas.Map.Text.{text_keys}
-use Rattle.cargo_toml_features.specs.ActionText.{action_in}
-use Rattle.cargo_toml_features.proofs.ActionTexts.{joined_at}
+use Rattle.cargo_toml_features.{specs.ActionText.action_in, proofs.ActionTexts.joined_at}
 use Rattle.cargo_toml_features.proofs.action.join_action.Goals as goal
 
 pub returns : goal.returns

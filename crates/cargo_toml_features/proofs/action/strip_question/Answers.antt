@@ -1,6 +1,5 @@
 use Rattle.std.proofs.Common.{◌≡◌, codes, false, nat_eq}
-use Rattle.std.specs.List.{ends_with}
-use Rattle.std.proofs.lemmas.Str.Pattern.{ends_text}
+use Rattle.std.{specs.List.ends_with, proofs.lemmas.Str.Pattern.ends_text}
 use Rattle.cargo_toml_features.proofs.action.strip_question.Goals as goal
 
 pub returns-in-None-clause-found : goal.returns-in-None-clause-found

@@ -1,5 +1,4 @@
-use Rattle.std.proofs.Common.{arith}
-use Rattle.std.proofs.lemmas.Grind.{common_steps}
+use Rattle.std.proofs.{Common.arith, lemmas.Grind.common_steps}
 use Rattle.cargo_toml_features.proofs.FirstEntries.{one_more}
 use Rattle.cargo_toml_features.proofs.entries.add_first.Goals as goal
 

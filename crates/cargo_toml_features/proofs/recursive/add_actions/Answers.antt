@@ -1,5 +1,4 @@
-use Rattle.std.proofs.Common.{rules, ◌≡◌, map}
-use Rattle.std.proofs.lemmas.Map.Iter.{iter_end}
+use Rattle.std.proofs.{Common.rules, Common.◌≡◌, Common.map, lemmas.Map.Iter.iter_end}
 use Rattle.std.specs.Map.Iter.{deref_pair}
 use Rattle.cargo_toml_features.proofs.Pairs.{listed_one, listed_none, pairs_more, still_no_empty, all_listed}
 use Rattle.cargo_toml_features.proofs.recursive.add_actions.Goals as goal

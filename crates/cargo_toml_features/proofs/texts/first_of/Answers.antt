@@ -1,8 +1,7 @@
-use Rattle.std.proofs.Common.{rules, ◌≡◌, ◌<◌, ℕ, List, [], Bor, below_more, get_or, length, map, sym, ◌∙◌, arith}
-use Rattle.std.proofs.lemmas.{Bool.false≢true, List.get_or-map, List.length-map, Slice.Eq.bytes_eq-Decides}
+use Rattle.std.proofs.Common.{rules, ◌≡◌, ◌<◌, ℕ, List, [], Bor, below_more, get_or, length, map, arith}
+use Rattle.std.proofs.lemmas.{List.get_or-map, List.length-map, Slice.Eq.bytes_eq-Decides}
 use Rattle.cargo_toml_graph.specs.Action.{Text}
-use Rattle.cargo_toml_features.specs.Places.{nth_text}
-use Rattle.cargo_toml_features.proofs.Places.{at_among}
+use Rattle.cargo_toml_features.{specs.Places.nth_text, proofs.Places.at_among}
 use Rattle.cargo_toml_features.proofs.texts.first_of.Goals as goal
 
 -- the text at a place, as the loop reads it
@@ -10,17 +9,10 @@ read : (ts : List (Bor Text)) (i : ℕ) → i < length ts → nth_text (map (λ 
 read ts i below = get_or-map (λ (t : Bor Text). t.now) ts i (record { ref_ptr = (0, 0); now = [] }) [] below
 
 pub returns-then-is_same-clause-found : goal.returns-then-is_same-clause-found
-returns-then-is_same-clause-found c =
-    let ts = c.args.texts.now in
-    let below : c.loop-i.i < length ts = search rules in
-    (below, read ts c.loop-i.i below ∙ (bytes_eq-Decides _ _).0 (sym c.is_same.ensures ∙ c.if-is_same.true))
+returns-then-is_same-clause-found c = search (rules, read, bytes_eq-Decides)
 
 pub loop-i-preserved : goal.loop-i-preserved
-loop-i-preserved c =
-    let ts = c.args.texts.now in
-    let below : c.loop-i.i < length ts = search rules in
-    below_more (λ k. nth_text (map (λ t. t.now) ts) k ≡ c.args.text.now → ⊥) c.loop-i.i c.loop-i.invariant
-    (λ same. false≢true (sym c.if-is_same.false ∙ c.is_same.ensures ∙ (bytes_eq-Decides _ _).1 (sym (read ts c.loop-i.i below) ∙ same)))
+loop-i-preserved c = search (rules, below_more, bytes_eq-Decides, read)
 
 pub returns-clause-missing : goal.returns-clause-missing
 returns-clause-missing c = λ _ there.

@@ -1,16 +1,13 @@
-use Rattle.std.proofs.Common.{◌≡◌, ◌++◌, ◌∷◌, [], map, take, take_all, sym, subst, ap, arith, rules, refl, ◌∙◌}
+use Rattle.std.proofs.Common.{◌≡◌, ◌++◌, ◌∷◌, [], map, take, take_all, sym, ap, rules, ◌∙◌}
 use Rattle.std.proofs.lemmas.List.{append_assoc, append-nil, nil_from_length}
 use Rattle.cargo_toml_graph.proofs.SortedTexts.{none_ascend}
-use Rattle.cargo_toml_features.specs.InOrder.{AreInOrder, feature_at}
-use Rattle.cargo_toml_full.specs.Implying.{ImpliesAll, is_one_of}
+use Rattle.cargo_toml_features.specs.InOrder.{feature_at}
+use Rattle.cargo_toml_full.specs.Implying.{is_one_of}
 use Rattle.cargo_toml_full.proofs.Implying.{implied_listed, listed_free}
 use Rattle.cargo_toml_full.proofs.imply.merged.Goals as goal
 
 pub loop-feature-init : goal.loop-feature-init
-loop-feature-init c = record {
-  in_order = subst AreInOrder (sym c.in_ok-all.ensures.items) none_ascend;
-  implied = search rules;
-}
+loop-feature-init c = search (rules, none_ascend)
 
 pub loop-feature-preserved : goal.loop-feature-preserved
 loop-feature-preserved c =
@@ -35,11 +32,4 @@ loop-feature-preserved c =
     }
 
 pub returns-clause-implied : goal.returns-clause-implied
-returns-clause-implied c =
-    let done = c.loop-feature.invariant.implied.0 in
-    let none : c.loop-feature.feature-iterator.rest.items ≡ [] = nil_from_length _ (sym c.loop-feature.feature-iterator.rest.ok.0 ∙ c.in-None.ensures.steps.0) in
-    let all : done ≡ c.args.features.items = sym (append-nil done) ∙ ap (λ r. done ++ r) (sym none) ∙ c.loop-feature.invariant.implied.1.0 in
-    let last = c.in_ok-imply_below.ensures in
-    let whole = take_all c.in_ok-imply_below.field-0 c.args.keys.now (let past = last.all refl in omega (arith, past)) in
-    subst (λ vs. ImpliesAll (is_one_of (map (λ k. k.now) c.args.keys.now)) vs c.imply_below-2.new.all.items) all
-    (subst (λ ks. ImpliesAll (is_one_of (map (λ k. k.now) ks)) done c.imply_below-2.new.all.items) whole (last.implied done c.loop-feature.invariant.implied.1.1))
+returns-clause-implied c = search (rules, nil_from_length, append-nil, take_all)

@@ -1,4 +1,4 @@
-use Rattle.std.proofs.Common.{◌||◌, bytes_eq, cond, false, sym, ap, ◌∙◌}
+use Rattle.std.proofs.Common.{◌||◌, bytes_eq, cond, false, sym, ap, ◌∙◌, rules}
 use Rattle.cargo_toml_features.specs.Views.{entry_of}
 use Rattle.cargo_toml_full.specs.Searching.{has_key}
 use Rattle.cargo_toml_full.proofs.{Implying.free_more, Implying.offered_one, ReadOne.has_more}
@@ -11,4 +11,4 @@ returns-clause-noted c = λ q gone.
     ∙ ap (λ b. has_key c.args.keys.now q || b) (sym (offered_one (has_key c.args.acted.now.reserved) (entry_of e) q ∙ ap (λ t. cond t (bytes_eq q e.key.now) false) (sym c.offers.ensures ∙ c.if-not-offers.false)))
 
 pub returns-clause-free : goal.returns-clause-free
-returns-clause-free c = free_more c.args.features.now c.push.new.self c.args.keys.now c.args.entry.now.key c.in_ok-push.ensures.items (sym c.is_there.ensures ∙ c.if-is_there.false)
+returns-clause-free c = search (rules, free_more)

@@ -1,5 +1,4 @@
-use Rattle.std.proofs.Common.{Bor, rules}
-use Rattle.std.proofs.lemmas.Fn.{always_returns_same}
+use Rattle.std.proofs.{Common.Bor, Common.rules, lemmas.Fn.always_returns_same}
 use Rattle.cargo_toml_graph.specs.{Action.Text, Admitted.is_below}
 use Rattle.cargo_toml_full.proofs.Ascending.{ascend_by_adjacent}
 use Rattle.cargo_toml_full.proofs.names.ascends.Goals as goal

@@ -1,10 +1,7 @@
 use Rattle.std.proofs.Common.{bytes_eq, rules, tests, ◌∙◌}
 use Rattle.std.proofs.lemmas.{Iterator.YieldsList-from_slice, Iterator.Search.any_from_yields_List}
-use Rattle.cargo_toml_full.proofs.Placed.{found_any, told_there}
+use Rattle.cargo_toml_full.proofs.Placed.{found_any}
 use Rattle.cargo_toml_full.proofs.ordered.is_there.Goals as goal
-
-pub returns-then-features-gt-FEW : goal.returns-then-features-gt-FEW
-returns-then-features-gt-FEW c = told_there c.args.features.now c.lower_bound.result c.args.name.now c.requires c.lower_bound.ensures c.stands_at.result c.stands_at.ensures.yes c.stands_at.ensures.no
 
 pub returns-else-features-gt-FEW : goal.returns-else-features-gt-FEW
 returns-else-features-gt-FEW c =

@@ -1,19 +1,12 @@
-use Rattle.std.proofs.Common.{is_some, sym, ap}
+use Rattle.std.proofs.Common.{is_some, sym, ap, rules}
 use Rattle.cargo_toml_full.proofs.Placed.{feature_missing, feature_there, place_free}
 use Rattle.cargo_toml_full.proofs.ordered.node_among.Goals as goal
 
 pub returns-then-stands_at-clause-there : goal.returns-then-stands_at-clause-there
-returns-then-stands_at-clause-there c =
-    let here = c.stands_at.ensures.yes c.if-stands_at.true in
-    sym (feature_there c.args.features.now c.args.near c.args.name.now here.0 here.1)
+returns-then-stands_at-clause-there c = search (rules, feature_there)
 
-pub returns-then-stands_at-2-clause-there : goal.returns-then-stands_at-2-clause-there
-returns-then-stands_at-2-clause-there c =
-    let here = c.stands_at-2.ensures.yes c.if-stands_at-2.true in
-    sym (feature_there c.args.features.now c.lower_bound-place.result c.args.name.now here.0 here.1)
-
-pub returns-else-stands_at-2-clause-there : goal.returns-else-stands_at-2-clause-there
-returns-else-stands_at-2-clause-there c =
+pub returns-else-stands_at-clause-there : goal.returns-else-stands_at-clause-there
+returns-else-stands_at-clause-there c =
     let vs = c.args.features.now in
     let f = c.args.name.now in
-    sym (ap is_some (feature_missing vs f (place_free vs c.lower_bound-place.result f c.requires (record { bound = c.lower_bound-place.ensures; free = c.stands_at-2.ensures.no c.if-stands_at-2.false }))))
+    sym (ap is_some (feature_missing vs f (place_free vs c.lower_bound-place.result f c.requires (record { bound = c.lower_bound-place.ensures; free = c.stands_at.ensures.no c.if-stands_at.false }))))

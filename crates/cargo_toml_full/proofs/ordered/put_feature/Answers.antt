@@ -1,5 +1,6 @@
 use Rattle.cargo_toml_features.specs.InOrder.{feature_at}
 use Rattle.cargo_toml_full.proofs.Placed.{feature_missing, free_place, place_free, put_new, put_old, taken_place}
+use Rattle.std.proofs.Common.{rules}
 use Rattle.cargo_toml_full.proofs.ordered.put_feature.Goals as goal
 
 pub returns-in_ok-insert_at-clause-held : goal.returns-in_ok-insert_at-clause-held
@@ -11,7 +12,4 @@ returns-in_ok-insert_at-clause-held c = λ f.
     put_new vs v (feature_at c.insert_at.new.features.items f) f (feature_missing vs v.key.now (place_free vs place v.key.now c.requires free)) (c.in_ok-insert_at.ensures.held f)
 
 pub returns-else-not-stands_at-clause-held : goal.returns-else-not-stands_at-clause-held
-returns-else-not-stands_at-clause-held c = λ f.
-    let vs = c.args.features.now.items in
-    let v = c.args.feature in
-    put_old vs v f (taken_place vs c.as_slice.result.now c.as_slice-2.result.now c.lower_bound-place.result v.key.now c.as_slice.ensures.value c.as_slice-2.ensures.value (c.stands_at.ensures.yes c.if-not-stands_at.false))
+returns-else-not-stands_at-clause-held c = search (rules, put_old, taken_place)

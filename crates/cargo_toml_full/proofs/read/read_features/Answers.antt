@@ -1,20 +1,14 @@
-use Rattle.std.proofs.Common.{◌≡◌, take, is_some, sym, subst, ap, ◌∙◌, arith}
+use Rattle.std.proofs.Common.{◌≡◌, take, is_some, sym, subst, ap, ◌∙◌, arith, rules}
 use Rattle.std.proofs.lemmas.List.{take_all}
-use Rattle.cargo_toml_graph.specs.Reach.{IsOnce}
-use Rattle.cargo_toml_features.specs.{InOrder.AreInOrder, Marks.named_details, Views.listed_of}
-use Rattle.cargo_toml_features.proofs.Listings.{names_listed}
-use Rattle.cargo_toml_graph.proofs.SortedTexts.{none_ascend}
-use Rattle.cargo_toml_full.specs.Searching.{has_key}
+use Rattle.cargo_toml_graph.{specs.Reach.IsOnce, proofs.SortedTexts.none_ascend}
+use Rattle.cargo_toml_features.specs.{Marks.named_details, Views.listed_of}
+use Rattle.cargo_toml_features.proofs.{Listings.names_listed}
 use Rattle.cargo_toml_full.proofs.ReadAll.{HasRead, is_dep_only, none_read, read_more, told_in, told_next, all_fresh, all_read}
+use Rattle.cargo_toml_full.specs.Searching.{has_key}
 use Rattle.cargo_toml_full.proofs.read.read_features.Goals as goal
 
 pub loop-listing-init : goal.loop-listing-init
-loop-listing-init c = record {
-  in_order = subst AreInOrder (sym c.in_ok-features.ensures.items) none_ascend;
-  features = none_read (named_details c.args.listings.now) c.in_ok-features.features.items c.in_ok-features.ensures.items;
-  keys = c.new-acting.ensures.keys;
-  reserved = c.new-acting.ensures.reserved;
-}
+loop-listing-init c = search (rules, none_ascend, none_read)
 
 pub loop-listing-preserved : goal.loop-listing-preserved
 loop-listing-preserved c =

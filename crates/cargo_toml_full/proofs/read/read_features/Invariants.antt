@@ -1,8 +1,8 @@
 use Rattle.std.proofs.Common.{◌≡◌, take, is_some}
 use Rattle.cargo_toml_graph.specs.Action.{Text}
 use Rattle.cargo_toml_features.specs.{InOrder.AreInOrder, Marks.named_details, Views.listed_of}
-use Rattle.cargo_toml_full.specs.Searching.{has_key}
 use Rattle.cargo_toml_full.proofs.ReadAll.{HasRead, is_dep_only, told_in}
+use Rattle.cargo_toml_full.specs.Searching.{has_key}
 use Rattle.cargo_toml_full.proofs.read.read_features.Given as goal
 
 abbrev pub invariant-loop-listing : goal.invariant-loop-listing

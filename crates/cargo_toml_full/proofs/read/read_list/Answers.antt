@@ -1,4 +1,4 @@
-use Rattle.std.proofs.Common.{◌≡◌, arith, map, take, string_bytes, sym, subst}
+use Rattle.std.proofs.Common.{map, take, string_bytes, sym, subst, rules}
 use Rattle.std.proofs.lemmas.List.{take_all}
 use Rattle.cargo_toml_graph.specs.Action.{item_of}
 use Rattle.cargo_toml_full.specs.{ReadFeature.joined_in, ReadFeature.IsReadFeature, Acting.Notes}
@@ -19,13 +19,7 @@ loop-text-preserved c =
     }
 
 pub returns-clause-listed : goal.returns-clause-listed
-returns-clause-listed c =
-    let texts = c.args.listing.actions.now in
-    let all : take c.loop-text.text-index texts ≡ texts = take_all _ texts (omega arith) in
-    subst (λ ts. IsReadFeature c.args.listing.name.now (detail_in c.args.listing.detail) (map item_of (map string_bytes ts)) c.loop-text.feature) all c.loop-text.invariant.listed
+returns-clause-listed c = search (rules, take_all, string_bytes)
 
 pub returns-clause-noted : goal.returns-clause-noted
-returns-clause-noted c =
-    let texts = c.args.listing.actions.now in
-    let all : take c.loop-text.text-index texts ≡ texts = take_all _ texts (omega arith) in
-    subst (λ ts. Notes (joined_in (map item_of (map string_bytes ts))) c.args.acting.now c.loop-text.acting) all c.loop-text.invariant.noted
+returns-clause-noted c = search (rules, take_all, string_bytes)

@@ -1,6 +1,6 @@
-use Rattle.std.proofs.Common.{◌||◌, map, take_all, subst, sym, ap, ◌∙◌}
+use Rattle.std.proofs.Common.{◌||◌, map, take_all, subst, sym, ap, ◌∙◌, rules}
 use Rattle.cargo_toml_dependencies.specs.Dependencies.{is_optional}
-use Rattle.cargo_toml_full.specs.Recording.{counts_alone, is_mentioned_in}
+use Rattle.cargo_toml_full.specs.Recording.{is_mentioned_in}
 use Rattle.cargo_toml_features.specs.Views.{entry_of}
 use Rattle.cargo_toml_full.proofs.GatheredKeys.{Gathers, flag_put, key_put, key_left}
 use Rattle.cargo_toml_full.proofs.record.counting_entries.Goals as goal
@@ -22,7 +22,7 @@ loop-entry-preserved c =
     }
 
 pub returns-clause-flags : goal.returns-clause-flags
-returns-clause-flags c = c.loop-entry.invariant.flags ∙ ap (λ es. map (counts_alone (is_mentioned_in c.args.mentions.now)) (map entry_of es)) (take_all c.loop-entry.entry-index c.args.entries.now c.loop-entry-test.false)
+returns-clause-flags c = search (rules, take_all)
 
 pub returns-clause-keys : goal.returns-clause-keys
 returns-clause-keys c = subst (λ es. Gathers (λ k e. is_optional e.dependency || is_mentioned_in c.args.mentions.now k) (map (λ t. t.now) c.loop-entry.keys.items) (map entry_of es)) (take_all c.loop-entry.entry-index c.args.entries.now c.loop-entry-test.false) c.loop-entry.invariant.keys

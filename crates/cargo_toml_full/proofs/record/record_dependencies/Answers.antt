@@ -1,6 +1,6 @@
 use Rattle.std.proofs.Common.{◌≡◌, ◌<◌, ◌||◌, ℕ, Bool, Bor, IsTrue, List, get_or, length, take, take_all, map, refl, ap, sym, subst, ◌∙◌, arith}
 use Rattle.std.proofs.lemmas.{Bool.and_from, List.get_or-map, List.length-map, List.Folds.list_any_at, Slice.Eq.bytes_eq-Decides}
-use Rattle.std.specs.List.{list_any}
+use Rattle.std.{specs.List.list_any, proofs.Common.rules}
 use Rattle.cargo_toml_dependencies.specs.Dependencies.{dependency_meaning, is_optional}
 use Rattle.cargo_toml_graph.specs.{Action.Text, Reach.Among}
 use Rattle.cargo_toml_features.specs.{declared.features.ParseDependency.ParseDependency, Recorded.entries_at, Recorded.recorded_of, Views.entry_of}
@@ -47,8 +47,4 @@ loop-entry-preserved c =
     }
 
 pub returns : goal.returns
-returns c = record {
-  recorded = λ listed same k.
-      c.loop-entry.invariant.recorded listed same k
-      ∙ ap (λ xs. recorded_of (entries_at listed (map entry_of xs) k)) (take_all c.loop-entry.entry-index c.args.entries.now c.loop-entry-test.false);
-}
+returns c = search (rules, take_all)

@@ -1,10 +1,10 @@
-use Rattle.std.proofs.Common.{◌<◌, ◌∙◌, length, refl, ap, arith}
+use Rattle.std.proofs.Common.{◌<◌, ◌∙◌, length, ap, arith, rules}
 use Rattle.cargo_toml_full.specs.Redundant.{Thinned}
 use Rattle.cargo_toml_full.proofs.PlaceByPlace.{all_turned, names_set, none_turned, one_turned}
 use Rattle.cargo_toml_full.proofs.redundant.drop_redundant.Goals as goal
 
 pub loop-feature-init : goal.loop-feature-init
-loop-feature-init c = record { names = refl; thinned = λ entries recorded. none_turned (Thinned entries) c.args.features.now }
+loop-feature-init c = search (rules, none_turned)
 
 pub loop-feature-preserved : goal.loop-feature-preserved
 loop-feature-preserved c =
@@ -22,6 +22,3 @@ returns-clause-thinned c = λ entries recorded.
     let new = c.loop-feature.features in
     let end : ¬ (i < length new) = omega (arith, c.loop-feature-test.false) in
     record { at = all_turned (Thinned entries) i c.args.features.now new c.loop-feature.invariant.names end (c.loop-feature.invariant.thinned entries recorded) }
-
-pub returns-clause-same_names : goal.returns-clause-same_names
-returns-clause-same_names c = c.loop-feature.invariant.names

@@ -1,5 +1,4 @@
-use Rattle.std.proofs.Common.{not, Some, rules}
-use Rattle.std.proofs.lemmas.Fn.{filter_same}
+use Rattle.std.proofs.{Common.not, Common.Some, Common.rules, lemmas.Fn.filter_same}
 use Rattle.cargo_toml_dependencies.specs.Dependencies.{dependency_meaning}
 use Rattle.cargo_toml_features.specs.Recorded.{is_redundant}
 use Rattle.cargo_toml_full.proofs.Thinning.{has_filtered}

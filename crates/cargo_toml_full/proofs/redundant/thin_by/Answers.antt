@@ -1,7 +1,5 @@
-use Rattle.std.proofs.Common.{not, Some, rules}
-use Rattle.std.proofs.lemmas.Fn.{filter_same}
-use Rattle.cargo_toml_full.specs.Redundant.{has_redundant}
-use Rattle.cargo_toml_full.proofs.Thinning.{has_filtered}
+use Rattle.std.proofs.{Common.not, Common.Some, Common.rules, lemmas.Fn.filter_same}
+use Rattle.cargo_toml_full.{specs.Redundant.has_redundant, proofs.Thinning.has_filtered}
 use Rattle.cargo_toml_full.proofs.redundant.thin_by.Goals as goal
 
 pub returns : goal.returns

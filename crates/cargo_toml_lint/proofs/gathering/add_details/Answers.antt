@@ -1,4 +1,4 @@
-use Rattle.std.proofs.Common.{[], Global, Some, String, string_bytes, ap, subst, ◌∙◌}
+use Rattle.std.proofs.Common.{rules, [], Global, Some, String, string_bytes, ap, subst}
 use Rattle.std.proofs.lemmas.Map.Iter.{rest_all, rest_more}
 use Rattle.std.specs.List.{flat_map}
 use Rattle.std.specs.Map.Iter.{deref}
@@ -11,9 +11,7 @@ use Rattle.cargo_toml_lint.proofs.Adding.{begun, finding_done, finding_more, fla
 use Rattle.cargo_toml_lint.proofs.gathering.add_details.Goals as goal
 
 pub loop-name-init : goal.loop-name-init
-loop-name-init c = begun Finds _ _ _ (ap (flat_map (λ (k : String Global). told (string_bytes k) []
-    (Some FeatureTable)))
-    (c.into_iter-name-iterator.ensures.into_iter_gives ∙ c.keys-name-items.ensures.rest))
+loop-name-init c = search (rules, begun)
 
 pub loop-name-preserved : goal.loop-name-preserved
 loop-name-preserved c = finding_more

@@ -1,4 +1,4 @@
-use Rattle.std.proofs.Common.{Global, List, String, Vec, map, string_bytes, subst, ap, ◌∙◌}
+use Rattle.std.proofs.Common.{rules, Global, List, String, Vec, map, string_bytes, subst, ap}
 use Rattle.std.proofs.lemmas.Map.Iter.{rest_all, rest_more}
 use Rattle.std.specs.List.{flat_map}
 use Rattle.std.specs.Map.Iter.{deref}
@@ -9,16 +9,10 @@ use Rattle.cargo_toml_lint.proofs.Adding.{adding_done, adding_more, begun, flat_
 use Rattle.cargo_toml_lint.proofs.known.acted_keys.Goals as goal
 
 pub loop-texts-init : goal.loop-texts-init
-loop-texts-init c = begun AddsKeys _ _ _ (ap (flat_map (λ (v : Vec (String Global) Global). acted_by
-    (map string_bytes v.items)))
-    (c.into_iter-texts-iterator.ensures.into_iter_gives ∙ c.values-texts-items.ensures.rest))
+loop-texts-init c = search (rules, begun)
 
 pub loop-texts-preserved : goal.loop-texts-preserved
-loop-texts-preserved c = adding_more
-    (ap (flat_map (λ (v : Vec (String Global) Global). acted_by (map string_bytes v.items)))
-    (rest_more deref _ _ _ c.in-Some.texts c.in-Some.is c.next.ensures.steps))
-    (subst (λ ts. AddsKeys (acted_by (map string_bytes ts)) c.loop-texts.keys c.add_list.new.self)
-    c.as_slice.ensures.value c.in_ok-add_list.ensures) c.loop-texts.invariant
+loop-texts-preserved c = search (rules, adding_more, rest_more)
 
 pub returns : goal.returns
 returns c = c.no_keys-keys.ensures _ _

@@ -3,8 +3,7 @@ use Rattle.cargo_toml.specs.Action.{Text, item_of}
 use Rattle.cargo_toml.specs.Reach.{Among}
 use Rattle.cargo_toml.specs.Views.{set_has}
 use Rattle.cargo_toml_features.specs.Places.{nth_text}
-use Rattle.cargo_toml_lint.specs.Turning.{says}
-use Rattle.cargo_toml_lint.specs.Turning.{turns_to}
+use Rattle.cargo_toml_lint.specs.Turning.{says, turns_to}
 use Rattle.cargo_toml_lint.proofs.Edges.{none_pushed, one_pushed}
 use Rattle.cargo_toml_lint.proofs.Gathered.{any_more}
 use Rattle.cargo_toml_lint.proofs.linking.edges_of.Goals.{in-Some+in_ok-push, in_default}

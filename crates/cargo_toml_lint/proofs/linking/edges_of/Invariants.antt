@@ -1,9 +1,8 @@
 use Rattle.std.proofs.Common.{◌↔◌, ◌<◌, ℕ, IsTrue, length, map, string_bytes, take}
 use Rattle.cargo_toml.specs.Reach.{Among}
 use Rattle.cargo_toml_features.specs.Places.{nth_text}
-use Rattle.cargo_toml_lint.specs.Turning.{says}
+use Rattle.cargo_toml_lint.specs.Turning.{says, turns_to}
 use Rattle.cargo_toml_lint.specs.Names.{held_names}
-use Rattle.cargo_toml_lint.specs.Turning.{turns_to}
 use Rattle.cargo_toml_lint.proofs.linking.edges_of.Given as goal
 
 abbrev pub invariant-loop-text : goal.invariant-loop-text

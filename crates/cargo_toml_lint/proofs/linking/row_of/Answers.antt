@@ -4,9 +4,8 @@ use Rattle.std.proofs.lemmas.Result.{IfOk-weaker}
 use Rattle.std.specs.Option.{option_copied}
 use Rattle.cargo_toml.specs.Reach.{Among}
 use Rattle.cargo_toml_features.specs.Places.{nth_text}
-use Rattle.cargo_toml_lint.specs.Turning.{says}
+use Rattle.cargo_toml_lint.specs.Turning.{says, turned, turns_to}
 use Rattle.cargo_toml_lint.specs.Names.{held_names, listed_by}
-use Rattle.cargo_toml_lint.specs.Turning.{turned, turns_to}
 use Rattle.cargo_toml_lint.proofs.Edges.{turned_none, turned_of}
 use Rattle.cargo_toml_lint.proofs.linking.row_of.Goals as goal
 

@@ -1,7 +1,6 @@
-use Rattle.std.proofs.Common.{◌≡◌, ◌<◌, ℕ, List, [], ◌∷◌, Option, Some, None, length, get_or, slice_get, refl, ap, arith}
+use Rattle.std.proofs.Common.{rules, ◌≡◌, ◌<◌, ℕ, List, [], ◌∷◌, Option, Some, None, length, get_or, slice_get, refl, ap, arith}
 use Rattle.std.proofs.lemmas.Iterator.{YieldsList-from_chars}
 use Rattle.std.proofs.lemmas.Iterator.Consumers.{YieldsList-turn, YieldsList-end}
-use Rattle.std.specs.Str.{chars}
 use Rattle.cargo_toml_lint.proofs.names.first_char.Goals as goal
 
 at_first : (all : List ℕ) (r : Option ℕ)
@@ -13,8 +12,4 @@ at_first (y ∷ ys) (Some x) some none = ap Some (some x refl).1
 at_first (y ∷ ys) None some none = let same : [] ≡ y ∷ ys = none refl in absurd (cc)
 
 pub returns : goal.returns
-returns c =
-    let of = YieldsList-from_chars c.args.text.now c.utf8.text cc in
-    at_first (chars c.args.text.now) c.next.result
-    (λ x is. YieldsList-turn of [] _ refl _ _ x is c.next.ensures.steps)
-    (λ is. (YieldsList-end of [] _ refl _ _ is c.next.ensures.steps).0)
+returns c = search (rules, YieldsList-from_chars, at_first, YieldsList-turn, YieldsList-end)

@@ -1,4 +1,4 @@
-use Rattle.std.proofs.Common.{◌≡◌, ◌+◌, get_or, take, ◌∙◌}
+use Rattle.std.proofs.Common.{rules, ◌≡◌, ◌+◌, get_or, take, ◌∙◌}
 use Rattle.cargo_toml.specs.Reach.{Among}
 use Rattle.cargo_toml_lint.proofs.Meeting.{meets_alike, meets_none, meets_then}
 use Rattle.cargo_toml_lint.proofs.Rows.{among_all, among_at, among_more, among_taken}
@@ -21,7 +21,4 @@ loop-x-preserved c =
     (λ y. among_more c.args.targets.now c.loop-x.x-index y c.loop-x-test.true) c.loop-x.invariant c.in_ok-meet.ensures
 
 pub returns : goal.returns
-returns c =
-    meets_alike c.args.reach.now (Among (take c.loop-x.x-index c.args.targets.now)) (Among c.args.targets.now)
-    c.args.row.now.items c.loop-x.row.items c.args.met.now.items c.loop-x.met.items
-    (λ y. (among_taken c.args.targets.now c.loop-x.x-index y, among_all c.args.targets.now c.loop-x.x-index y c.loop-x-test.false)) c.loop-x.invariant
+returns c = search (rules, meets_alike, among_taken, among_all)

@@ -6,13 +6,11 @@ abbrev pub invariant-loop-x : goal.invariant-loop-x
 invariant-loop-x l = record {
   whole : IsWhole l.reach;
   next : l.reach.next ≡ l.initial.reach.next;
-  some : 0 < l.reach.width;
 }
 
 abbrev pub invariant-loop-own : goal.invariant-loop-own
 invariant-loop-own l = record {
   whole : IsWhole l.reach;
   next : l.reach.next ≡ l.initial.reach.next;
-  some : 0 < l.reach.width;
   settled : (a : ℕ) → a < l.own → IsSettled l.reach a;
 }

@@ -1,24 +1,9 @@
-use Rattle.std.proofs.Common.{◌<◌, ◌∷◌, [], ap, arith, length, length-append, subst, ◌∙◌}
-use Rattle.cargo_toml_lint.specs.Reached.{row_items}
+use Rattle.std.proofs.Common.{rules, length-append}
 use Rattle.cargo_toml_lint.proofs.Rows.{all_empty}
 use Rattle.cargo_toml_lint.proofs.reach.unsettled.Goals as goal
 
 pub loop-preserved : goal.loop-preserved
-loop-preserved c =
-    let items = c.in_ok-push.ensures.items in
-    let a = ap length items in
-    let b = length-append c.loop.rows.items (c.new.result ∷ []) in
-    let i = c.loop.invariant.len in
-    record {
-      len = omega (arith, a, b, i);
-      empty = λ a. ap (λ r. row_items r a) items ∙ all_empty c.loop.rows.items c.new.result c.new.ensures.items c.loop.invariant.empty a;
-    }
+loop-preserved c = search (rules, length-append, all_empty)
 
 pub returns-clause-whole : goal.returns-clause-whole
-returns-clause-whole c = record {
-  len = let i = c.loop.invariant.len in omega (arith, i);
-  inside = c.requires;
-  fits = let e = c.words_for.ensures.enough in omega (arith, e);
-  wide = λ a s. absurd (let s' = subst (λ r. 0 < length r) (c.loop.invariant.empty a) s in omega (arith, s'));
-  right = λ a b s. absurd (let s' = subst (λ r. 0 < length r) (c.loop.invariant.empty a) s in omega (arith, s'));
-}
+returns-clause-whole c = search rules

@@ -1,10 +1,10 @@
-use Rattle.std.proofs.Common.{◌==◌, Global, List, String, map, string_bytes, ap, subst}
+use Rattle.std.proofs.Common.{rules, Global, List, String, map, string_bytes, ap}
 use Rattle.std.proofs.lemmas.Map.Iter.{rest_all, rest_more}
 use Rattle.std.specs.Map.Iter.{deref_pair}
 use Rattle.cargo_toml.specs.Action.{Text}
 use Rattle.cargo_toml.specs.Dependencies.{DependencyMeaning, dependency_meaning}
 use Rattle.cargo_toml_dependencies.specs.declared.dependency.Dependency.{Dependency}
-use Rattle.cargo_toml_lint.specs.Findings.{entry_findings, table_findings}
+use Rattle.cargo_toml_lint.specs.Findings.{table_findings}
 use Rattle.cargo_toml_lint.specs.Steps.{Finds}
 use Rattle.cargo_toml_lint.proofs.Adding.{begun, finding_done, finding_more}
 use Rattle.cargo_toml_lint.proofs.tables.add_table.Goals as goal
@@ -17,13 +17,7 @@ loop-key-init c = begun Finds _ _ _ (ap (λ es. table_findings c.args.is_dev c.a
     c.into_iter-key-iterator.ensures.into_iter_gives.0)
 
 pub loop-key-preserved : goal.loop-key-preserved
-loop-key-preserved c = rw c.saturating_sub-rest.ensures (finding_more
-    (ap (λ es. table_findings c.args.is_dev c.loop-key.left (told es)) (rest_more deref_pair _ _ _
-    (c.in-Some.key, c.in-Some.dependency) c.in-Some.is c.next.ensures.steps))
-    (subst (λ xs. Finds xs c.loop-key.found.items c.add_entry.new.found.items)
-    (ap (λ (k : Text). entry_findings c.args.is_dev (c.loop-key.left == 0) k (dependency_meaning
-    c.in-Some.dependency.now)) c.as_str.ensures.value)
-    c.in_ok-add_entry.ensures) c.loop-key.invariant)
+loop-key-preserved c = search (rules, finding_more, rest_more)
 
 pub returns : goal.returns
 returns c = finding_done (ap (λ es. table_findings c.args.is_dev c.loop-key.left (told es))

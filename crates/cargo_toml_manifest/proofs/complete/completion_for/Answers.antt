@@ -1,11 +1,7 @@
 use Rattle.std.proofs.Common.{[], Result, Some, None, refl, subst, sym, ◌∙◌}
-use Rattle.cargo_toml_parts.specs.Answers.{Gives}
-use Rattle.cargo_toml_parts.specs.FaultValues.{Fault}
-use Rattle.cargo_toml_parts.specs.Paths.{workspace_folder}
+use Rattle.cargo_toml_parts.specs.{Answers.Gives, FaultValues.Fault, Paths.workspace_folder}
 use Rattle.cargo_toml_package.specs.Sharing.{shared_of}
-use Rattle.cargo_toml_manifest.specs.Choosing.{handed_of}
-use Rattle.cargo_toml_manifest.specs.Inheriting.{needs}
-use Rattle.cargo_toml_manifest.specs.Installing.{installed}
+use Rattle.cargo_toml_manifest.specs.{Choosing.handed_of, Inheriting.needs, Installing.installed}
 use Rattle.cargo_toml_manifest.specs.Manifests.{ManifestMeaning, held}
 use Rattle.cargo_toml_manifest.proofs.Answering.{answered_as, root_answered, root_lost}
 use Rattle.cargo_toml_manifest.proofs.Lasting.{nothing_left}

@@ -1,5 +1,4 @@
-use Rattle.std.proofs.Common.{[], ap}
-use Rattle.std.specs.Prelude.{option_map}
+use Rattle.std.{proofs.Common.[], proofs.Common.ap, specs.Prelude.option_map}
 use Rattle.std.proofs.lemmas.Result.{err_from_is_err_and}
 use Rattle.cargo_toml_discovery.specs.Answers.{answers_of, filled}
 use Rattle.cargo_toml_package.specs.Packages.{package_meaning}

@@ -1,7 +1,6 @@
 use Rattle.std.proofs.Common.{◌≡◌, ◌∙◌, ap, sym, refl}
 use denote.Enum.Bare.{sameb}
-use Rattle.std.specs.contracts.io.ErrorKind.{the_type}
-use Rattle.std.specs.declared.io.ErrorKind.{ErrorKind}
+use Rattle.std.specs.{contracts.io.ErrorKind.the_type, declared.io.ErrorKind.ErrorKind}
 use Rattle.std.specs.declared.io.ErrorKind.TheVariants.{NotFound}
 use Rattle.cargo_toml_parts.specs.FaultValues.{fault_of, io}
 use Rattle.cargo_toml_discovery.proofs.Faults.{no_absence, no_input}

@@ -1,6 +1,5 @@
 use Rattle.std.proofs.lemmas.Result.{err_from_is_err_and}
-use Rattle.cargo_toml_manifest.specs.Inheriting.{own_tables}
-use Rattle.cargo_toml_manifest.specs.Manifests.{held}
+use Rattle.cargo_toml_manifest.specs.{Inheriting.own_tables, Manifests.held}
 use Rattle.cargo_toml_manifest.proofs.Inherited.{stops_at_build, stops_at_dev}
 use Rattle.cargo_toml_manifest.proofs.inheriting.new_tables.Goals as goal
 

@@ -1,5 +1,4 @@
-use Rattle.std.proofs.Common.{inr}
-use Rattle.std.proofs.lemmas.Result.{err_from_is_err_and}
+use Rattle.std.proofs.{Common.inr, lemmas.Result.err_from_is_err_and}
 use Rattle.cargo_toml_manifest.proofs.FileFaults.{no_manifest, no_table}
 use Rattle.cargo_toml_manifest.proofs.lookup.workspace_of.Goals as goal
 

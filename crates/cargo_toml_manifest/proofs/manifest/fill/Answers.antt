@@ -1,7 +1,6 @@
 use Rattle.std.proofs.Common.{ap, codes, refl, None}
 use Rattle.toml.specs.View.{table_view}
-use Rattle.cargo_toml_parts.specs.Reads.{WrongShape}
-use Rattle.cargo_toml_parts.proofs.Chain.{plain}
+use Rattle.cargo_toml_parts.{specs.Reads.WrongShape, proofs.Chain.plain}
 use Rattle.cargo_toml_parts.proofs.Places.{begins, takes, takes_optional, takes_last, means_none, held_in}
 use Rattle.cargo_toml_parts.proofs.Shapes.{itself, list_shape, map_shape}
 use Rattle.cargo_toml_manifest.specs.Manifests.{manifest_of, ManifestFaults}

@@ -1,5 +1,5 @@
 use Rattle.std.proofs.Common.{arith}
-use Rattle.cargo_toml_resolve.proofs.Words.{joined_bits}
+use Rattle.cargo_toml_resolve.proofs.Tabled.{joined_bits}
 use Rattle.cargo_toml_resolve.proofs.bits.join.Goals as goal
 
 pub returns : goal.returns

@@ -2,7 +2,7 @@ use Rattle.std.proofs.Common.{rules, ◌≡◌, ◌≢◌, ◌↔◌, ◌<◌, �
 use Rattle.std.proofs.lemmas.Bool.{false≢true}
 use Rattle.cargo_toml_graph.specs.Reach.{Among}
 use Rattle.cargo_toml_resolve.specs.{Bits.HasBit, Numbers.IsWanted}
-use Rattle.cargo_toml_resolve.proofs.Words.{none_more_held, one_more_held}
+use Rattle.cargo_toml_resolve.proofs.Tabled.{none_more_held, one_more_held}
 use Rattle.cargo_toml_resolve.proofs.bits.nodes_of.Goals.{then-flags-x+then-has_bit+in_ok-push, else-flags-x, else-flags-x-via-then-flags-x+else-has_bit, else-flags-x-via-else-flags-x}
 use Rattle.cargo_toml_resolve.proofs.bits.nodes_of.Goals as goal
 

@@ -2,10 +2,9 @@ use Rattle.std.proofs.Common.{rules, ◌≡◌, ◌<◌, ◌≤◌, ◌↔◌, �
 use Rattle.std.proofs.lemmas.{Bool.false≢true, List.length-replicate}
 use Rattle.cargo_toml_graph.specs.Reach.{Among, GathersLabel, Reaches}
 use Rattle.cargo_toml_resolve.specs.{Bits.Holds, Numbers.IsRedirect, Numbers.IsWanted, Numbers.Leads}
-use Rattle.cargo_toml_resolve.proofs.Closing.{Labels, Paths, Redirect, all_labels, all_paths, first_labels, first_paths, more_labels}
-use Rattle.cargo_toml_resolve.proofs.Closing.{more_paths, none_finished, redirect_row, same_labels, same_paths, table_alike, table_gains}
-use Rattle.cargo_toml_resolve.proofs.{Cuts.one_more_finished, Cuts.still_finished, Filling.IsFilled, Filling.none_filled, Filling.one_more_filled, RowsInOrder.all_moved, Steps.has_row}
-use Rattle.cargo_toml_resolve.proofs.{Steps.list_read, Tabled.holds_inside}
+use Rattle.cargo_toml_resolve.proofs.{Closing.Labels, Closing.Paths, Closing.Redirect, Closing.all_labels, Closing.all_paths, Closing.first_labels, Closing.first_paths, Closing.more_labels, Closing.more_paths}
+use Rattle.cargo_toml_resolve.proofs.{Closing.none_finished, Closing.redirect_row, Closing.same_labels, Closing.same_paths, Closing.table_alike, Closing.table_gains, RowsInOrder.all_moved, RowsInOrder.one_more_finished}
+use Rattle.cargo_toml_resolve.proofs.{RowsInOrder.still_finished, Steps.has_row, Tabled.holds_inside, ReadRows.IsFilled, ReadRows.none_filled, ReadRows.one_more_filled}
 use Rattle.cargo_toml_resolve.proofs.dense.take_out.Goals.{then-is_removed-r+in_ok-row+in_ok-push+in_ok-parents+in_ok-pass_on+in_ok-pass_on-2, else-is_removed-r+in_ok-push-2}
 use Rattle.cargo_toml_resolve.proofs.dense.take_out.Goals as goal
 
@@ -24,11 +23,16 @@ loop-r-init c =
       rows = none_filled (Redirect es ls removed) c.in_ok-rows.rows c.in_ok-rows.ensures;
     }
 
-pub nodes_of-requires : goal.nodes_of-requires
-nodes_of-requires c =
+pub flagged-requires-clause-own : goal.flagged-requires-clause-own
+flagged-requires-clause-own c =
     let below : c.loop-r.r < length c.loop-r.gathered.items = search rules in
-    let read = c.as_slice.ensures.value ∙ sym (list_read c.loop-r.gathered.items c.loop-r.r c.index.result.now below c.index.ensures) in
-    omega (arith, ap length read ∙ c.loop-r.invariant.gathered.wide c.loop-r.r below, ap length c.as_slice-then-is_removed-r.ensures.value ∙ c.loop-r.invariant.flags, c.words_for-width.ensures.enough)
+    rw (c.as_slice.ensures.value, c.at-own.ensures) below
+
+pub flagged-requires-clause-wide : goal.flagged-requires-clause-wide
+flagged-requires-clause-wide c =
+    let below : c.loop-r.r < length c.loop-r.gathered.items = search rules in
+    rw (c.as_slice.ensures.value, c.at-own.ensures, c.as_slice-then-is_removed-r.ensures.value)
+    (omega (arith, c.loop-r.invariant.gathered.wide c.loop-r.r below, c.loop-r.invariant.flags, c.words_for-width.ensures.enough))
 
 pub pass_on-requires-clause-named : goal.pass_on-requires-clause-named
 pass_on-requires-clause-named c = λ a i.
@@ -52,10 +56,8 @@ loop-r-preserved c =
     elim c.if-is_removed-r.branch [
       | then-is_removed-r+in_ok-row+in_ok-push+in_ok-parents+in_ok-pass_on+in_ok-pass_on-2 w ↦
           let gone : IsWanted removed true c.loop-r.r = search rules in
-          let below : c.loop-r.r < length c.loop-r.gathered.items = search rules in
           let inside : c.loop-r.r < length c.loop-r.finished.items = search rules in
-          let read = w.as_slice.ensures.value ∙ sym (list_read c.loop-r.gathered.items c.loop-r.r w.index.result.now below w.index.ensures) in
-          let nodes = rw (read, w.as_slice-then-is_removed-r.ensures.value) at w.in_ok-row.ensures in
+          let nodes = rw (w.as_slice.ensures.value, w.at-own.ensures, w.as_slice-then-is_removed-r.ensures.value) at w.in_ok-row.ensures in
           let are = rw (w.as_slice-then-is_removed-r-3.ensures.value, w.at-own.ensures) at w.in_ok-parents.ensures in
           let labels = rw (w.as_slice-then-is_removed-r-4.ensures.value, w.at-own.ensures) at w.in_ok-pass_on.ensures in
           let edges = rw (w.as_slice-then-is_removed-r-5.ensures.value, w.at-own.ensures) at w.in_ok-pass_on-2.ensures in

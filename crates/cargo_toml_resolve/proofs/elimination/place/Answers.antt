@@ -1,20 +1,11 @@
+use Rattle.std.proofs.lemmas.Grind.{common_steps}
 use Rattle.std.proofs.Common.{rules, ◌≡◌, ◌<◌, ℕ, length, ap, refl, sym, subst, ◌∙◌, arith}
-use Rattle.std.specs.Option.{ForSome}
-use Rattle.cargo_toml_resolve.specs.{Dense.AreTables, Numbers.FindsRedirects, Passing.bins_of, Passing.passed_below, Texts.texts_now, Walking.AreRedirects}
+use Rattle.cargo_toml_resolve.specs.{Numbers.FindsRedirects, Passing.bins_of, Passing.passed_below, Texts.texts_now, Dense.AreRedirects}
 use Rattle.cargo_toml_resolve.proofs.Placing.{bins_there, kept_there, left_there, named_alike_there, redirects_there}
 use Rattle.cargo_toml_resolve.proofs.elimination.place.Goals as goal
 
 pub redirects-requires-clause-within : goal.redirects-requires-clause-within
-redirects-requires-clause-within c =
-    let g = c.args.graph in
-    let flags : length c.as_slice-is_removed.result.now ≡ length g.flags.items = ap length c.as_slice-is_removed.ensures.value in
-    let count = g.flags_count in
-    record {
-      same = g.names_count;
-      count = omega (arith, flags, g.features_count, count);
-      edges_inside = g.edges_inside;
-      labels_inside = λ a x i. subst (λ n. x < n) (sym (flags ∙ count)) (g.names_inside a x i);
-    }
+redirects-requires-clause-within c = grind (arith, common_steps)
 
 pub keep_all-requires-clause-finder : goal.keep_all-requires-clause-finder
 keep_all-requires-clause-finder c = record { tables = c.in_ok-tables.ensures; room = search rules }
@@ -23,9 +14,7 @@ pub redirects-requires-clause-room : goal.redirects-requires-clause-room
 redirects-requires-clause-room c = c.in_ok-keep_all.ensures.finder.room ∙ sym (ap length c.as_slice-is_removed.ensures.value)
 
 pub redirects-requires-clause-tables : goal.redirects-requires-clause-tables
-redirects-requires-clause-tables c =
-    let g = c.args.graph in
-    subst (λ f. ForSome c.keep_all.new.finder.tables (AreTables g.edges g.names f)) (sym c.as_slice-is_removed.ensures.value) c.in_ok-keep_all.ensures.finder.tables
+redirects-requires-clause-tables c = grind (arith, common_steps)
 
 pub returns : goal.returns
 returns c =
@@ -58,17 +47,4 @@ returns c =
     }
 
 pub invariant_of-result : goal.invariant_of-result
-invariant_of-result c =
-    let g = c.args.graph in
-    let fs = g.flags.items in
-    let r = c.in_ok-rows.field-0 in
-    let found : FindsRedirects g.edges g.names fs r.moved.items r.rows = subst (λ f. FindsRedirects g.edges g.names f r.moved.items r.rows) c.as_slice-is_removed.ensures.value c.in_ok-rows.ensures in
-    let len = found.len in
-    let names = g.names_count in
-    record {
-      once = λ i j lt. g.once i j (let lt' = lt in omega (arith, lt', len, names));
-      features_count = omega (arith, len, names, g.features_count);
-      flags_count = g.flags_count;
-      moved_count = found.count ∙ g.flags_count;
-      redirects_inside = λ x z i. subst (λ n. z < n) g.flags_count (found.inside x z i);
-    }
+invariant_of-result c = search (rules, c.in_ok-rows.ensures)

@@ -1,4 +1,4 @@
-use Rattle.std.proofs.Common.{◌≡◌, ◌<◌, ◌+◌, get_or, take, take_all, sym, subst}
+use Rattle.std.proofs.Common.{arith, ◌≡◌, ◌+◌, get_or, take, take_all, subst}
 use Rattle.cargo_toml_graph.specs.Reach.{Among}
 use Rattle.cargo_toml_features.proofs.Places.{among_at}
 use Rattle.cargo_toml_resolve.proofs.{Steps.among_more, Steps.item_is, Learning.nobody_enabled, Learning.then_enabled}
@@ -9,10 +9,7 @@ pub loop-at-init : goal.loop-at-init
 loop-at-init c = nobody_enabled c.args.source.now c.args.features.now.items
 
 pub enable_at-requires : goal.enable_at-requires
-enable_at-requires c =
-    let row = c.args.row.now in
-    let at = get_or row c.loop-at.at-index 0 in
-    rw (item_is c.args.row.now c.loop-at.at-index _ c.loop-at-test.true c.at-item.is) (subst (λ n. at < n) (sym c.loop-at.invariant.same.len) (c.requires at (among_at row c.loop-at.at-index 0 c.loop-at-test.true)))
+enable_at-requires c = grind (arith, item_is, among_at c.args.row.now c.loop-at.at-index 0 c.loop-at-test.true, c.requires)
 
 pub loop-at-preserved : goal.loop-at-preserved
 loop-at-preserved c =

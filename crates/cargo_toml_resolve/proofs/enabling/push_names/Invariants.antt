@@ -2,7 +2,7 @@ use Rattle.std.proofs.Common.{length}
 use Rattle.cargo_toml_graph.specs.Reach.{Among}
 use Rattle.cargo_toml_features.specs.Places.{nth_text}
 use Rattle.cargo_toml_resolve.specs.{Texts.texts_now, Numbering.Gains}
-use Rattle.cargo_toml_resolve.proofs.Gathered.{seen}
+use Rattle.cargo_toml_resolve.proofs.InOrder.{seen}
 use Rattle.cargo_toml_resolve.proofs.enabling.push_names.Given as goal
 
 abbrev pub invariant-loop-name : goal.invariant-loop-name

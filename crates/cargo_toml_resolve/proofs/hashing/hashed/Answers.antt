@@ -1,6 +1,6 @@
 use Rattle.std.proofs.Common.{◌≡◌, ◌<◌, ◌+◌, [], ◌∷◌, suc, drop, rules, arith, sym, ap, subst, ◌∙◌}
 use Rattle.std.proofs.lemmas.List.{nil_from_length}
-use Rattle.cargo_toml_resolve.proofs.HashedSlots.{HasPut, all_put, comes_next, put_next}
+use Rattle.cargo_toml_resolve.proofs.HashedKept.{HasPut, all_put, comes_next, put_next}
 use Rattle.cargo_toml_resolve.proofs.hashing.hashed.Goals as goal
 
 pub bounds-names-place : goal.bounds-names-place
@@ -23,6 +23,4 @@ loop-value-preserved g c =
     }
 
 pub returns : goal.returns
-returns g c =
-    let none : c.loop-value.value-iterator.rest.items ≡ [] = nil_from_length _ (sym c.loop-value.value-iterator.rest.ok.0 ∙ c.in-None.ensures.steps.0) in
-    all_put c.args.names.now c.args.values.items c.loop-value.place c.loop-value.by_name (sym c.loop-value.invariant.rest ∙ none) c.loop-value.invariant.held
+returns g c = grind (arith, nil_from_length, all_put)

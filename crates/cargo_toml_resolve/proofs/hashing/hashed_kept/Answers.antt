@@ -1,4 +1,4 @@
-use Rattle.std.proofs.Common.{◌≡◌, ◌+◌, [], ◌∷◌, suc, drop, false, refl, slice_index_or, rules, arith, sym, ap, ◌∙◌}
+use Rattle.std.proofs.Common.{◌≡◌, ◌+◌, ◌∷◌, suc, drop, false, refl, slice_index_or, rules, arith, sym, ap, ◌∙◌}
 use Rattle.std.proofs.lemmas.List.{nil_from_length}
 use Rattle.cargo_toml_resolve.proofs.HashedKept.{all_dropped, keyed_kept, kept_turn, next_there}
 use Rattle.cargo_toml_resolve.proofs.hashing.hashed_kept.Goals as goal
@@ -14,9 +14,7 @@ loop-feature-preserved g c =
     }
 
 pub returns-clause-kept : goal.returns-clause-kept
-returns-clause-kept g c = λ i v at off.
-    let none : c.loop-feature.feature-iterator.rest.items ≡ [] = nil_from_length _ (sym c.loop-feature.feature-iterator.rest.ok.0 ∙ c.in-None.ensures.steps.0) in
-    c.loop-feature.invariant.held.kept i v (all_dropped c.args.features.items c.loop-feature.place (sym c.loop-feature.invariant.rest ∙ none) i v at) at off
+returns-clause-kept g c = grind (arith, nil_from_length, all_dropped, c.loop-feature.invariant.held.kept)
 
 pub returns-clause-keyed : goal.returns-clause-keyed
 returns-clause-keyed g c = keyed_kept c.args.features.items c.args.flags.now c.loop-feature.by_name (returns-clause-kept g c) c.loop-feature.invariant.held.only

@@ -3,20 +3,15 @@ use Rattle.std.proofs.lemmas.List.{get_or-map}
 use Rattle.cargo_toml_graph.specs.Action.{Text}
 use Rattle.cargo_toml_features.specs.Places.{nth_text}
 use Rattle.cargo_toml_resolve.specs.{Numbers.IsWanted, Texts.texts_now}
-use Rattle.cargo_toml_resolve.proofs.HashedRedirects.{HandsBelow, as_handed, none_handed, not_yet, one_handed, redirect_put, redirect_skipped, skips_handed}
+use Rattle.cargo_toml_resolve.proofs.HashedKept.{as_handed, none_handed, not_yet, one_handed, redirect_put, redirect_skipped, skips_handed}
 use Rattle.cargo_toml_resolve.proofs.hidden_map.hashed_redirects.Goals as goal
 use Rattle.cargo_toml_resolve.proofs.hidden_map.hashed_redirects.Goals.{then-index+in_ok-redirect+in_ok-put, else-index}
 
 pub loop-r-init : goal.loop-r-init
-loop-r-init g c = record {
-  redirects = record { there = λ i lt. absurd (omega (arith, lt)); only = search rules };
-  handed = none_handed (HandsBelow c.args.walked.now.flags.items 0) c.args.features.now.items;
-}
+loop-r-init g c = grind (arith, none_handed)
 
 pub redirect_of-requires-clause-own : goal.redirect_of-requires-clause-own
-redirect_of-requires-clause-own g c =
-    let w = c.args.walked.now in
-    rw c.at.ensures (λ v off at. c.requires.own c.loop-r.r v (search rules) off (sym (not_yet w.flags.items c.loop-r.r c.args.features.now.items c.loop-r.features.items c.loop-r.invariant.handed) ∙ at))
+redirect_of-requires-clause-own g c = grind (arith, not_yet c.args.walked.now.flags.items c.loop-r.r c.args.features.now.items c.loop-r.features.items c.loop-r.invariant.handed, c.at.ensures, c.requires.own)
 
 pub redirect_of-requires-clause-count : goal.redirect_of-requires-clause-count
 redirect_of-requires-clause-count g c = c.requires.count ∙ sym c.loop-r.invariant.handed.len
@@ -47,6 +42,4 @@ loop-r-preserved g c =
     ]
 
 pub returns-clause-handed : goal.returns-clause-handed
-returns-clause-handed g c =
-    let w = c.args.walked.now in
-    as_handed (HandsBelow w.flags.items c.loop-r.r) (IsWanted w.flags.items true) c.args.features.now.items c.loop-r.features.items (λ i a. a.0) c.loop-r.invariant.handed
+returns-clause-handed g c = grind (arith, as_handed)

@@ -1,5 +1,5 @@
-use Rattle.cargo_toml_resolve.specs.HandingOver.{HandsOver}
-use Rattle.cargo_toml_resolve.proofs.HashedRedirects.{HandsBelow, HasRedirects}
+use Rattle.cargo_toml_resolve.specs.Holding.{HandsOver}
+use Rattle.cargo_toml_resolve.proofs.HashedKept.{HandsBelow, HasRedirects}
 use Rattle.cargo_toml_resolve.proofs.hidden_map.hashed_redirects.Given as goal
 
 abbrev pub invariant-loop-r : goal.invariant-loop-r

@@ -3,7 +3,7 @@ use Rattle.std.proofs.lemmas.Map.Iter.{btree_map_turn, iter_end}
 use Rattle.std.specs.{Cmp.Lexicographic.on_texts, Map.Iter.deref_pair}
 use Rattle.cargo_toml_graph.specs.Action.{Text}
 use Rattle.cargo_toml_features.specs.Views.{action_of, action_at}
-use Rattle.cargo_toml_resolve.proofs.Actions.{next_action, keys_more, all_joined}
+use Rattle.cargo_toml_resolve.proofs.Sets.{next_action, keys_more, all_joined}
 use Rattle.cargo_toml_resolve.proofs.joining.add_actions.Goals as goal
 
 pub loop-key-preserved : goal.loop-key-preserved

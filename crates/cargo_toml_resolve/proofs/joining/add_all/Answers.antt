@@ -1,7 +1,6 @@
-use Rattle.std.proofs.Common.{rules, ◌≡◌, ◌||◌, ap, ◌∙◌, map}
+use Rattle.std.proofs.lemmas.Grind.{common_steps}
+use Rattle.std.proofs.Common.{arith}
 use Rattle.std.proofs.lemmas.Map.Iter.{iter_end}
-use Rattle.cargo_toml_features.specs.Views.{set_has}
-use Rattle.cargo_toml_full.proofs.Gathering.{is_text_in}
 use Rattle.cargo_toml_features.proofs.TextKeys.{inserted}
 use Rattle.cargo_toml_resolve.proofs.Sets.{one_more}
 use Rattle.cargo_toml_resolve.proofs.joining.add_all.Goals as goal
@@ -10,6 +9,4 @@ pub loop-text-preserved : goal.loop-text-preserved
 loop-text-preserved c = λ x. one_more c.args.texts.now c.loop-text.texts c.insert.new.self c.loop-text.yielded c.in-Some.text x (c.loop-text.invariant x) (inserted c.in-Some.text.now.now c.loop-text.texts c.insert.new.self c.in_ok-insert.ensures.updates x)
 
 pub returns : goal.returns
-returns c = λ x.
-    let all : map (λ k. k.now) c.loop-text.yielded ≡ c.args.other.now.keys = search (rules, iter_end) in
-    c.loop-text.invariant x ∙ ap (λ ks. set_has c.args.texts.now x || is_text_in ks x) all
+returns c = grind (arith, common_steps, iter_end, c.loop-text.invariant)

@@ -1,17 +1,15 @@
+use Rattle.std.proofs.lemmas.Grind.{common_steps}
 use Rattle.std.proofs.Common.{arith, ◌≡◌, ◌↔◌, ◌<◌, ◌∙◌, ℕ, List, Bor, true, false, length, [], refl, ap, sym, subst}
 use Rattle.std.proofs.lemmas.Bool.{false≢true}
 use Rattle.cargo_toml_graph.specs.{Action.Text, Reach.Among, Reach.Reaches, Reach.Reaches.edge}
 use Rattle.cargo_toml_features.specs.Places.{nth_text}
 use Rattle.cargo_toml_resolve.specs.{Numbers.IsPassed, Numbers.IsWanted, Numbers.KeepsLabel, Numbers.Leads, Numbers.PassesAny, Numbers.row_items, Enabling.GainEnabler, Holding.HasTextsOf}
-use Rattle.cargo_toml_resolve.specs.{TakingOver.ChangesIn, TakingOver.ComesToHold, Texts.texts_now}
-use Rattle.cargo_toml_resolve.proofs.{TakenOver.directly, TakenOver.passes_none, TakenOver.source_is, TakenOver.stays_as_it_is, TakenOver.takes_over, Walking.path_inside}
+use Rattle.cargo_toml_resolve.specs.{Holding.ChangesIn, Holding.ComesToHold, Texts.texts_now}
+use Rattle.cargo_toml_resolve.proofs.{TakenOver.directly, TakenOver.passes_none, TakenOver.source_is, TakenOver.stays_as_it_is, TakenOver.takes_over, Steps.path_inside}
 use Rattle.cargo_toml_resolve.proofs.keeping.keep.Goals as goal
 
 pub has_flagged-requires : goal.has_flagged-requires
-has_flagged-requires c = λ x i.
-    let g = c.args.graph.now in
-    let fits : x < length g.flags.items = omega (arith, g.edges_inside c.args.own x (subst (λ l. Among l x) c.row-row.ensures i), g.features_count, g.flags_count) in
-    subst (λ f. x < length f) (sym c.as_slice.ensures.value) fits
+has_flagged-requires c = grind (arith, common_steps, c.row-row.ensures)
 
 pub enable_along-requires : goal.enable_along-requires
 enable_along-requires c = λ y i. subst (λ n. y < n) c.requires.count (c.args.graph.now.edges_inside c.args.own y (subst (λ l. Among l y) c.row-row.ensures i))
@@ -40,13 +38,10 @@ enable_along-requires-2 c = λ y i.
     subst (λ n. y < n) c.requires.count (path_inside (length g.edges) g.edges_inside t.1)
 
 pub name-requires-clause-passed : goal.name-requires-clause-passed
-name-requires-clause-passed c = λ b.
-    subst (λ l. Among l b ↔ IsPassed c.args.graph.now.edges c.args.graph.now.flags.items c.args.own b) (sym (ap (λ v. v.items) c.in_ok-target.ensures.passed)) (c.in_ok-pass.ensures.passed b)
+name-requires-clause-passed c = grind (arith, common_steps, c.in_ok-pass.ensures.passed)
 
 pub set_of_nodes-requires : goal.set_of_nodes-requires
-set_of_nodes-requires c = λ x i.
-    let l = (c.in_ok-name.ensures.names x).0 (subst (λ xs. Among xs x) c.as_slice-3.ensures.value i) in
-    rw c.as_slice-4.ensures.value (c.args.graph.now.names_inside l.0.0 x l.0.2)
+set_of_nodes-requires c = grind (arith, common_steps, c.in_ok-name.ensures.names)
 
 pub hold-requires-clause-at : goal.hold-requires-clause-at
 hold-requires-clause-at c = subst (λ n. c.args.own < n) (c.requires.count ∙ sym c.in_ok-enable_along-2.ensures.same.len) c.requires.own
@@ -58,9 +53,7 @@ hold-requires-clause-passed c = λ b i.
     subst (λ n. b < n) (c.requires.count ∙ sym c.in_ok-enable_along-2.ensures.same.len) (path_inside (length g.edges) g.edges_inside ((c.in_ok-pass.ensures.passed b).0 (subst (λ l. Among l b) same i)).1)
 
 pub hold-requires-clause-apart : goal.hold-requires-clause-apart
-hold-requires-clause-apart c = λ i.
-    let same : c.as_slice-5.result.now ≡ c.pass.new.self.walk.passed.items = c.as_slice-5.ensures.value ∙ ap (λ v. v.items) (c.in_ok-name.ensures.passed ∙ c.in_ok-target.ensures.passed) in
-    false≢true (sym c.requires.kept ∙ ((c.in_ok-pass.ensures.passed c.args.own).0 (subst (λ l. Among l c.args.own) same i)).0)
+hold-requires-clause-apart c = grind (arith, common_steps, c.in_ok-pass.ensures.passed)
 
 pub returns-clause-kept : goal.returns-clause-kept
 returns-clause-kept c =

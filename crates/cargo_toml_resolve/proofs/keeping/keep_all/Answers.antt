@@ -1,13 +1,11 @@
-use Rattle.std.proofs.Common.{rules, subst, arith, ◌≡◌, ◌<◌, true, false, ◌∙◌, length}
-use Rattle.cargo_toml_resolve.specs.{Numbers.IsWanted, Holding.AllTakeOver, Texts.texts_now}
+use Rattle.std.proofs.Common.{rules, arith, ◌≡◌, ◌<◌, true, false, ◌∙◌, length}
+use Rattle.cargo_toml_resolve.specs.{Numbers.IsWanted, Texts.texts_now}
 use Rattle.cargo_toml_resolve.proofs.{Steps.read_at, TakenOver.none_take_over, TakenOver.one_more_takes_over, TakenOver.skipped}
 use Rattle.cargo_toml_resolve.proofs.keeping.keep_all.Goals as goal
 use Rattle.cargo_toml_resolve.proofs.keeping.keep_all.Goals.{then-not-index+in_ok-keep, else-not-index}
 
 pub loop-own-init : goal.loop-own-init
-loop-own-init c =
-    let g = c.args.graph.now in
-    record { taken = none_take_over g.edges g.names g.flags.items (texts_now g.texts.items) c.args.features.now.items; finds = c.requires.finder }
+loop-own-init c = grind (arith, none_take_over c.args.graph.now.edges c.args.graph.now.names c.args.graph.now.flags.items (texts_now c.args.graph.now.texts.items) c.args.features.now.items)
 
 pub loop-own-preserved : goal.loop-own-preserved
 loop-own-preserved c =
@@ -36,7 +34,4 @@ loop-own-preserved c =
     ]
 
 pub returns-clause-kept : goal.returns-clause-kept
-returns-clause-kept c =
-    let g = c.args.graph.now in
-    let all : c.loop-own.own ≡ length g.edges = search rules in
-    subst (λ n. AllTakeOver g.edges g.names g.flags.items (texts_now g.texts.items) n c.args.features.now.items c.loop-own.features.items) all c.loop-own.invariant.taken
+returns-clause-kept c = search rules

@@ -1,4 +1,4 @@
-use Rattle.cargo_toml_resolve.specs.{Holding.AllTakeOver, Texts.texts_now, Walking.FindsIn}
+use Rattle.cargo_toml_resolve.specs.{Holding.AllTakeOver, Texts.texts_now, Dense.FindsIn}
 use Rattle.cargo_toml_resolve.proofs.keeping.keep_all.Given as goal
 
 abbrev pub invariant-loop-own : goal.invariant-loop-own

@@ -1,4 +1,4 @@
-use Rattle.std.proofs.Common.{◌≤◌, length, sym, ap, subst, ◌∙◌}
+use Rattle.std.proofs.Common.{arith, ◌≤◌, length, sym, subst, ◌∙◌}
 use Rattle.std.proofs.lemmas.Bool.{false≢true}
 use Rattle.cargo_toml_resolve.proofs.Placing.{stood}
 use Rattle.cargo_toml_resolve.proofs.kept.hash.Goals as goal
@@ -7,11 +7,7 @@ pub hashed_kept-requires-clause-flags : goal.hashed_kept-requires-clause-flags
 hashed_kept-requires-clause-flags g c = rw c.as_slice.ensures.value (subst (λ n. n ≤ length c.args.walked.now.flags.items) (sym c.in_ok-hidden.ensures.handed.len) c.requires.flags)
 
 pub hashed_kept-requires-clause-once : goal.hashed_kept-requires-clause-once
-hashed_kept-requires-clause-once g c = λ i j v w at at' same.
-    let h = c.in_ok-hidden.ensures.handed in
-    let a = stood c.args.features.items c.hashed_redirects.new.features.items h.len i v at in
-    let b = stood c.args.features.items c.hashed_redirects.new.features.items h.len j w at' in
-    c.requires.names i j a.0 b.0 a.1 b.1 (ap (λ k. k.now) (sym (h.keys i a.0 v a.1 at)) ∙ same ∙ ap (λ k. k.now) (h.keys j b.0 w b.1 at'))
+hashed_kept-requires-clause-once g c = grind (arith, stood, c.in_ok-hidden.ensures.handed, c.requires.names, c.in_ok-hidden.ensures.handed.keys)
 
 pub returns-clause-hashed : goal.returns-clause-hashed
 returns-clause-hashed g c =

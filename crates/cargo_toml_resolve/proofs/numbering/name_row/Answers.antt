@@ -1,9 +1,9 @@
-use Rattle.std.proofs.Common.{rules, ◌≡◌, ◌∷◌, ◌++◌, [], map, sym, subst}
+use Rattle.std.proofs.Common.{arith, rules, ◌≡◌, ◌∷◌, ◌++◌, [], map, sym, subst}
 use Rattle.std.proofs.lemmas.Map.Iter.{iter_end}
-use Rattle.cargo_toml_graph.specs.{Ascending.Ascend, Reach.Among}
+use Rattle.cargo_toml_graph.specs.Reach.{Among}
 use Rattle.cargo_toml_resolve.specs.{Numbering.HasNames, Texts.texts_now}
-use Rattle.cargo_toml_resolve.proofs.Gathered.{seen}
-use Rattle.cargo_toml_resolve.proofs.NumberTexts.{extends_none, extends_then, fits_now, front_still, names_all, names_empty, names_more, names_none, names_still, texts_longer}
+use Rattle.cargo_toml_resolve.proofs.{InOrder.seen, NumberRows.extends_none, NumberRows.extends_then, NumberRows.fits_now, NumberRows.front_still, NumberRows.names_all, NumberRows.names_empty, NumberRows.names_more}
+use Rattle.cargo_toml_resolve.proofs.{NumberRows.names_none, NumberRows.names_still, NumberRows.texts_longer}
 use Rattle.cargo_toml_resolve.proofs.numbering.name_row.Goals as goal
 
 pub returns-then-is_empty-clause-extends : goal.returns-then-is_empty-clause-extends
@@ -13,17 +13,13 @@ pub returns-then-is_empty-clause-names : goal.returns-then-is_empty-clause-names
 returns-then-is_empty-clause-names c = names_empty c.args.count (texts_now c.args.texts.now.items) c.args.named.now c.args.row.now.items c.requires.empty (c.is_empty.ensures.0 c.if-is_empty.true)
 
 pub loop-name-init : goal.loop-name-init
-loop-name-init c = record {
-  extends = extends_none c.args.count (texts_now c.args.texts.now.items);
-  names = names_none c.args.count (texts_now c.args.texts.now.items) c.args.row.now.items c.requires.empty;
-}
+loop-name-init c = grind (arith, extends_none c.args.count (texts_now c.args.texts.now.items), names_none c.args.count (texts_now c.args.texts.now.items) c.args.row.now.items c.requires.empty)
 
 pub node_of-requires-clause-fits : goal.node_of-requires-clause-fits
 node_of-requires-clause-fits c = texts_longer c.args.count c.args.texts.now.items c.loop-name.texts.items c.requires.fits c.loop-name.invariant.extends
 
 pub node_of-requires-clause-keys : goal.node_of-requires-clause-keys
-node_of-requires-clause-keys c =
-    subst Ascend (sym (front_still c.args.count (texts_now c.args.texts.now.items) (texts_now c.loop-name.texts.items) c.loop-name.invariant.extends (fits_now c.args.count c.args.texts.now.items c.requires.fits))) c.requires.keys
+node_of-requires-clause-keys c = grind (arith, front_still, fits_now c.args.count c.args.texts.now.items c.requires.fits, c.loop-name.invariant.extends)
 
 pub loop-name-preserved : goal.loop-name-preserved
 loop-name-preserved c =

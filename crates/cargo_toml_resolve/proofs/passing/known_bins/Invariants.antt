@@ -1,4 +1,4 @@
-use Rattle.cargo_toml_resolve.proofs.KnownBins.{AreBlank}
+use Rattle.cargo_toml_resolve.proofs.BinTurns.{AreBlank}
 use Rattle.cargo_toml_resolve.proofs.passing.known_bins.Given as goal
 
 abbrev pub invariant-loop : goal.invariant-loop

@@ -1,7 +1,8 @@
-use Rattle.std.proofs.Common.{rules, ◌≡◌, ◌<◌, true, false, take, length, ap, refl, sym, subst, ◌∙◌, arith}
+use Rattle.std.proofs.lemmas.Grind.{common_steps}
+use Rattle.std.proofs.Common.{rules, ◌<◌, true, false, take, length, ap, sym, subst, ◌∙◌, arith}
 use Rattle.cargo_toml_graph.specs.Reach.{Among}
-use Rattle.cargo_toml_resolve.specs.{Numbers.IsWanted, Numbers.Leads, Numbers.row_items, KnownBins.AreKnown, Passing.bins_of, Passing.passed_below, Puts.Puts}
-use Rattle.cargo_toml_resolve.proofs.{PutAlong.same_features, PutAlong.then_same, BinTurns.kept_turn, BinTurns.none_passed, BinTurns.one_turn}
+use Rattle.cargo_toml_resolve.specs.{Numbers.IsWanted, Numbers.Leads, Numbers.row_items, Passing.bins_of, Passing.Puts}
+use Rattle.cargo_toml_resolve.proofs.BinTurns.{kept_turn, none_passed, one_turn, same_features, then_same}
 use Rattle.cargo_toml_resolve.proofs.passing.pass_bins.Goals as goal
 use Rattle.cargo_toml_resolve.proofs.passing.pass_bins.Goals.{then-flags-r+in_ok-pass_from, else-flags-r}
 
@@ -9,18 +10,10 @@ pub returns-then-not-have_bins-clause-others : goal.returns-then-not-have_bins-c
 returns-then-not-have_bins-clause-others c = same_features c.args.features.now.items
 
 pub returns-then-not-have_bins-clause-bins : goal.returns-then-not-have_bins-clause-bins
-returns-then-not-have_bins-clause-bins c = λ y below.
-    let old = c.args.features.now.items in
-    let none = (rw c.as_slice.ensures.value at c.have_bins.ensures) c.if-not-have_bins.true in
-    sym (none_passed c.args.redirects.now c.args.flags.now (bins_of old) (length old) none y)
+returns-then-not-have_bins-clause-bins c = grind (arith, none_passed)
 
 pub loop-r-init : goal.loop-r-init
-loop-r-init c = record {
-  known = subst (AreKnown c.in_ok-known.known.items) c.as_slice-2.ensures.value c.in_ok-known.ensures;
-  same = same_features c.args.features.now.items;
-  inside = omega arith;
-  turned = λ y below. refl;
-}
+loop-r-init c = grind (arith, same_features c.args.features.now.items)
 
 pub loop-r-preserved : goal.loop-r-preserved
 loop-r-preserved c =
@@ -54,7 +47,4 @@ loop-r-preserved c =
     ]
 
 pub returns-clause-bins : goal.returns-clause-bins
-returns-clause-bins c = λ y below.
-    let old = c.args.features.now.items in
-    let all : c.loop-r.r ≡ length old = omega (arith, c.len-size.ensures, c.loop-r-test.false, c.loop-r.invariant.inside) in
-    subst (λ n. bins_of c.loop-r.features.items y ≡ passed_below c.args.redirects.now c.args.flags.now n (bins_of old) y) all (c.loop-r.invariant.turned y below)
+returns-clause-bins c = grind (arith, common_steps, c.loop-r.invariant.turned)

@@ -1,5 +1,5 @@
 use Rattle.std.proofs.Common.{◌≤◌, length}
-use Rattle.cargo_toml_resolve.specs.{KnownBins.AreKnown, Passing.bins_of, Passing.AreSameButBins}
+use Rattle.cargo_toml_resolve.specs.Passing.{AreKnown, bins_of, AreSameButBins}
 use Rattle.cargo_toml_resolve.proofs.BinTurns.{Turned}
 use Rattle.cargo_toml_resolve.proofs.passing.pass_bins.Given as goal
 

@@ -1,7 +1,8 @@
-use Rattle.std.proofs.Common.{◌≡◌, ◌≤◌, ◌+◌, take, length, get_or, subst, take_all, arith}
+use Rattle.std.proofs.lemmas.Grind.{common_steps}
+use Rattle.std.proofs.Common.{◌≡◌, ◌≤◌, ◌+◌, take, length, get_or, take_all, arith}
 use Rattle.cargo_toml_graph.specs.Reach.{Among}
-use Rattle.cargo_toml_resolve.proofs.{Steps.among_more, Steps.item_at, Steps.item_is, PutAlong.put_nowhere, PutAlong.put_past, PutAlong.then_put}
-use Rattle.cargo_toml_resolve.specs.{Puts.Puts, Texts.texts_now}
+use Rattle.cargo_toml_resolve.proofs.{Steps.among_more, Steps.item_at, Steps.item_is, BinTurns.put_nowhere, BinTurns.put_past, BinTurns.then_put}
+use Rattle.cargo_toml_resolve.specs.Texts.{texts_now}
 use Rattle.cargo_toml_resolve.proofs.passing.put_along.Goals as goal
 use Rattle.cargo_toml_resolve.proofs.passing.put_along.Goals.{then-place-len+in_ok-put_at, else-place-len}
 
@@ -32,6 +33,4 @@ loop-at-preserved c =
     ]
 
 pub returns-clause-put : goal.returns-clause-put
-returns-clause-put c =
-    let all : take c.loop-at.at-index c.args.row.now ≡ c.args.row.now = take_all c.loop-at.at-index c.args.row.now c.loop-at-test.false in
-    subst (λ row. Puts (Among row) (texts_now c.args.bins.now) c.args.features.now.items c.loop-at.features.items) all c.loop-at.invariant.put
+returns-clause-put c = grind (arith, common_steps, take_all c.loop-at.at-index c.args.row.now c.loop-at-test.false)

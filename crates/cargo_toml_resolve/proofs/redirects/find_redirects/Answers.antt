@@ -1,36 +1,17 @@
-use Rattle.std.proofs.Common.{rules, arith, ◌≡◌, ◌↔◌, ◌<◌, ℕ, List, Bool, true, false, ◌∙◌, ap, sym, subst, length, length-set, replicate}
+use Rattle.std.proofs.lemmas.Grind.{common_steps}
+use Rattle.std.proofs.Common.{rules, arith, ◌↔◌, ◌<◌, ℕ, List, Bool, true, false, ◌∙◌, subst, length, length-set}
 use Rattle.cargo_toml_graph.specs.Reach.{Among}
 use Rattle.cargo_toml_resolve.specs.Numbers.{IsWanted, HasLabel, IsPassed, Moves, Replaces}
-use Rattle.cargo_toml_resolve.proofs.{Closing.none_finished, Cuts.one_more_finished, Cuts.still_finished, RowsInOrder.finds_redirects, RowsInOrder.first_rows, RowsInOrder.none_moved}
-use Rattle.cargo_toml_resolve.proofs.RowsInOrder.{one_more_own, one_more_row, skipped_rows, still_own}
+use Rattle.cargo_toml_resolve.proofs.{Closing.none_finished, RowsInOrder.finds_redirects, RowsInOrder.first_rows, RowsInOrder.none_moved, RowsInOrder.one_more_own, RowsInOrder.one_more_row, RowsInOrder.skipped_rows}
+use Rattle.cargo_toml_resolve.proofs.{RowsInOrder.still_own, RowsInOrder.one_more_finished, RowsInOrder.still_finished}
 use Rattle.cargo_toml_resolve.proofs.redirects.find_redirects.Goals as goal
 use Rattle.cargo_toml_resolve.proofs.redirects.find_redirects.Goals.{then-is_removed-r+in_ok-moved-2, else-is_removed-r}
 
 pub loop-r-init : goal.loop-r-init
-loop-r-init c =
-    let none : c.in_ok-finished.finished.items ≡ replicate (length c.args.is_removed.now) false = c.in_ok-finished.ensures.items_if_clones_equal (λ y e. e) in
-    record {
-      flags = search rules;
-      marks = search rules;
-      room = c.requires.room;
-      is_finished = none_finished c.args.is_removed.now (length c.args.is_removed.now) c.in_ok-finished.finished.items none;
-      edge_rows = first_rows c.args.edges c.args.is_removed.now c.args.edges (length c.args.edges) c.requires.within.edges_inside;
-      label_rows = first_rows c.args.edges c.args.is_removed.now c.args.labels (length c.args.is_removed.now) c.requires.within.labels_inside;
-      own = none_moved c.in_ok-moved.moved.items c.args.labels;
-    }
+loop-r-init c = grind (arith, none_finished, first_rows c.args.edges c.args.is_removed.now c.args.edges (length c.args.edges) c.requires.within.edges_inside, first_rows c.args.edges c.args.is_removed.now c.args.labels (length c.args.is_removed.now) c.requires.within.labels_inside, none_moved c.in_ok-moved.moved.items c.args.labels, c.in_ok-finished.ensures.items_if_clones_equal)
 
 pub redirect-requires-clause-within : goal.redirect-requires-clause-within
-redirect-requires-clause-within c =
-    let old = c.loop-r.invariant in
-    let flags : length c.as_slice-flags.result.now ≡ length c.args.is_removed.now = ap length c.as_slice-flags.ensures.value ∙ old.flags in
-    let edges = old.edge_rows.len in
-    let count = c.requires.within.count in
-    record {
-      same = old.label_rows.len ∙ c.requires.within.same ∙ sym edges;
-      count = omega (arith, flags, edges, count);
-      edges_inside = λ a b i. subst (λ n. b < n) (sym edges) (old.edge_rows.inside a b i);
-      labels_inside = λ a x i. subst (λ n. x < n) (sym flags) (old.label_rows.inside a x i);
-    }
+redirect-requires-clause-within c = grind (arith, common_steps, c.loop-r.invariant, c.loop-r.invariant.flags, c.requires.within.count, c.loop-r.invariant.edge_rows.inside, c.loop-r.invariant.label_rows.inside)
 
 pub loop-r-preserved : goal.loop-r-preserved
 loop-r-preserved c =
@@ -73,8 +54,4 @@ loop-r-preserved c =
     ]
 
 pub returns : goal.returns
-returns c =
-    let same = c.requires.within.same in
-    let size = c.len-r-end.ensures in
-    let end = c.loop-r-test.false in
-    finds_redirects c.args.edges c.args.labels c.args.is_removed.now c.loop-r.moved.items c.loop-r.r c.loop-r.labels (omega (arith, same, size, end)) c.loop-r.invariant.label_rows c.loop-r.invariant.marks c.loop-r.invariant.own
+returns c = grind (arith, finds_redirects, c.requires.within.same, c.len-r-end.ensures, c.loop-r.invariant.label_rows, c.loop-r.invariant.marks)

@@ -1,5 +1,5 @@
 use Rattle.std.proofs.Common.{◌≡◌, length}
-use Rattle.cargo_toml_resolve.proofs.{Cuts.IsFinished, RowsInOrder.KeepsOwn, RowsInOrder.RowsState}
+use Rattle.cargo_toml_resolve.proofs.RowsInOrder.{KeepsOwn, RowsState, IsFinished}
 use Rattle.cargo_toml_resolve.proofs.redirects.find_redirects.Given as goal
 
 abbrev pub invariant-loop-r : goal.invariant-loop-r

@@ -1,6 +1,6 @@
 use Rattle.std.proofs.Common.{◌≡◌, ◌<◌, length, ap, sym, subst}
 use Rattle.cargo_toml_graph.specs.Reach.{Among}
-use Rattle.cargo_toml_resolve.proofs.Walking.{path_inside}
+use Rattle.cargo_toml_resolve.proofs.Steps.{path_inside}
 use Rattle.cargo_toml_resolve.specs.Numbers.{HasLabel, Replaces}
 use Rattle.cargo_toml_resolve.proofs.redirects.redirect.Goals as goal
 

@@ -1,4 +1,4 @@
-use Rattle.std.proofs.Common.{rules, ◌<◌, ◌↔◌, ◌⊎◌, ℕ, length, get_or, ap, sym, subst, ◌∙◌, arith}
+use Rattle.std.proofs.Common.{◌<◌, ◌↔◌, ◌⊎◌, ℕ, length, ap, sym, subst, ◌∙◌, arith}
 use Rattle.std.proofs.lemmas.List.{with_items_is}
 use Rattle.std.specs.Vec.{with_items}
 use Rattle.cargo_toml_resolve.specs.Bits.{HasBit, Holds}
@@ -6,19 +6,10 @@ use Rattle.cargo_toml_resolve.proofs.{Steps.among_at, Steps.item_at, Steps.list_
 use Rattle.cargo_toml_resolve.proofs.tables.join_rows.Goals as goal
 
 pub index_mut-requires : goal.index_mut-requires
-index_mut-requires c =
-    let i = c.requires.named _ (among_at c.args.named.now c.loop-a.a-index c.loop-a-test.true) in
-    let below : get_or c.args.named.now c.loop-a.a-index 0 < length c.loop-a.table.items = omega (arith, i, c.loop-a.invariant.len) in
-    rw (item_at c.args.named.now c.loop-a.a-index _ _ c.loop-a-test.true c.a-item.is c.place.ensures) (search rules)
+index_mut-requires c = grind (arith, among_at c.args.named.now c.loop-a.a-index c.loop-a-test.true, item_at, c.requires.named)
 
 pub join-requires : goal.join-requires
-join-requires c =
-    let i = c.requires.named _ (among_at c.args.named.now c.loop-a.a-index c.loop-a-test.true) in
-    let at = item_at c.args.named.now c.loop-a.a-index _ _ c.loop-a-test.true c.a-item.is c.place.ensures in
-    let below : c.place.result < length c.loop-a.table.items = rw at (omega (arith, i, c.loop-a.invariant.len)) in
-    let first : c.place.result < length c.args.table.now.items = rw at i in
-    ap length (c.as_mut_slice.ensures.value ∙ sym (list_read c.loop-a.table.items c.place.result c.index_mut.result.now below c.index_mut.ensures.value))
-    ∙ c.loop-a.invariant.widths c.place.result ∙ c.requires.wide c.place.result first
+join-requires c = grind (arith, among_at c.args.named.now c.loop-a.a-index c.loop-a-test.true, item_at, list_read, c.requires.named, c.place.ensures, c.loop-a.invariant.widths, c.requires.wide)
 
 pub loop-a-preserved : goal.loop-a-preserved
 loop-a-preserved c =

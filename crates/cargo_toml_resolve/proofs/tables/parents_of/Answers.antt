@@ -2,7 +2,7 @@ use Rattle.std.proofs.Common.{rules, ◌+◌, ◌<◌, ◌↔◌, ℕ, ◌++◌,
 use Rattle.std.proofs.lemmas.Bool.{false≢true}
 use Rattle.cargo_toml_graph.specs.Reach.{Among}
 use Rattle.cargo_toml_resolve.specs.Bits.{HasBit, Holds}
-use Rattle.cargo_toml_resolve.proofs.{Steps.list_read, Tabled.holds_inside, Words.none_more_held, Words.one_more_held}
+use Rattle.cargo_toml_resolve.proofs.{Steps.list_read, Tabled.holds_inside, Tabled.none_more_held, Tabled.one_more_held}
 use Rattle.cargo_toml_resolve.proofs.tables.parents_of.Goals.{then-has_bit+in_ok-push, else-has_bit}
 use Rattle.cargo_toml_resolve.proofs.tables.parents_of.Goals as goal
 
@@ -22,7 +22,4 @@ loop-a-preserved c =
     ]
 
 pub returns : goal.returns
-returns c = λ a. (
-  λ i. ((c.loop-a.invariant a).0 i).1,
-  λ h. let lt = holds_inside c.args.table.now a c.args.of h in (c.loop-a.invariant a).1 (omega (arith, lt), h),
-)
+returns c = grind (arith, holds_inside, c.loop-a.invariant)

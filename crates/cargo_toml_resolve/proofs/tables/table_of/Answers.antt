@@ -1,3 +1,4 @@
+use Rattle.std.proofs.lemmas.Grind.{common_steps}
 use Rattle.std.proofs.Common.{rules, ◌≡◌, ◌+◌, ◌↔◌, ℕ, length, sym, subst, ◌∙◌, ap, arith}
 use Rattle.cargo_toml_graph.specs.Reach.{Among}
 use Rattle.cargo_toml_resolve.specs.{Bits.HasBit, Numbers.Leads, Numbers.row_items}
@@ -5,9 +6,7 @@ use Rattle.cargo_toml_resolve.proofs.{Steps.has_row, Tabled.IsTabled, Tabled.tab
 use Rattle.cargo_toml_resolve.proofs.tables.table_of.Goals as goal
 
 pub bits_of-requires : goal.bits_of-requires
-bits_of-requires c = λ x i.
-    let read = c.row.ensures ∙ ap (row_items c.args.rows.now) c.at.ensures in
-    c.requires _ x (subst (λ t. Among t x) read i)
+bits_of-requires c = grind (arith, common_steps, c.at.ensures, c.requires)
 
 pub loop-a-preserved : goal.loop-a-preserved
 loop-a-preserved c =

@@ -1,7 +1,7 @@
 use Rattle.std.proofs.Common.{rules, ◌<◌, get_or, length}
 use Rattle.std.proofs.lemmas.Option.{slice_get-get_or}
 use Rattle.cargo_toml_features.specs.Views.{action_at}
-use Rattle.cargo_toml_resolve.proofs.{Steps.among_at, Steps.item_at, Passers.begin_join, Passers.next_join, Passers.end_join, TextSets.place_below}
+use Rattle.cargo_toml_resolve.proofs.{Steps.among_at, Steps.item_at, TakingOver.begin_join, TakingOver.next_join, TakingOver.end_join, InOrder.place_below}
 use Rattle.cargo_toml_resolve.proofs.taking_over.join_passed.Goals as goal
 
 pub loop-b-init : goal.loop-b-init

@@ -2,7 +2,7 @@ use Rattle.std.proofs.Common.{rules, ◌<◌, ap, length, true, false, List, ℕ
 use Rattle.std.proofs.lemmas.List.{length-replicate}
 use Rattle.cargo_toml_graph.specs.Reach.{Among}
 use Rattle.cargo_toml_resolve.specs.Numbers.{IsWanted, Leads, FindsNamed}
-use Rattle.cargo_toml_resolve.proofs.Walking.{begins, goes_on, ends, next_below}
+use Rattle.cargo_toml_resolve.proofs.Steps.{begins, goes_on, ends, next_below}
 use Rattle.cargo_toml_resolve.proofs.walk.passing.Goals as goal
 
 pub loop-next-init : goal.loop-next-init

@@ -4,14 +4,10 @@ use Rattle.cargo_toml_resolve.proofs.walk.visit.Goals as goal
 use Rattle.cargo_toml_resolve.proofs.walk.visit.Goals.{then-flags-place+in_ok-meet, else-flags-place}
 
 pub bounds-flags-place : goal.bounds-flags-place
-bounds-flags-place c =
-    let i = c.requires.inside _ (among_at c.args.targets.now c.loop-x.x-index c.loop-x-test.true) in
-    rw (item_at c.args.targets.now c.loop-x.x-index _ _ c.loop-x-test.true c.x-item.is c.place.ensures) (omega (arith, i, c.requires.fits))
+bounds-flags-place c = grind (arith, among_at c.args.targets.now c.loop-x.x-index c.loop-x-test.true, item_at, c.requires.inside)
 
 pub meet-requires-clause-inside : goal.meet-requires-clause-inside
-meet-requires-clause-inside c =
-    let i = c.requires.inside _ (among_at c.args.targets.now c.loop-x.x-index c.loop-x-test.true) in
-    rw (item_is c.args.targets.now c.loop-x.x-index _ c.loop-x-test.true c.x-item.is) (omega (arith, i, c.loop-x.invariant.len))
+meet-requires-clause-inside c = grind (arith, among_at c.args.targets.now c.loop-x.x-index c.loop-x-test.true, item_is, c.requires.inside)
 
 pub loop-x-preserved : goal.loop-x-preserved
 loop-x-preserved c =

@@ -1,4 +1,4 @@
-use Rattle.std.proofs.Common.{rules, false, subst, ◌∙◌, ap, get_or, []}
+use Rattle.std.proofs.Common.{arith, rules, false, subst, ◌∙◌, ap, get_or, []}
 use Rattle.cargo_toml_graph.specs.Reach.{Among}
 use Rattle.cargo_toml_resolve.specs.Numbers.{IsWanted, FindsNamed}
 use Rattle.cargo_toml_resolve.proofs.{Steps.among_at, Steps.item_is, Labelled.one_more_list, Labelled.all_listed, Labelled.begin_list}
@@ -8,8 +8,7 @@ pub loop-b-init : goal.loop-b-init
 loop-b-init c = begin_list c.args.labels.now c.args.flags.now false c.args.passed.now c.args.found.now.items c.args.met.now c.requires.marks
 
 pub row-requires : goal.row-requires
-row-requires c =
-    rw (item_is c.args.passed.now c.loop-b.b-index _ c.loop-b-test.true c.b-item.is) (c.requires.passed _ (among_at c.args.passed.now c.loop-b.b-index c.loop-b-test.true))
+row-requires c = grind (arith, item_is, among_at c.args.passed.now c.loop-b.b-index c.loop-b-test.true, c.requires.passed)
 
 pub loop-b-preserved : goal.loop-b-preserved
 loop-b-preserved c =

@@ -1,4 +1,4 @@
-use Rattle.std.proofs.Common.{◌∙◌, Some, ap, map, option_map, sym}
+use Rattle.std.proofs.Common.{rules, ◌∙◌, Some, ap, map, option_map, sym}
 use Rattle.cargo_toml.specs.Manifests.{manifest_meaning}
 use Rattle.cargo_toml.specs.Packages.{package_meaning}
 use Rattle.cargo_toml_tools.specs.IndexLines.{line_data}

@@ -1,12 +1,11 @@
-use Rattle.cargo_toml_write.proofs.ReadAgain.{each_read, list_again}
-use Rattle.cargo_toml_write.proofs.ReadAgainManifests.{entries_again}
-use Rattle.cargo_toml_write.proofs.ReadAgainTables.{groups_again}
+use Rattle.cargo_toml_write.proofs.ReadAgain.{again, list_again, map_any}
+use Rattle.cargo_toml_write.proofs.ReadAgainTypes.{entries_again, groups_again}
 use Rattle.cargo_toml_write.proofs.laws.collections_are_read_again.Goals as goal
 
 pub returns : goal.returns
 returns g c = record {
-  lists = list_again g.T.ToValue.way;
-  maps = each_read g.T.ToValue.way;
-  dependencies = entries_again;
-  lints = groups_again;
+  lists = λ reads each xs. (list_again g.T.ToValue.way reads (again each)).each xs tt;
+  maps = λ reads each es. (map_any {way = g.T.ToValue.way} {reads = reads} (again each)).each es tt;
+  dependencies = entries_again.each;
+  lints = groups_again.each;
 }

@@ -1,4 +1,4 @@
-use Rattle.cargo_toml_write.proofs.ReadManifests.{document_stays, document_told, tree_told}
+use Rattle.cargo_toml_write.proofs.ReadParts.{document_stays, document_told, tree_told}
 use Rattle.cargo_toml_write.proofs.laws.read_manifests_are_told.Goals as goal
 
 pub returns : goal.returns

@@ -1,4 +1,4 @@
-use Rattle.cargo_toml_write.proofs.ReadManifests.{document_asked, tree_asked}
+use Rattle.cargo_toml_write.proofs.ReadParts.{document_asked, tree_asked}
 use Rattle.cargo_toml_write.proofs.laws.read_manifests_are_written.Goals as goal
 
 pub returns : goal.returns

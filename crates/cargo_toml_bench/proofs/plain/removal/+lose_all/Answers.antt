@@ -4,7 +4,7 @@ use Rattle.std.proofs.lemmas.Option.{MatchOption-at_none}
 use Rattle.cargo_toml_graph.specs.Reach.{IsOnce}
 use Rattle.cargo_toml_resolve.specs.Texts.{texts_now}
 use Rattle.cargo_toml_bench.specs.Removing.{ChangesAll, Loses}
-use Rattle.cargo_toml_bench.proofs.Turns.{nothing_changes, turn}
+use Rattle.cargo_toml_bench.proofs.Taken.{nothing_changes, turn}
 use Rattle.cargo_toml_bench.proofs.plain.removal.+lose_all.Goals as goal
 
 pub returns-in_default : goal.returns-in_default

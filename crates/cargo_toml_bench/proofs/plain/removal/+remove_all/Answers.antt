@@ -7,7 +7,7 @@ use Rattle.cargo_toml_graph.specs.Removal.{pass_bins, without_one}
 use Rattle.cargo_toml_graph.proofs.Texts.{apart_false}
 use Rattle.cargo_toml_resolve.specs.Texts.{texts_now}
 use Rattle.cargo_toml_bench.specs.Removing.{AreTakenOut}
-use Rattle.cargo_toml_bench.proofs.InTurn.{bins_then, first_out, none_out, start_then}
+use Rattle.cargo_toml_bench.proofs.Taken.{bins_then, first_out, none_out, start_then}
 use Rattle.cargo_toml_bench.proofs.plain.removal.+remove_all.Goals as goal
 
 pub returns-in_default : goal.returns-in_default

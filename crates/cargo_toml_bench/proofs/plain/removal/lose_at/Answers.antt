@@ -1,7 +1,7 @@
 use Rattle.std.proofs.Common.{ap, sym, ◌∙◌}
 use Rattle.std.specs.Option.{option_copied_mut}
 use Rattle.cargo_toml_bench.specs.Removing.{Loses}
-use Rattle.cargo_toml_bench.proofs.Turns.{changed_at}
+use Rattle.cargo_toml_bench.proofs.Taken.{changed_at}
 use Rattle.cargo_toml_bench.proofs.plain.removal.lose_at.Goals as goal
 
 pub returns-in_ok-lose : goal.returns-in_ok-lose

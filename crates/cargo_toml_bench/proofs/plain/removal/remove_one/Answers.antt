@@ -1,7 +1,6 @@
 use Rattle.std.proofs.Common.{sym, ◌∙◌}
 use Rattle.cargo_toml_bench.specs.Removing.{Loses}
-use Rattle.cargo_toml_bench.proofs.Taken.{still_there, taken_out, redirected}
-use Rattle.cargo_toml_bench.proofs.Turns.{all_turned}
+use Rattle.cargo_toml_bench.proofs.Taken.{still_there, taken_out, redirected, all_turned}
 use Rattle.cargo_toml_bench.proofs.plain.removal.remove_one.Goals as goal
 
 pub returns-in_ok-insert-clause-left : goal.returns-in_ok-insert-clause-left

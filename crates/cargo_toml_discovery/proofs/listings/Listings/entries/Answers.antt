@@ -1,13 +1,10 @@
 use Rattle.std.proofs.Common.{◌≡◌, ◌++◌, ◌∙◌, sym, ap, List, [], map, subst, string_bytes, append-nil, Option, unwrap_or, String}
-use Rattle.std.specs.Map.Iter.{deref}
-use Rattle.std.specs.declared.alloc.Global.{Global}
+use Rattle.std.specs.{Map.Iter.deref, declared.alloc.Global.Global}
 use Rattle.std.proofs.lemmas.Map.Iter.{rest_all}
-use Rattle.cargo_toml_discovery.proofs.Unique.{Sorted, ascend-set}
+use Rattle.cargo_toml_discovery.{proofs.Unique.Sorted, proofs.Unique.ascend-set, specs.Found.Named}
 use Rattle.cargo_toml_discovery.proofs.Ascend.{ascend-named, none-ascend}
 use Rattle.cargo_toml_discovery.specs.Answers.{answers_of, names_in, named_in}
-use Rattle.cargo_toml_discovery.specs.Found.{Named}
-use Rattle.cargo_toml_discovery.specs.Names.{Name}
-use Rattle.cargo_toml_discovery.specs.Walk.{NamesAscend, all_named, named_of}
+use Rattle.cargo_toml_discovery.specs.{Names.Name, Walk.NamesAscend, Walk.all_named, Walk.named_of}
 use Rattle.cargo_toml_discovery.specs.declared.listings.Entry.{Entry}
 use Rattle.cargo_toml_discovery.proofs.listings.Listings.entries.Goals as goal
 

@@ -1,6 +1,5 @@
 use Rattle.std.proofs.Common.{ap, ◌∙◌, List, [], Option, unwrap_or}
-use Rattle.cargo_toml_discovery.proofs.Unique.{has-set}
-use Rattle.cargo_toml_discovery.specs.Names.{Name, has_text}
+use Rattle.cargo_toml_discovery.{proofs.Unique.has-set, specs.Names.Name, specs.Names.has_text}
 use Rattle.cargo_toml_discovery.proofs.listings.Listings.has.Goals as goal
 
 pub returns-in-Some : goal.returns-in-Some

@@ -1,6 +1,5 @@
-use Rattle.std.proofs.Common.{string_bytes, Some}
+use Rattle.std.proofs.{Common.string_bytes, Common.Some, lemmas.Map.Text.btree_map_updates_text}
 use Rattle.cargo_toml_discovery.proofs.Lookups.{answer_at-kept}
-use Rattle.std.proofs.lemmas.Map.Text.{btree_map_updates_text}
 use Rattle.cargo_toml_discovery.proofs.listings.Listings.keep.Goals as goal
 
 pub returns : goal.returns

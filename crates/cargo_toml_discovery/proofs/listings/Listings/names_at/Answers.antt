@@ -1,7 +1,5 @@
-use Rattle.std.proofs.Common.{ap, sym, ◌∙◌}
-use Rattle.std.specs.Option.{option_map}
-use Rattle.cargo_toml_discovery.proofs.Lookups.{answer_at-get}
-use Rattle.cargo_toml_discovery.specs.Answers.{texts_in}
+use Rattle.std.{proofs.Common.ap, proofs.Common.sym, proofs.Common.◌∙◌, specs.Option.option_map}
+use Rattle.cargo_toml_discovery.{proofs.Lookups.answer_at-get, specs.Answers.texts_in}
 use Rattle.cargo_toml_discovery.proofs.listings.Listings.names_at.Goals as goal
 
 pub returns : goal.returns

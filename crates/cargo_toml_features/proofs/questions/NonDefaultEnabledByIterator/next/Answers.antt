@@ -1,6 +1,5 @@
 use Rattle.std.proofs.Common.{rules, tests, not, bytes_eq, codes, subst, arith, List, Bor}
-use Rattle.std.proofs.lemmas.Grind.{common_steps}
-use Rattle.std.specs.Iterator.{YieldsFirst}
+use Rattle.std.{proofs.lemmas.Grind.common_steps, specs.Iterator.YieldsFirst}
 use Rattle.cargo_toml_graph.specs.Action.{Text}
 use Rattle.cargo_toml_features.specs.NonDefault.{without_default}
 use Rattle.cargo_toml_features.proofs.NextName.{first_passing, first_copied}

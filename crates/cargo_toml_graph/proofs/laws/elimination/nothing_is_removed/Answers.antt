@@ -1,5 +1,4 @@
-use Rattle.std.proofs.Common.{IsTrue, sym, ◌∙◌}
-use Rattle.std.proofs.lemmas.Bool.{false≢true}
+use Rattle.std.proofs.{Common.IsTrue, Common.sym, Common.◌∙◌, lemmas.Bool.false≢true}
 use Rattle.cargo_toml_graph.proofs.Unremoved.{resolved_unremoved}
 use Rattle.cargo_toml_graph.proofs.laws.elimination.nothing_is_removed.Goals as goal
 

@@ -1,4 +1,4 @@
-use Rattle.std.proofs.Common.{string_bytes, subst, ap, ◌∙◌}
+use Rattle.std.proofs.Common.{rules, string_bytes, subst, ap}
 use Rattle.std.proofs.lemmas.Map.Iter.{rest_all, rest_more}
 use Rattle.std.specs.List.{flat_map}
 use Rattle.std.specs.Map.Iter.{deref}
@@ -10,15 +10,10 @@ use Rattle.cargo_toml_lint.proofs.Adding.{adding_done, adding_more, begun, flat_
 use Rattle.cargo_toml_lint.proofs.known.Keys.add_targets.Goals as goal
 
 pub loop-target-init : goal.loop-target-init
-loop-target-init c = begun AddsKeys _ _ c.args.self.now (ap (flat_map (λ (t : Target). target_keys
-    (target_meaning t)))
-    (c.into_iter-target-iterator.ensures.into_iter_gives ∙ c.values-target-items.ensures.rest))
+loop-target-init c = search (rules, begun)
 
 pub loop-target-preserved : goal.loop-target-preserved
-loop-target-preserved c = adding_more
-    (ap (flat_map (λ (t : Target). target_keys (target_meaning t))) (rest_more deref _ _ _
-    c.in-Some.target c.in-Some.is c.next.ensures.steps))
-    c.in_ok-add_target.ensures c.loop-target.invariant
+loop-target-preserved c = search (rules, adding_more, rest_more)
 
 pub returns : goal.returns
 returns c =

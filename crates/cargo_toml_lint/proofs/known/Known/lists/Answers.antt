@@ -1,5 +1,5 @@
 use Rattle.std.proofs.Common.{map, string_bytes, ◌∙◌}
-use Rattle.cargo_toml_lint.proofs.Chosen.{listed_in}
+use Rattle.cargo_toml_lint.proofs.Gathered.{listed_in}
 use Rattle.cargo_toml_lint.proofs.known.Known.lists.Goals as goal
 
 pub returns : goal.returns

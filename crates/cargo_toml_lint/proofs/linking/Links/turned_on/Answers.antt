@@ -1,7 +1,6 @@
-use Rattle.std.proofs.Common.{◌≡◌, ◌<◌, IfSome, length, map, subst, sym, ◌∙◌}
+use Rattle.std.proofs.Common.{rules, ◌≡◌, ◌<◌, IfSome, length, map, subst}
 use Rattle.std.proofs.lemmas.Bool.{false≢true}
 use Rattle.std.proofs.lemmas.Result.{IfOk-weaker}
-use Rattle.cargo_toml.specs.Reach.{Among}
 use Rattle.cargo_toml_features.proofs.TextKeys.{none_in}
 use Rattle.cargo_toml_features.specs.Places.{nth_text}
 use Rattle.cargo_toml_lint.proofs.Leading.{in_place}
@@ -16,7 +15,4 @@ returns-in-Some c =
     c.led_to.ensures
 
 pub returns-in-None : goal.returns-in-None
-returns-in-None c = λ t are x. (
-  λ h. absurd (false≢true (sym (none_in c.new.result c.new.ensures.empty x) ∙ h)),
-  λ h. absurd (c.place_of.ensures.missing c.in-None.is (subst (λ ns. Among (map (λ t. t.now) ns) c.args.name.now) (sym c.as_slice.ensures.value) ((are.known c.args.name.now).0 h.0))),
-)
+returns-in-None c = search (rules, false≢true, none_in)

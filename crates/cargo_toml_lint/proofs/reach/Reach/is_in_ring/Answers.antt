@@ -1,42 +1,34 @@
-use Rattle.std.proofs.Common.{ℕ, refl, inl, inr, sym, subst, get_or, ◌∙◌}
+use Rattle.std.proofs.Common.{rules, ℕ, refl, inr, sym, subst, get_or, ◌∙◌}
 use Rattle.std.proofs.lemmas.Bool.{false≢true}
 use Rattle.cargo_toml.specs.Reach.{Among}
 use Rattle.cargo_toml.specs.Reach.Reaches.{edge}
-use Rattle.cargo_toml_lint.specs.Reached.{Leads, Path}
+use Rattle.cargo_toml_lint.specs.Reached.{Leads}
 use Rattle.cargo_toml_lint.proofs.Meeting.{first_step}
-use Rattle.cargo_toml_lint.proofs.Rows.{among_all, among_at, among_more, row_read}
+use Rattle.cargo_toml_lint.proofs.Rows.{among_all, among_at, among_more, list_read}
 use Rattle.cargo_toml_lint.proofs.reach.Reach.is_in_ring.Goals.{else-x-own-via-then-x-own+else-leads, else-x-own-via-else-x-own}
 use Rattle.cargo_toml_lint.proofs.reach.Reach.is_in_ring.Goals as goal
 
 pub leads-requires-clause-from : goal.leads-requires-clause-from
 leads-requires-clause-from c =
     let next = c.args.self.now.next.items in
-    let same = c.as_slice-targets.ensures.value ∙ sym (row_read next c.args.own c.index.result.now c.requires.inside c.index.ensures) in
+    let same = c.as_slice-targets.ensures.value ∙ sym (list_read next c.args.own c.index.result.now c.requires.inside c.index.ensures) in
     c.requires.finished.whole.inside c.args.own _ (subst (λ t. Among t (get_or c.as_slice-targets.result.now c.loop-x.x-index 0)) same (among_at c.as_slice-targets.result.now c.loop-x.x-index c.loop-x-test.true))
 
 pub returns-then-leads : goal.returns-then-leads
 returns-then-leads c =
     let next = c.args.self.now.next.items in
-    let same = c.as_slice-targets.ensures.value ∙ sym (row_read next c.args.own c.index.result.now c.requires.inside c.index.ensures) in
+    let same = c.as_slice-targets.ensures.value ∙ sym (list_read next c.args.own c.index.result.now c.requires.inside c.index.ensures) in
     let x : ℕ = get_or c.as_slice-targets.result.now c.loop-x.x-index 0 in
     let lead : Leads next c.args.own x = subst (λ t. Among t x) same (among_at c.as_slice-targets.result.now c.loop-x.x-index c.loop-x-test.true) in
     (λ _. (x, c.if-x-own.true, inr (tt, edge lead), c.leads.ensures.0 c.if-leads.true), λ _. refl)
 
 pub loop-x-preserved : goal.loop-x-preserved
-loop-x-preserved c = λ y i ne p.
-    let next = c.args.self.now.next.items in
-    elim ((among_more c.as_slice-targets.result.now c.loop-x.x-index y c.loop-x-test.true).0 i) [
-      | inl j ↦ c.loop-x.invariant y j ne p
-      | inr e ↦ elim c.else-x-own.branch [
-        | else-x-own-via-then-x-own+else-leads w ↦ absurd (false≢true (sym w.if-leads.false ∙ w.leads.ensures.1 (subst (λ v. Path next v c.args.own) e p)))
-        | else-x-own-via-else-x-own w ↦ absurd (ne (e ∙ w.if-x-own.false))
-      ]
-    ]
+loop-x-preserved c = search (rules, among_more, false≢true, else-x-own-via-else-x-own)
 
 pub returns : goal.returns
 returns c =
     let next = c.args.self.now.next.items in
-    let same = c.as_slice-targets.ensures.value ∙ sym (row_read next c.args.own c.index.result.now c.requires.inside c.index.ensures) in (
+    let same = c.as_slice-targets.ensures.value ∙ sym (list_read next c.args.own c.index.result.now c.requires.inside c.index.ensures) in (
       λ e. absurd (false≢true e),
       λ ring.
           let s = first_step next c.args.own ring in

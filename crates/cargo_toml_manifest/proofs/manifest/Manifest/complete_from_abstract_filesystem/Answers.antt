@@ -1,10 +1,8 @@
-use Rattle.std.proofs.Common.{refl, sym, subst}
+use Rattle.std.proofs.{Common.refl, Common.sym, Common.subst, lemmas.Result.err_from_is_err_and}
 use Rattle.std.specs.Prelude.{option_map}
-use Rattle.std.proofs.lemmas.Result.{err_from_is_err_and}
 use Rattle.cargo_toml_discovery.specs.Answers.{filled}
 use Rattle.cargo_toml_manifest.specs.Choosing.{RootsTold, handed_of, roots_of}
-use Rattle.cargo_toml_manifest.specs.Completing.{GivenBy}
-use Rattle.cargo_toml_manifest.specs.Manifests.{ManifestMeaning, held}
+use Rattle.cargo_toml_manifest.specs.{Completing.GivenBy, Manifests.ManifestMeaning, Manifests.held}
 use Rattle.cargo_toml_manifest.proofs.Answering.{met_given, met_refused, refused_by}
 use Rattle.cargo_toml_manifest.proofs.Lasting.{complete_done, known, complete_lasts}
 use Rattle.cargo_toml_manifest.proofs.Meeting.{given_again, put_in}

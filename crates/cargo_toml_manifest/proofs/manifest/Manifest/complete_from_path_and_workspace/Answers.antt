@@ -1,5 +1,4 @@
-use Rattle.std.proofs.Common.{inr}
-use Rattle.std.proofs.lemmas.Result.{IfErr-weaker}
+use Rattle.std.proofs.{Common.inr, lemmas.Result.IfErr-weaker}
 use Rattle.cargo_toml_manifest.proofs.manifest.Manifest.complete_from_path_and_workspace.Goals as goal
 
 pub returns-clause-refused : goal.returns-clause-refused

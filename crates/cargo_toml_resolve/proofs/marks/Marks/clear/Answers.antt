@@ -1,7 +1,7 @@
-use Rattle.std.proofs.Common.{◌≡◌, ◌<◌, false, replicate, length, nat_eq, sym, ap, ◌∙◌, arith, rules}
+use Rattle.std.proofs.Common.{◌<◌, false, replicate, length, ap, ◌∙◌, arith}
 use Rattle.std.proofs.lemmas.List.{length-map}
 use Rattle.std.specs.Vec.{vec_len}
-use Rattle.cargo_toml_resolve.proofs.Marked.{marks_at, none_marked, none_at_first}
+use Rattle.cargo_toml_resolve.proofs.Steps.{none_marked, none_at_first}
 use Rattle.cargo_toml_resolve.proofs.marks.Marks.clear.Goals as goal
 
 pub returns-in-Some : goal.returns-in-Some
@@ -11,7 +11,4 @@ returns-in-Some c =
     ∙ ap (λ l. replicate (length l) false) c.self.view_is
 
 pub returns-in-None : goal.returns-in-None
-returns-in-None c =
-    let count : vec_len c.self.inside.stamps ≡ length c.self.inside.stamps.items = search rules in
-    ap (marks_at 1) (c.fill.ensures.items (λ y e. e)) ∙ none_at_first (vec_len c.self.inside.stamps)
-    ∙ ap (λ n. replicate n false) (count ∙ sym (length-map c.self.inside.stamps.items (λ s. nat_eq s c.self.inside.epoch)) ∙ ap length c.self.view_is)
+returns-in-None c = grind (arith, none_at_first (vec_len c.self.inside.stamps), length-map)

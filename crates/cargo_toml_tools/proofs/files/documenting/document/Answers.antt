@@ -1,4 +1,4 @@
-use Rattle.std.proofs.Common.{subst, sym}
+use Rattle.std.proofs.Common.{rules, subst, sym}
 use Rattle.std.proofs.lemmas.Result.{IfErr-weaker, on_ok_weaker}
 use Rattle.cargo_toml_tools.specs.FromFiles.{IsManifestIn}
 use Rattle.cargo_toml_tools.proofs.FileFacts.{of_input}

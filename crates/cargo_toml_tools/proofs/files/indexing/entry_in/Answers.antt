@@ -1,4 +1,4 @@
-use Rattle.std.proofs.Common.{inl, inr, subst, sym}
+use Rattle.std.proofs.Common.{rules, inl, inr, subst, sym}
 use Rattle.std.proofs.lemmas.Result.{err_from_is_err_and}
 use Rattle.toml.specs.View.{view}
 use Rattle.cargo_toml.specs.Manifests.{ManifestRefuses, held, manifest_meaning, manifest_reads}
@@ -9,20 +9,13 @@ use Rattle.cargo_toml_tools.specs.Linted.{AreFindingsOf}
 use Rattle.cargo_toml_tools.proofs.files.indexing.entry_in.Goals as goal
 
 pub returns-in_err-read-clause-refused : goal.returns-in_err-read-clause-refused
-returns-in_err-read-clause-refused g c =
-    let p = err_from_is_err_and c.from_residual.result c.from_residual.ensures.1 in
-    rw (p.1, p.2) (inl c.in_err-read.ensures)
+returns-in_err-read-clause-refused g c = search (rules, err_from_is_err_and)
 
 pub returns-in_err-held-clause-refused : goal.returns-in_err-held-clause-refused
-returns-in_err-held-clause-refused g c =
-    let p = err_from_is_err_and c.from_residual-in_err-held.result c.from_residual-in_err-held.ensures.1 in
-    rw (p.1, p.2) (inr (refused_in_file c.args.file.now c.as_str-text.result.now (manifest_meaning view) (manifest_reads any_tree)
-    (ManifestRefuses any_tree AnyRefuses) _ c.as_str-text.utf8 c.in_err-held.ensures.refused))
+returns-in_err-held-clause-refused g c = search (rules, err_from_is_err_and, refused_in_file)
 
 pub returns-in_err-findings-clause-refused : goal.returns-in_err-findings-clause-refused
-returns-in_err-findings-clause-refused g c =
-    let p = err_from_is_err_and c.from_residual-in_err-findings.result c.from_residual-in_err-findings.ensures.1 in
-    rw (p.1, p.2) (inl c.in_err-findings.ensures.refused)
+returns-in_err-findings-clause-refused g c = search (rules, err_from_is_err_and)
 
 pub returns-in_err-index_entry-clause-refused : goal.returns-in_err-index_entry-clause-refused
 returns-in_err-index_entry-clause-refused g c =

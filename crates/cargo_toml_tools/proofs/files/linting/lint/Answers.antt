@@ -1,4 +1,4 @@
-use Rattle.std.proofs.Common.{subst, sym}
+use Rattle.std.proofs.Common.{rules, subst, sym}
 use Rattle.std.proofs.lemmas.Result.{err_from_is_err_and}
 use Rattle.cargo_toml.specs.Manifests.{held}
 use Rattle.cargo_toml_tools.specs.FromFiles.{IsManifestIn}
@@ -7,9 +7,7 @@ use Rattle.cargo_toml_tools.proofs.FileFacts.{of_input}
 use Rattle.cargo_toml_tools.proofs.files.linting.lint.Goals as goal
 
 pub returns-in_err-findings-clause-refused : goal.returns-in_err-findings-clause-refused
-returns-in_err-findings-clause-refused g c =
-    let p = err_from_is_err_and c.from_residual-in_err-findings.result c.from_residual-in_err-findings.ensures.1 in
-    rw (p.1, p.2) (of_input _ c.in_err-findings.ensures.refused)
+returns-in_err-findings-clause-refused g c = search (rules, err_from_is_err_and, of_input)
 
 pub returns-clause-linted : goal.returns-clause-linted
 returns-clause-linted g c =

@@ -1,3 +1,4 @@
+use Rattle.std.proofs.Common.{rules}
 use Rattle.cargo_toml_tools.proofs.files.linting.lint_lines.Goals as goal
 
 pub returns-clause-flagged : goal.returns-clause-flagged

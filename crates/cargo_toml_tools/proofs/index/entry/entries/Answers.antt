@@ -1,4 +1,4 @@
-use Rattle.std.proofs.Common.{ap, map}
+use Rattle.std.proofs.Common.{rules, ap, map}
 use Rattle.std.proofs.lemmas.List.{drop_all}
 use Rattle.cargo_toml_tools.specs.IndexEntries.{table_entries}
 use Rattle.cargo_toml_tools.specs.Sections.{table_of, wanted_of}

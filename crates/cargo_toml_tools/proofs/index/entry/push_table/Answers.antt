@@ -1,4 +1,4 @@
-use Rattle.std.proofs.Common.{◌++◌, ◌∙◌, ap, map}
+use Rattle.std.proofs.Common.{rules, ◌++◌, ◌∙◌, ap, map}
 use Rattle.std.proofs.lemmas.Map.Iter.{rest_all, rest_more}
 use Rattle.std.specs.Map.Iter.{deref_pair}
 use Rattle.serde_json.specs.View.{view}

@@ -1,4 +1,4 @@
-use Rattle.std.proofs.Common.{map, sym, ◌∙◌}
+use Rattle.std.proofs.Common.{rules, map, sym, ◌∙◌}
 use Rattle.std.proofs.lemmas.Result.{on_ok_weaker}
 use Rattle.serde_json.specs.View.{members_view}
 use Rattle.cargo_toml_tools.specs.Sections.{kept_list}
@@ -6,9 +6,7 @@ use Rattle.cargo_toml_tools.proofs.Placed.{first_version, second_version}
 use Rattle.cargo_toml_tools.proofs.index.features.put_features.Goals as goal
 
 pub returns-then-not-has_extended : goal.returns-then-not-has_extended
-returns-then-not-has_extended c =
-    first_version (map kept_list c.args.lists.now) (members_view c.args.line.now.entries) (members_view c.put.new.map.entries) _
-    c.in_ok-put.ensures.ok c.in_ok-object.ensures (sym c.has_extended.ensures ∙ c.if-not-has_extended.true)
+returns-then-not-has_extended c = search (rules, first_version)
 
 pub returns : goal.returns
 returns c = on_ok_weaker c.put-3.result

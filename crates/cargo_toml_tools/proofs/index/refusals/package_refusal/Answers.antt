@@ -1,4 +1,4 @@
-use Rattle.std.proofs.Common.{ap, codes, ◌∙◌}
+use Rattle.std.proofs.Common.{rules, ap, codes, ◌∙◌}
 use Rattle.cargo_toml_tools.specs.Indexed.{refuse_if}
 use Rattle.cargo_toml_tools.specs.Sections.{refused}
 use Rattle.cargo_toml_tools.specs.declared.index.refusals.Fault.TheVariants.{Incomplete}

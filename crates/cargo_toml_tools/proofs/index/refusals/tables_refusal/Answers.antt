@@ -1,4 +1,4 @@
-use Rattle.std.proofs.Common.{ap, map, sym, ◌∙◌}
+use Rattle.std.proofs.Common.{rules, ap, map, sym, ◌∙◌}
 use Rattle.std.proofs.lemmas.List.{drop_all}
 use Rattle.cargo_toml_tools.specs.Indexed.{table_refusal}
 use Rattle.cargo_toml_tools.specs.Sections.{names_of, refused, table_of}
@@ -7,16 +7,10 @@ use Rattle.cargo_toml_tools.proofs.Refused.{first_found, first_missed, first_non
 use Rattle.cargo_toml_tools.proofs.index.refusals.tables_refusal.Goals as goal
 
 pub loop-section-preserved : goal.loop-section-preserved
-loop-section-preserved c =
-    first_missed (table_refusal (names_of c.args.names.now)) refused (table_of c.section-item.result) _ _ _ c.table_refusal-found.result
-    (left_next table_of c.args.sections.now c.loop-section.section-index c.section-item.result c.loop-section-test.true c.section-item.is)
-    c.table_refusal-found.ensures c.loop-section.invariant (sym c.is_some.ensures ∙ c.if-is_some.false)
+loop-section-preserved c = search (rules, first_missed, left_next)
 
 pub returns-then-is_some : goal.returns-then-is_some
-returns-then-is_some c =
-    first_found (table_refusal (names_of c.args.names.now)) refused (table_of c.section-item.result) _ _ _ c.table_refusal-found.result
-    (left_next table_of c.args.sections.now c.loop-section.section-index c.section-item.result c.loop-section-test.true c.section-item.is)
-    c.table_refusal-found.ensures c.loop-section.invariant (sym c.is_some.ensures ∙ c.if-is_some.true)
+returns-then-is_some c = search (rules, first_found, left_next)
 
 pub returns : goal.returns
 returns c = first_none (table_refusal (names_of c.args.names.now)) _ _

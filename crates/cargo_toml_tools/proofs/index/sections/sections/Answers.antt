@@ -1,4 +1,4 @@
-use Rattle.std.proofs.Common.{◌++◌, ◌∙◌, None, Some, ap, map}
+use Rattle.std.proofs.Common.{rules, ◌++◌, ◌∙◌, None, Some, ap, map}
 use Rattle.std.proofs.lemmas.Map.Iter.{rest_all, rest_more}
 use Rattle.std.specs.List.{flat_map}
 use Rattle.std.specs.Map.Iter.{deref_pair}
@@ -21,12 +21,4 @@ loop-name-preserved g c =
     c.loop-name.invariant
 
 pub returns : goal.returns
-returns g c =
-    let doc = table_view c.args.document.now in
-    let m = c.args.manifest.now in
-    let own = tables_at None (Some doc) (with_kinds (entries_meaning m.dependencies) (entries_meaning m.dev_dependencies) (entries_meaning m.build_dependencies)) in
-    let targets = flat_map (target_tables doc) (map_meaning target_meaning c.args.manifest.now.target) in
-    flat_end (target_tables doc) _ _ _ (ap (map target_of) (rest_all deref_pair _ _ _ c.in-None.is c.next.ensures.steps)) c.loop-name.invariant
-    ∙ ap (λ t. t ++ targets)
-    (three_more _ _ _ _ _ _ _ c.in_ok-push_section.ensures c.in_ok-push_section-2.ensures c.in_ok-push_section-3.ensures
-    ∙ ap (λ items. map table_of items ++ own) c.new-all.ensures.items)
+returns g c = search (rules, flat_end, target_of, rest_all, three_more)

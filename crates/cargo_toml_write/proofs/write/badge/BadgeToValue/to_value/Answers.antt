@@ -1,20 +1,14 @@
-use Rattle.cargo_toml_tables.specs.Badges.{badge_meaning, badge_reads}
+use Rattle.cargo_toml_tables.specs.Badges.{badge_meaning}
 use Rattle.cargo_toml_write.specs.Lawful.{badge_lawful}
 use Rattle.cargo_toml_write.specs.WrittenTables.{badge_rows}
 use Rattle.cargo_toml_write.proofs.ReadAgain.{alone, reads_again}
-use Rattle.cargo_toml_write.proofs.ReadAgainTables.{badge_again}
+use Rattle.cargo_toml_write.proofs.ReadAgainTypes.{badge_again}
 use Rattle.cargo_toml_write.proofs.Rows.{◌then◌, done, ends}
 use Rattle.cargo_toml_write.proofs.write.badge.BadgeToValue.to_value.Goals as goal
 
 pub returns : goal.returns
 returns c =
-    let badge = badge_meaning c.args.self.now in
-    let written = ends badge_rows badge c.finish.result c.new-writing.ensures.no_fault c.new-writing.ensures.no_key
+    let written = ends badge_rows (badge_meaning c.args.self.now) c.finish.result c.new-writing.ensures.no_fault c.new-writing.ensures.no_key
     (c.required.ensures then c.required-2.ensures then c.optional.ensures then c.optional-2.ensures then
-    c.optional-3.ensures then done)
-    c.finish.ensures in
-    record {
-      written = written;
-      read_again = reads_again badge_lawful badge badge_reads badge c.finish.result written (badge_again badge);
-      memory = alone badge_lawful badge c.finish.result written tt;
-    }
+    c.optional-3.ensures then done) c.finish.ensures in
+    record { written = written; read_again = reads_again badge_lawful badge_again _ _ written tt; memory = alone badge_lawful _ _ written tt }

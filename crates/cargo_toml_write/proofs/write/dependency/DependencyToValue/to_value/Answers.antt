@@ -1,16 +1,16 @@
 use Rattle.cargo_toml_dependencies.specs.Dependencies.{dependency_of, detail_meaning, detailed, inherited, simple}
 use Rattle.cargo_toml_write.specs.Lawful.{detail_lawful, inherited_lawful, requirement_lawful}
-use Rattle.cargo_toml_write.proofs.ReadAgain.{reads_again}
-use Rattle.cargo_toml_write.proofs.ReadAgainDependencies.{dependency_again}
+use Rattle.cargo_toml_write.proofs.ReadAgain.{tree_again}
+use Rattle.cargo_toml_write.proofs.ReadAgainTypes.{dependency_again}
 use Rattle.cargo_toml_write.proofs.write.dependency.DependencyToValue.to_value.Goals as goal
 
 pub returns-in-Simple-clause-read_again : goal.returns-in-Simple-clause-read_again
 returns-in-Simple-clause-read_again c = rw c.in-Simple.is (λ told.
-    reads_again requirement_lawful _ dependency_of _ c.to_value.result c.to_value.ensures.written (dependency_again (simple _) told))
+    tree_again requirement_lawful _ dependency_of _ c.to_value.result c.to_value.ensures.written (dependency_again.each (simple _) told))
 
 pub returns-in-Inherited-clause-read_again : goal.returns-in-Inherited-clause-read_again
 returns-in-Inherited-clause-read_again c = rw c.in-Inherited.is (λ told.
-    reads_again inherited_lawful _ dependency_of _ c.to_value-in-Inherited.result c.to_value-in-Inherited.ensures.written (dependency_again (inherited _) told))
+    tree_again inherited_lawful _ dependency_of _ c.to_value-in-Inherited.result c.to_value-in-Inherited.ensures.written (dependency_again.each (inherited _) told))
 
 pub returns-in-Detailed-clause-written : goal.returns-in-Detailed-clause-written
 returns-in-Detailed-clause-written c = rw (c.in-Detailed.is, ← c.deref.ensures) c.to_value-in-Detailed.ensures.written
@@ -18,7 +18,7 @@ returns-in-Detailed-clause-written c = rw (c.in-Detailed.is, ← c.deref.ensures
 pub returns-in-Detailed-clause-read_again : goal.returns-in-Detailed-clause-read_again
 returns-in-Detailed-clause-read_again c = rw (c.in-Detailed.is, ← c.deref.ensures) (λ told.
     let x = detail_meaning c.deref.result.now in
-    reads_again detail_lawful x dependency_of (detailed x) c.to_value-in-Detailed.result c.to_value-in-Detailed.ensures.written (dependency_again (detailed x) told))
+    tree_again detail_lawful x dependency_of (detailed x) c.to_value-in-Detailed.result c.to_value-in-Detailed.ensures.written (dependency_again.each (detailed x) told))
 
 pub returns-in-Detailed-clause-memory : goal.returns-in-Detailed-clause-memory
 returns-in-Detailed-clause-memory c = rw (c.in-Detailed.is, ← c.deref.ensures) c.to_value-in-Detailed.ensures.memory

@@ -1,19 +1,13 @@
 use Rattle.cargo_toml_dependencies.specs.Dependencies.{inherited_meaning}
 use Rattle.cargo_toml_write.specs.Lawful.{inherited_lawful}
-use Rattle.cargo_toml_write.specs.WrittenDependencies.{inherited_rows, inherited_reads}
+use Rattle.cargo_toml_write.specs.WrittenDependencies.{inherited_rows}
 use Rattle.cargo_toml_write.proofs.ReadAgain.{alone, reads_again}
-use Rattle.cargo_toml_write.proofs.ReadAgainDependencies.{inherited_again}
+use Rattle.cargo_toml_write.proofs.ReadAgainTypes.{inherited_again}
 use Rattle.cargo_toml_write.proofs.Rows.{◌then◌, done, ends}
 use Rattle.cargo_toml_write.proofs.write.dependency.InheritedDependencyDetailToValue.to_value.Goals as goal
 
 pub returns : goal.returns
 returns c =
-    let detail = inherited_meaning c.args.self.now in
-    let written = ends inherited_rows detail c.finish.result c.new-writing.ensures.no_fault c.new-writing.ensures.no_key
-    (c.given.ensures then c.flag.ensures then c.flag-2.ensures then done)
-    c.finish.ensures in
-    record {
-      written = written;
-      read_again = reads_again inherited_lawful detail inherited_reads detail c.finish.result written (inherited_again detail);
-      memory = alone inherited_lawful detail c.finish.result written tt;
-    }
+    let written = ends inherited_rows (inherited_meaning c.args.self.now) c.finish.result c.new-writing.ensures.no_fault c.new-writing.ensures.no_key
+    (c.given.ensures then c.flag.ensures then c.flag-2.ensures then done) c.finish.ensures in
+    record { written = written; read_again = reads_again inherited_lawful inherited_again _ _ written tt; memory = alone inherited_lawful _ _ written tt }

@@ -9,7 +9,7 @@ use Rattle.cargo_toml_dependencies.specs.Features.{features_meaning}
 use Rattle.cargo_toml_write.specs.Ways.{Ascend}
 use Rattle.cargo_toml_write.specs.WrittenDependencies.{feature_way, told_features}
 use Rattle.cargo_toml_write.proofs.Gathered.{map_err, features_err, same_members}
-use Rattle.cargo_toml_write.proofs.ReadAgainDependencies.{same_names}
+use Rattle.cargo_toml_write.proofs.ReadAgainTypes.{same_names}
 use Rattle.cargo_toml_write.proofs.write.feature.FeaturesToValue.to_value.Goals as goal
 
 pub returns-in_err-pairs : goal.returns-in_err-pairs

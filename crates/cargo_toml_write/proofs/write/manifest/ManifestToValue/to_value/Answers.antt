@@ -5,9 +5,8 @@ use Rattle.cargo_toml_write.specs.Lawful.{manifest_lawful}
 use Rattle.cargo_toml_write.specs.Reread.{reread}
 use Rattle.cargo_toml_write.specs.WrittenDependencies.{features_in, features_way}
 use Rattle.cargo_toml_write.specs.WrittenManifests.{all_features, manifest_rows}
-use Rattle.cargo_toml_write.proofs.ReadAgain.{alone, reads_again}
-use Rattle.cargo_toml_write.proofs.ReadAgainDependencies.{manifest_features}
-use Rattle.cargo_toml_write.proofs.ReadAgainManifests.{manifest_again}
+use Rattle.cargo_toml_write.proofs.ReadAgain.{alone, tree_again}
+use Rattle.cargo_toml_write.proofs.ReadAgainTypes.{manifest_features, manifest_again}
 use Rattle.cargo_toml_write.proofs.Rows.{◌then◌, done, ends, given_as}
 use Rattle.cargo_toml_write.proofs.write.manifest.ManifestToValue.to_value.Goals as goal
 
@@ -28,10 +27,8 @@ returns g c =
     record {
       written = written;
       read_again = λ told law.
-          reads_again lawful manifest (manifest_reads g.Metadata.FromValue.from_tree) (reread (manifest_meaning g.Metadata.FromValue.meaning c.args.self.now)) c.finish.result written
+          tree_again lawful manifest (manifest_reads g.Metadata.FromValue.from_tree) (reread (manifest_meaning g.Metadata.FromValue.meaning c.args.self.now)) c.finish.result written
           (manifest_again way g.Metadata.ToValue.meaning g.Metadata.FromValue.meaning g.Metadata.FromValue.from_tree law c.args.self.now told);
-      features_again = λ told.
-          reads_again lawful manifest features_in features c.finish.result written
-          (manifest_features way manifest told);
-      memory = alone lawful manifest c.finish.result written;
+      features_again = λ told. tree_again lawful manifest features_in features c.finish.result written (manifest_features way manifest told);
+      memory = alone lawful manifest _ written;
     }

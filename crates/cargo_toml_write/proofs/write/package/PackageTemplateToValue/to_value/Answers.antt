@@ -1,8 +1,8 @@
-use Rattle.cargo_toml_package.specs.Templates.{template_meaning, template_reads}
+use Rattle.cargo_toml_package.specs.Templates.{template_meaning}
 use Rattle.cargo_toml_write.specs.Lawful.{template_lawful}
 use Rattle.cargo_toml_write.specs.WrittenPackages.{template_rows}
 use Rattle.cargo_toml_write.proofs.ReadAgain.{alone, reads_again}
-use Rattle.cargo_toml_write.proofs.ReadAgainManifests.{template_again}
+use Rattle.cargo_toml_write.proofs.ReadAgainTypes.{template_again}
 use Rattle.cargo_toml_write.proofs.Rows.{◌then◌, done, ends}
 use Rattle.cargo_toml_write.proofs.write.package.PackageTemplateToValue.to_value.Goals as goal
 
@@ -13,10 +13,5 @@ returns c =
     (c.optional.ensures then c.optional-2.ensures then c.optional-3.ensures then c.optional-4.ensures then
     c.optional-5.ensures then c.optional-6.ensures then c.optional-7.ensures then c.optional-8.ensures then
     c.optional-9.ensures then c.optional-10.ensures then c.optional-11.ensures then c.given.ensures then
-    c.given-2.ensures then c.optional-12.ensures then c.optional-13.ensures then c.optional-14.ensures then done)
-    c.finish.ensures in
-    record {
-      written = written;
-      read_again = λ told. reads_again template_lawful template template_reads template c.finish.result written (template_again template told);
-      memory = alone template_lawful template c.finish.result written tt;
-    }
+    c.given-2.ensures then c.optional-12.ensures then c.optional-13.ensures then c.optional-14.ensures then done) c.finish.ensures in
+    record { written = written; read_again = reads_again template_lawful template_again template _ written; memory = alone template_lawful template _ written tt }

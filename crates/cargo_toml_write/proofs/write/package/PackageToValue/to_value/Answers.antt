@@ -1,8 +1,8 @@
 use Rattle.cargo_toml_package.specs.Packages.{package_meaning, package_reads}
 use Rattle.cargo_toml_write.specs.Lawful.{package_lawful}
 use Rattle.cargo_toml_write.specs.WrittenPackages.{package_rows}
-use Rattle.cargo_toml_write.proofs.ReadAgain.{alone, reads_again}
-use Rattle.cargo_toml_write.proofs.ReadAgainManifests.{package_again}
+use Rattle.cargo_toml_write.proofs.ReadAgain.{alone, tree_again}
+use Rattle.cargo_toml_write.proofs.ReadAgainTypes.{package_again}
 use Rattle.cargo_toml_write.proofs.Rows.{◌then◌, done, ends}
 use Rattle.cargo_toml_write.proofs.write.package.PackageToValue.to_value.Goals as goal
 
@@ -24,7 +24,7 @@ returns g c =
     record {
       written = written;
       read_again = λ version metadata.
-          reads_again lawful held (package_reads g.Metadata.FromValue.from_tree) (package_meaning g.Metadata.FromValue.meaning c.args.self.now) c.finish.result written
+          tree_again lawful held (package_reads g.Metadata.FromValue.from_tree) (package_meaning g.Metadata.FromValue.meaning c.args.self.now) c.finish.result written
           (package_again way meaning g.Metadata.FromValue.meaning g.Metadata.FromValue.from_tree c.args.self.now version metadata);
-      memory = alone lawful held c.finish.result written;
+      memory = alone lawful held _ written;
     }

@@ -1,22 +1,15 @@
-use Rattle.cargo_toml_manifest.specs.Manifests.{product_reads}
 use Rattle.cargo_toml_tables.specs.Products.{product_meaning}
 use Rattle.cargo_toml_write.specs.Lawful.{product_lawful}
 use Rattle.cargo_toml_write.specs.WrittenTables.{product_rows}
 use Rattle.cargo_toml_write.proofs.ReadAgain.{alone, reads_again}
-use Rattle.cargo_toml_write.proofs.ReadAgainTables.{product_again}
+use Rattle.cargo_toml_write.proofs.ReadAgainTypes.{product_again}
 use Rattle.cargo_toml_write.proofs.Rows.{◌then◌, ◌then_same◌, done, ends}
 use Rattle.cargo_toml_write.proofs.write.product.ProductToValue.to_value.Goals as goal
 
 pub returns : goal.returns
 returns c =
-    let product = product_meaning c.args.self.now in
-    let written = ends product_rows product c.finish.result c.new-writing.ensures.no_fault c.new-writing.ensures.no_key
+    let written = ends product_rows (product_meaning c.args.self.now) c.finish.result c.new-writing.ensures.no_fault c.new-writing.ensures.no_key
     (c.optional.ensures then c.optional-2.ensures then c.flag.ensures then c.flag-2.ensures then
     c.flag-3.ensures then c.flag-4.ensures then c.flag-5.ensures then c.flag-6.ensures then c.flag-7.ensures then
-    c.optional-3.ensures then_same c.given.ensures then c.required.ensures then done)
-    c.finish.ensures in
-    record {
-      written = written;
-      read_again = reads_again product_lawful product product_reads product c.finish.result written (product_again product);
-      memory = alone product_lawful product c.finish.result written tt;
-    }
+    c.optional-3.ensures then_same c.given.ensures then c.required.ensures then done) c.finish.ensures in
+    record { written = written; read_again = reads_again product_lawful product_again _ _ written tt; memory = alone product_lawful _ _ written tt }

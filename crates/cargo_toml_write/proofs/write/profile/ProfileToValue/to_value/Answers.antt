@@ -1,23 +1,17 @@
-use Rattle.cargo_toml_tables.specs.Profiles.{profile_meaning, profile_reads}
+use Rattle.cargo_toml_tables.specs.Profiles.{profile_meaning}
 use Rattle.cargo_toml_write.specs.Lawful.{profile_lawful}
 use Rattle.cargo_toml_write.specs.WrittenTables.{profile_rows}
 use Rattle.cargo_toml_write.proofs.ReadAgain.{alone, reads_again}
-use Rattle.cargo_toml_write.proofs.ReadAgainTables.{profile_again}
+use Rattle.cargo_toml_write.proofs.ReadAgainTypes.{profile_again}
 use Rattle.cargo_toml_write.proofs.Rows.{◌then◌, ◌then_same◌, done, ends}
 use Rattle.cargo_toml_write.proofs.write.profile.ProfileToValue.to_value.Goals as goal
 
 pub returns : goal.returns
 returns c =
-    let profile = profile_meaning c.args.self.now in
-    let written = ends profile_rows profile c.finish.result c.new-writing.ensures.no_fault c.new-writing.ensures.no_key
+    let written = ends profile_rows (profile_meaning c.args.self.now) c.finish.result c.new-writing.ensures.no_fault c.new-writing.ensures.no_key
     (c.optional.ensures then c.optional-2.ensures then_same c.optional-3.ensures then
     c.optional-4.ensures then_same c.optional-5.ensures then_same c.optional-6.ensures then_same
     c.optional-7.ensures then_same c.optional-8.ensures then c.optional-9.ensures then_same
     c.optional-10.ensures then_same c.optional-11.ensures then_same c.given.ensures then
-    c.optional-12.ensures then c.optional-13.ensures then done)
-    c.finish.ensures in
-    record {
-      written = written;
-      read_again = reads_again profile_lawful profile profile_reads profile c.finish.result written (profile_again profile);
-      memory = alone profile_lawful profile c.finish.result written;
-    }
+    c.optional-12.ensures then c.optional-13.ensures then done) c.finish.ensures in
+    record { written = written; read_again = reads_again profile_lawful profile_again _ _ written tt; memory = alone profile_lawful _ _ written }

@@ -2,8 +2,8 @@ use Rattle.cargo_toml_package.specs.Workspaces.{workspace_meaning, workspace_rea
 use Rattle.cargo_toml_write.specs.Lawful.{workspace_lawful}
 use Rattle.cargo_toml_write.specs.Reread.{reread_workspace}
 use Rattle.cargo_toml_write.specs.WrittenPackages.{workspace_rows}
-use Rattle.cargo_toml_write.proofs.ReadAgain.{alone, reads_again}
-use Rattle.cargo_toml_write.proofs.ReadAgainManifests.{workspace_again}
+use Rattle.cargo_toml_write.proofs.ReadAgain.{alone, tree_again}
+use Rattle.cargo_toml_write.proofs.ReadAgainTypes.{workspace_again}
 use Rattle.cargo_toml_write.proofs.Rows.{◌then◌, done, ends}
 use Rattle.cargo_toml_write.proofs.write.workspace.WorkspaceToValue.to_value.Goals as goal
 
@@ -19,7 +19,7 @@ returns g c =
     record {
       written = written;
       read_again = λ reads law told.
-          reads_again lawful workspace (workspace_reads reads) (reread_workspace workspace) c.finish.result written
+          tree_again lawful workspace (workspace_reads reads) (reread_workspace workspace) c.finish.result written
           (workspace_again way g.Metadata.ToValue.meaning g.Metadata.ToValue.meaning reads law c.args.self.now told);
-      memory = alone lawful workspace c.finish.result written;
+      memory = alone lawful workspace _ written;
     }

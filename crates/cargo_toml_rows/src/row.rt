@@ -1,0 +1,50 @@
+//! A row, and the files in its folder.
+use cargo_toml::Error;
+use cargo_toml_row_files::templates::{read, text_in};
+use std::alloc::Global;
+use std::rt::Files;
+
+/// What is shown of a row, or why nothing is.
+pub type Shown = Result<String, Error>;
+
+/// A row: what its files are read by, and the path of its folder, or of its one file.
+#[derive(Drop)]
+pub struct Row<'a, R> {
+    /// What its files are read by.
+    pub rt: &'a R,
+    /// The path, KIND/NAME.
+    pub path: &'a str,
+}
+
+impl<R: Files + AllocGlobal> Row<'_, R> {
+    /// Where its texts are held.
+    pub fn alloc(&self) -> Global {
+        self.rt.alloc()
+    }
+
+    /// The bytes of its manifest, and none of a row that has no manifest.
+    pub fn manifest(&self) -> Result<Vec<u8>, Error> {
+        let path = format!(in self.alloc(); "{}/Cargo.toml", self.path)?;
+        match read(self.rt, path.as_str()) {
+            Err(Error::Io(_)) => Ok(Vec::new(self.alloc())),
+            bytes => bytes,
+        }
+    }
+
+    /// The text of a file in its folder, if that or its template is there.
+    pub fn find(&self, name: &str) -> Result<Option<String>, Error> {
+        text_in(self.rt, self.path, name)
+    }
+
+    /// The same of a file that has to be there, without the line feed at the end.
+    pub fn text(&self, name: &str) -> Shown {
+        match self.find(name)? {
+            Some(text) => Ok(
+                text.as_str()
+                    .trim_end_matches('\n')
+                    .to_string(self.alloc())?,
+            ),
+            None => Err(Error::Other("a file of the row is missing")),
+        }
+    }
+}

@@ -1,5 +1,6 @@
 //! What is amiss with the features of a manifest, with places.
 ghost use Rattle.std.specs.Prelude.{◌≡◌};
+ghost use Rattle.cargo_toml_check.specs.Judged.{counts, is_odd};
 
 use crate::check::{Told, faults_in, push_place};
 use crate::places::{Place, places, push_item, push_key};
@@ -67,20 +68,29 @@ fn readable<R: RandomSource + AllocGlobal>(
     let all = findings_of(rt, manifest)?;
     let allowed = allowed_by(alloc, manifest)?;
     let mut kept = Vec::new(alloc);
-    let mut counts = false;
     for finding in &all {
         if !is_allowed(judging.allowed, finding) && !is_allowed(allowed.as_slice(), finding) {
-            counts = counts | weighs(finding.code.level(), judging.denies_hints);
             kept.push(*finding)?;
         }
     }
-    Ok((
-        lines(alloc, file, text, manifest, kept.as_slice(), judging.json)?,
-        counts,
-    ))
+    let kept = kept.as_slice();
+    let odd = is_odd(kept, judging.denies_hints);
+    Ok((lines(alloc, file, text, manifest, kept, judging.json)?, odd))
 }
 
-fn weighs(level: Level, denies_hints: bool) -> bool {
+/// Whether one of these findings is an error or a warning, or a hint where hints are denied. It is
+/// asked of just those that are told.
+pub fn is_odd(findings: &[Finding<'_>], denies_hints: bool) -> bool
+    ensures { result ≡ is_odd denies_hints findings.now }
+{
+    findings
+        .iter()
+        .any(|finding| counts(finding.code.level(), denies_hints))
+}
+
+fn counts(level: Level, denies_hints: bool) -> bool
+    ensures { result ≡ counts denies_hints level }
+{
     match level {
         Level::Error | Level::Warning => true,
         Level::Hint => denies_hints,

@@ -1,12 +1,15 @@
 -- A row of tests with one more character of the pattern.
-use Rattle.std.proofs.Common.{◌≡◌, ◌+◌, ◌++◌, ◌&&◌, ◌||◌, ◌∙◌, ℕ, Bool, List, [], ◌∷◌, true, false, refl, sym, ap, append_assoc, inl, inr, ◌⊎◌, ◌<◌, add-one, drop, drop-cons, take, length, get_or, replicate, reverse}
+use Rattle.std.proofs.Common.{◌≡◌, ◌==◌, ◌-◌, ◌+◌, arith, map, ◌++◌, ◌&&◌, ◌||◌, ◌∙◌, ℕ, Bool, List, [], ◌∷◌, true, false, refl, sym, ap, append_assoc, inl, inr, ◌⊎◌, ◌<◌, add-one, drop, drop-cons, length, get_or, replicate, reverse, nat_eq, nat_le, if◌then◌else◌, ap₂, take, length-drop, ◌≢◌}
 use Rattle.std.proofs.Math.Bool.{and_comm, or_comm}
-use Rattle.std.proofs.lemmas.List.{append-nil, reverse-append, take_more}
-use Rattle.cargo_toml_audit.specs.Patterns.{after_any, after_one, begins, is_empty, matches}
-use Rattle.cargo_toml_audit.specs.Rows.{accepts, next, row, scan, shift}
+use Rattle.std.proofs.lemmas.Bool.{false≢true}
+use Rattle.std.proofs.lemmas.List.{append-nil, take_all}
+use borrow.Author.Tests.{ne_eqb}
+use Rattle.cargo_toml_audit.specs.Patterns.{Part, accepts, after_any, after_one, begins, is_among, is_empty, is_range, matches}
+use Rattle.cargo_toml_audit.specs.Rows.{next, row, scan, shift}
+use Rattle.cargo_toml_tools.proofs.Grown.{left_next}
 use mathlib.Core.List.{reverse_aux}
 
-shifted : (w : ℕ) (test : List ℕ → Bool) (end cs : List ℕ) → after_one w test end ∷ shift w (row test end cs) cs ≡ row (after_one w test) end cs
+shifted : (w : Part) (test : List ℕ → Bool) (end cs : List ℕ) → after_one w test end ∷ shift w (row test end cs) cs ≡ row (after_one w test) end cs
 shifted w test end [] = refl
 shifted w test end (c ∷ cs) =
     ap (λ t. after_one w test end ∷ (t ∷ shift w (row test (c ∷ end) cs) cs)) (and_comm (test end) (accepts w c))
@@ -19,7 +22,7 @@ scanned test some end (c ∷ cs) e =
     ∙ ap (λ t. after_any test end ∷ t) (scanned test (some || test end) (c ∷ end) cs
     (ap (λ t. t || test (c ∷ end)) e ∙ or_comm (after_any test end) (test (c ∷ end))))
 
-pub next_row : (b : Bool) (w : ℕ) (test : List ℕ → Bool) (cs : List ℕ) → next b w (row test [] cs) cs ≡ row (begins b w test) [] cs
+pub next_row : (b : Bool) (w : Part) (test : List ℕ → Bool) (cs : List ℕ) → next b w (row test [] cs) cs ≡ row (begins b w test) [] cs
 next_row true w test cs = scanned test false [] cs (or_comm false (test []))
 next_row false w test cs = shifted w test [] cs
 
@@ -50,21 +53,51 @@ scan_step items some here left rest whole is before =
 pub scan_end : (items : List Bool) (some : Bool) (left whole : List Bool) → left ≡ [] → items ++ scan some left ≡ whole → items ≡ whole
 scan_end items some left whole none before = sym (append-nil items) ∙ ap (λ t. items ++ scan some t) (sym none) ∙ before
 
-pub shift_step : (w : ℕ) (items : List Bool) (here : Bool) (c : ℕ) (left rest : List Bool) (cs ds : List ℕ) (whole : List Bool) → left ≡ here ∷ rest → cs ≡ c ∷ ds
+pub shift_step : (w : Part) (items : List Bool) (here : Bool) (c : ℕ) (left rest : List Bool) (cs ds : List ℕ) (whole : List Bool) → left ≡ here ∷ rest → cs ≡ c ∷ ds
     → items ++ shift w left cs ≡ whole → (items ++ (here && accepts w c) ∷ []) ++ shift w rest ds ≡ whole
 shift_step w items here c left rest cs ds whole is others before =
     append_assoc items ((here && accepts w c) ∷ []) (shift w rest ds)
     ∙ ap (λ t. items ++ shift w t (c ∷ ds)) (sym is) ∙ ap (λ t. items ++ shift w left t) (sym others) ∙ before
 
-shift_none : (w : ℕ) (left : List Bool) → shift w left [] ≡ []
+shift_none : (w : Part) (left : List Bool) → shift w left [] ≡ []
 shift_none w [] = refl
 shift_none w (x ∷ xs) = refl
 
-pub shift_end : (w : ℕ) (items left : List Bool) (cs : List ℕ) (whole : List Bool) → (left ≡ []) ⊎ (cs ≡ []) → items ++ shift w left cs ≡ whole → items ≡ whole
+pub shift_end : (w : Part) (items left : List Bool) (cs : List ℕ) (whole : List Bool) → (left ≡ []) ⊎ (cs ≡ []) → items ++ shift w left cs ≡ whole → items ≡ whole
 shift_end w items left cs whole (inl none) before = sym (append-nil items) ∙ ap (λ t. items ++ shift w t cs) (sym none) ∙ before
 shift_end w items left cs whole (inr none) before =
     sym (append-nil items) ∙ ap (λ t. items ++ t) (sym (shift_none w left)) ∙ ap (λ t. items ++ shift w left t) (sym none) ∙ before
 
--- one more character of the pattern, from its end on
-pub reversed_more : (xs : List ℕ) (i d : ℕ) → i < length xs → reverse (take (i + 1) xs) ≡ get_or xs i d ∷ reverse (take i xs)
-reversed_more xs i d h = ap reverse (take_more xs i d h) ∙ reverse-append (take i xs) (get_or xs i d ∷ [])
+-- one more part of a pattern, from its end on
+pub back_next : {A B : Type 0} (f : A → B) (xs : List A) (i k : ℕ) (x : A) → i < length xs → k ≡ length xs - 1 - i → x ≡ get_or xs k x
+    → map f (drop (length xs - (i + 1)) xs) ≡ f x ∷ map f (drop (length xs - i) xs)
+back_next f xs i k x within is at =
+    let here : length xs - (i + 1) ≡ k = omega arith in
+    let behind : k + 1 ≡ length xs - i = omega arith in
+    let inside : k < length xs = omega arith in
+    ap (λ n. map f (drop n xs)) here ∙ left_next f xs k x inside at ∙ ap (λ n. f x ∷ map f (drop n xs)) behind
+
+-- what stands in brackets, behind a range or a character that comes first
+from_there : (n : ℕ) (xs : List ℕ) → take (length xs - n) (drop n xs) ≡ drop n xs
+from_there n xs = take_all _ (drop n xs) (omega (arith, length-drop n xs))
+
+pub among_range : (xs : List ℕ) (c x z : ℕ) → is_range xs ≡ true → x ≡ get_or xs 0 x → z ≡ get_or xs 2 z → (nat_le x c && nat_le c z) ≡ false
+    → is_among (take (length xs - 3) (drop 3 xs)) c ≡ is_among xs c
+among_range [] c x z range first last out = absurd (false≢true range)
+among_range (a ∷ []) c x z range first last out = absurd (false≢true range)
+among_range (a ∷ b ∷ []) c x z range first last out = absurd (false≢true range)
+among_range (a ∷ b ∷ e ∷ rest) c x z range first last out =
+    ap (λ t. is_among t c) (from_there 3 (a ∷ b ∷ e ∷ rest))
+    ∙ sym (ap (λ t. if t then (nat_le a c && nat_le c e) || is_among rest c else nat_eq a c || is_among (b ∷ e ∷ rest) c) range
+    ∙ ap (λ t. t || is_among rest c) (ap₂ (λ p q. nat_le p c && nat_le c q) (sym first) (sym last) ∙ out))
+
+pub among_one : (xs : List ℕ) (c x : ℕ) → is_range xs ≡ false → (length xs == 0) ≡ false → x ≡ get_or xs 0 x → x ≢ c
+    → is_among (take (length xs - 1) (drop 1 xs)) c ≡ is_among xs c
+among_one [] c x single some first other = absurd (false≢true (sym some))
+among_one (a ∷ []) c x single some first other = sym (ap (λ t. nat_eq t c || false) (sym first) ∙ ap (λ t. t || false) (ne_eqb x c other))
+among_one (a ∷ b ∷ []) c x single some first other =
+    sym (ap (λ t. nat_eq t c || (nat_eq b c || false)) (sym first) ∙ ap (λ t. t || (nat_eq b c || false)) (ne_eqb x c other))
+among_one (a ∷ b ∷ e ∷ rest) c x single some first other =
+    ap (λ t. is_among t c) (from_there 1 (a ∷ b ∷ e ∷ rest))
+    ∙ sym (ap (λ t. if t then (nat_le a c && nat_le c e) || is_among rest c else nat_eq a c || is_among (b ∷ e ∷ rest) c) single
+    ∙ ap (λ t. nat_eq t c || is_among (b ∷ e ∷ rest) c) (sym first) ∙ ap (λ t. t || is_among (b ∷ e ∷ rest) c) (ne_eqb x c other))

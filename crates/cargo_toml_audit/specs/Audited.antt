@@ -1,13 +1,11 @@
--- What a report holds of members, and the words of what is odd.
-use Rattle.std.specs.Prelude.{◌≡◌, ◌⊎◌, ◌++◌, ◌||◌, Bool, true, false, List, [], ◌∷◌, Option}
-use Rattle.std.specs.Prelude.{Some, None, IsTrue, String, Vec, codes, option_map, string_bytes}
+-- What is told of a member.
+use Rattle.std.specs.Prelude.{◌≡◌, ◌||◌, Bool, false, true, List, [], ◌∷◌, Option, Some, String}
+use Rattle.std.specs.Prelude.{codes, map, option_map, string_bytes}
 use Rattle.std.specs.List.{join_by}
 use Rattle.std.specs.Option.{option_map_or}
 use Rattle.std.specs.declared.alloc.Global.{Global}
 use Rattle.semver.specs.Identifiers.{parts_text}
 use Rattle.cargo_toml.specs.Action.{Text}
-use Rattle.cargo_toml.specs.Error.{Error, InheritedUnknownValue, Memory}
-use Rattle.cargo_toml.specs.Faults.{IsOther}
 use Rattle.cargo_toml.specs.Inheritable.{Inheritable}
 use Rattle.cargo_toml.specs.Inheritable.TheVariants.{Set}
 use Rattle.cargo_toml.specs.InheritableValues.{value_of}
@@ -15,21 +13,7 @@ use Rattle.cargo_toml.specs.InheritedPackages.{field_is_left, is_left_there}
 use Rattle.cargo_toml.specs.Manifests.{ManifestMeaning}
 use Rattle.cargo_toml.specs.Packages.{PackageMeaning}
 use Rattle.cargo_toml.specs.Settings.{Registries, among, edition_text, everywhere}
-use Rattle.cargo_toml_audit.specs.declared.audit.Code.{Code}
-use Rattle.cargo_toml_audit.specs.declared.audit.Code.TheVariants.{Incomplete, ListedTwice}
-use Rattle.cargo_toml_audit.specs.declared.audit.Code.TheVariants.{OtherEdition, OtherLicense}
-use Rattle.cargo_toml_audit.specs.declared.audit.Code.TheVariants.{Outside, SeveralRequirements}
-use Rattle.cargo_toml_audit.specs.declared.audit.Code.TheVariants.{UnusedDependency}
 use Rattle.cargo_toml_audit.specs.declared.audit.Member.{Member}
-
-abbrev pub word_of : Code → Text
-word_of Incomplete = codes "incomplete"
-word_of ListedTwice = codes "listed-twice"
-word_of OtherEdition = codes "other-edition"
-word_of OtherLicense = codes "other-license"
-word_of Outside = codes "outside"
-word_of SeveralRequirements = codes "several-requirements"
-word_of UnusedDependency = codes "unused-dependency"
 
 -- the names of registries, with a comma between each two; none at all is `no`
 abbrev pub names_text : List Text → Text
@@ -46,29 +30,24 @@ publish_text (among names) = names_text names
 abbrev pub stated : Option (String Global) → Option (Inheritable Text)
 stated text = option_map (λ t. Set (string_bytes t)) text
 
--- what is told of a member, by its package
-pub record IsToldOf {M : Type 0} (p : PackageMeaning M) (member : Member) : Type 0 where
+-- what is told of the member at a place, which has this package and inherits these keys
+pub record IsToldOf {M : Type 0} (place : Text) (keys : List Text) (p : PackageMeaning M)
+    (member : Member) : Type 0 where
+  pub folder : string_bytes member.folder ≡ place
   pub name : string_bytes member.name ≡ p.name
   pub version : option_map parts_text (value_of p.version) ≡ Some (string_bytes member.version)
   pub edition : option_map edition_text (value_of p.edition) ≡ Some (string_bytes member.edition)
   pub rust_version : p.rust_version ≡ stated member.rust_version
   pub license : p.license ≡ stated member.license
   pub publish : option_map publish_text (value_of p.publish) ≡ Some (string_bytes member.publish)
+  pub inherits : map string_bytes member.inherits.items ≡ keys
 
 -- the same, by its manifest
-pub record IsMemberOf {M : Type 0} (m : ManifestMeaning M) (member : Member) : Type 0 where
+pub record IsMemberOf {M : Type 0} (place : Text) (keys : List Text) (m : ManifestMeaning M)
+    (member : Member) : Type 0 where
   pub of : PackageMeaning M
   pub is : m.«package» ≡ Some of
-  pub told : IsToldOf of member
-
--- a report has one more member, which lies in the folder, has this manifest and inherits these keys
-pub record AddsMember {M : Type 0} (folder : Text) (m : ManifestMeaning M)
-    (inherits : Vec (String Global) Global) (old new : List Member) : Type 0 where
-  pub member : Member
-  pub last : new ≡ old ++ (member ∷ [])
-  pub folder_is : string_bytes member.folder ≡ folder
-  pub inherits_is : member.inherits ≡ inherits
-  pub told : IsMemberOf m member
+  pub told : IsToldOf place keys of member
 
 -- the package leaves to its workspace what is told of a member
 abbrev pub leaves_told : {M : Type 0} → PackageMeaning M → Bool
@@ -77,16 +56,6 @@ leaves_told p =
     || (field_is_left p.edition
     || (field_is_left p.publish || (is_left_there p.rust_version || is_left_there p.license)))
 
--- the fault where there is no package
-abbrev pub IsNoPackage : Error → Type 0
-IsNoPackage e = IsOther (codes "there is no package") e
-
--- memory was refused, or something is left to the workspace
-abbrev pub IsUnknown : Bool → Error → Type 0
-IsUnknown left e = (e ≡ Memory) ⊎ ((e ≡ InheritedUnknownValue) × IsTrue left)
-
--- why nothing is told of a member
-abbrev pub IsUntold : {M : Type 0} → ManifestMeaning M → Error → Type 0
-IsUntold m e =
-    ((m.«package» ≡ None) × IsNoPackage e)
-    ⊎ IsUnknown (option_map_or leaves_told m.«package» false) e
+-- nothing can be told: there is no package, or it does so
+abbrev pub is_untold : {M : Type 0} → ManifestMeaning M → Bool
+is_untold m = option_map_or leaves_told m.«package» true

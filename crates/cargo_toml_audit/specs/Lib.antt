@@ -1,24 +1,12 @@
 -- what a report on a workspace says, of what was read: a user has to believe these
-pub mod AuditSteps
+pub mod AuditedFiles
 pub mod Audited
-pub mod AuditedFolders
-pub mod AuditedMembers
-pub mod Checked
-pub mod Escaped
-pub mod Escapes
-pub mod FromFiles
-pub mod FurtherFolders
-pub mod JsonRows
-pub mod LeftKeys
-pub mod MemberFolders
-pub mod Neighbours
-pub mod Noted
 pub mod Oddities
-pub mod Overall
-pub mod Patterns
+pub mod Entries
+pub mod MemberFolders
 pub mod Places
-pub mod Reported
-pub mod ReportedJson
-pub mod Required
+pub mod Patterns
+-- the code's own steps, in contracts of inner functions alone: nothing here has to be believed
+pub mod AuditSteps
+pub mod Walks
 pub mod Rows
-pub mod TablesByKind

@@ -1,92 +1,202 @@
--- The folders that entries of `members` lead to, and those that a workspace lists.
-use Rattle.std.specs.Prelude.{◌≡◌, ◌⊎◌, ◌<◌, ◌&&◌, ◌||◌, ◌==◌, ℕ, Bool, IsTrue, List, [], ◌∷◌}
-use Rattle.std.specs.Prelude.{bytes_eq, codes, count_by, filter, if◌then◌else◌, length, map, nat_lt}
-use Rattle.std.specs.Prelude.{not, true}
-use Rattle.std.specs.Cmp.Lexicographic.{pointwise}
+-- The folders that entries of `members` lead to, by what the system answers of paths.
+use Rattle.std.specs.Prelude.{◌≡◌, ◌++◌, ◌&&◌, ◌||◌, ◌==◌, ℕ, suc, zero, Bool, true, false, List, []}
+use Rattle.std.specs.Prelude.{None, Option, Some}
+use Rattle.std.specs.Prelude.{◌∷◌, Err, Ok, Result, String, bytes_eq, codes, filter, if◌then◌else◌}
+use Rattle.std.specs.Prelude.{is_none, length, map, nat_eq, not, string_bytes, unwrap_or}
+use Rattle.std.specs.BTreeMap.{get_by_text}
+use Rattle.std.specs.Fs.{file_type}
 use Rattle.std.specs.IoError.{error_kind}
 use Rattle.std.specs.List.{flat_map, list_any}
-use Rattle.std.specs.Path.{has_no_slash}
+use Rattle.std.specs.Option.{option_map_or}
 use Rattle.std.specs.Str.{chars}
+use Rattle.std.specs.declared.alloc.Global.{Global}
+use Rattle.std.specs.declared.fs.attrs.Metadata.{Metadata}
 use Rattle.std.specs.declared.io.Error.{Error as IoError}
-use Rattle.std.specs.declared.io.ErrorKind.TheVariants.{OutOfMemory}
 use Rattle.cargo_toml.specs.Action.{Text}
-use Rattle.cargo_toml.specs.Ascending.{Ascend}
-use Rattle.cargo_toml.specs.Error.{Error, Io, Memory}
-use Rattle.cargo_toml.specs.Reach.{Among}
-use Rattle.cargo_toml_audit.specs.Patterns.{is_pattern, matches}
-use Rattle.cargo_toml_audit.specs.Places.{is_excluded, is_nothing, is_up, normalized}
-use Rattle.cargo_toml_audit.specs.Places.{path_below, pieces, root_of}
+use Rattle.cargo_toml.specs.RealFiles.{is_absent}
+use Rattle.cargo_toml_audit.specs.Patterns.{Part, begins_with_dot, is_deep, is_pattern}
+use Rattle.cargo_toml_audit.specs.Patterns.{matches, parts_of}
+use Rattle.cargo_toml_audit.specs.Places.{is_in, is_rooted, normalized, path_below, pieces}
+use Rattle.cargo_toml_audit.specs.Places.{place_of}
+use Rattle.cargo_toml_audit.specs.declared.members.walk.Listing.{Listing}
+use Rattle.cargo_toml_audit.specs.declared.members.walk.Looks.{Looks}
+use Rattle.cargo_toml_audit.specs.declared.members.walk.There.{There}
+use Rattle.cargo_toml_audit.specs.declared.members.walk.There.TheVariants.{Folder, Nothing, Other}
+use Rattle.cargo_toml_audit.specs.declared.members.walk.There.TheVariants.{Unseen}
 
--- the names along a path: what stands between its slashes, but for empty texts
-abbrev pub names_along : Text → List Text
-names_along path = filter (λ name. not (length name == 0)) (pieces path)
+-- what lies at a path, by what the system answers of it
+abbrev pub by_found : Metadata → There
+by_found found = if nat_eq (file_type found).bits 0o040000 then Folder else Other
 
--- the path that leads from a folder along these names
-abbrev pub path_along : Text → List Text → Text
-path_along folder [] = folder
-path_along folder (name ∷ names) = path_along (path_below folder name) names
+-- by whether nothing was found, and what the system answers of a link there
+abbrev pub by_link : Bool → Result Metadata IoError → There
+by_link true (Ok link) = Other
+by_link false (Ok link) = Unseen
+by_link none (Err fault) = if is_absent (error_kind fault) then Nothing else Unseen
 
--- some name of an entry is a pattern
-abbrev pub has_pattern : Text → Bool
-has_pattern entry = list_any is_pattern (names_along entry)
+-- a disk: what lies at a path, and the names of what lies in a folder
+pub record Disk : Type 0 where
+  pub there : Text → There
+  pub names : Text → List Text
 
--- the folder that an entry without a pattern names
-abbrev pub named_folder : Text → Text
-named_folder entry = path_along (root_of entry) (names_along entry)
+abbrev pub is_folder : There → Bool
+is_folder Folder = true
+is_folder Other = false
+is_folder Nothing = false
+is_folder Unseen = false
 
--- a pattern stands for a name that it matches, but for none that leads nowhere or up
-abbrev pub fits_pattern : Text → Text → Bool
-fits_pattern pattern name =
-    not (is_nothing name || is_up name) && matches (chars pattern) (chars name)
+-- something lies there, or a folder where one is wanted
+abbrev pub is_there : Bool → There → Bool
+is_there wanted Folder = true
+is_there wanted Other = not wanted
+is_there wanted Nothing = false
+is_there wanted Unseen = not wanted
 
--- a name of an entry stands for one of a folder: for itself, or for what it matches as a pattern
-abbrev pub fits_name : Text → Text → Bool
-fits_name wanted name =
-    if is_pattern wanted then has_no_slash name && fits_pattern wanted name
-    else bytes_eq wanted name
+-- ---- where an entry leads
 
--- an entry stands for a folder: its names for those along the path of the folder
-pub record StandsFor (entry folder : Text) : Type 0 where
-  pub names : List Text
-  pub fit : pointwise fits_name (names_along entry) names ≡ true
-  pub leads : folder ≡ path_along (root_of entry) names
+-- the paths of what has such a name in a folder
+abbrev pub named_so : Text → List Part → List Text → List Text
+named_so folder pattern names =
+    map (path_below folder) (filter (λ name. matches pattern (chars name)) names)
 
--- what an entry leads to: folders that it stands for, or itself where its patterns match none
-pub record LeadsToFolders (entry : Text) (folders : List Text) : Type 0 where
-  pub some : 0 < length folders
-  pub in_order : Ascend folders
-  pub stands : ((folder : Text) → Among folders folder → StandsFor entry folder)
-      ⊎ (IsTrue (has_pattern entry) × (folders ≡ entry ∷ []))
+abbrev pub with_dots : Bool → List Text → List Text
+with_dots wanted names = names ++ (if wanted then codes "." ∷ codes ".." ∷ [] else [])
 
--- a path leads to a folder that isn't excluded
-abbrev pub lists_folder : List Text → List Text → Text → Text → Bool
-lists_folder members excluded folder path =
-    bytes_eq (normalized path) folder && not (is_excluded members excluded folder)
+-- where the names of an entry begin
+abbrev pub begins_at : Text → Text → Text
+begins_at root entry = if is_rooted entry then codes "/" else root
 
--- a test of folders, and of those that more than one path leads to: `lists` says whether one does
-pub record AreOfPaths (lists : Text → Text → Bool) (own : Bool) (paths : List Text)
-    (folders twice : Text → Bool) : Type 0 where
-  pub listed : (folder : Text) → folders folder
-      ≡ ((own && bytes_eq (codes ".") folder) || list_any (lists folder) paths)
-  pub more : (folder : Text) → twice folder ≡ nat_lt 1 (count_by (lists folder) paths)
+-- a name that stands for itself; and one that leads no further: `**`, or the empty one right
+-- behind that
+abbrev pub is_plain : Bool → Text → Bool
+is_plain behind_deep name = not behind_deep && not (is_pattern name)
 
--- the folders that entries list, by what they lead to, its own with them or not; and those that
--- they list more than once
-pub record AreListed (lists : Text → Text → Bool) (own : Bool) (entries : List Text)
-    (folders twice : Text → Bool) : Type 0 where
-  pub found : List (Text × List Text)
-  pub of : map (λ f. f.0) found ≡ entries
-  pub led : (f : Text × List Text) → Among found f → LeadsToFolders f.0 f.1
-  pub are : AreOfPaths lists own (flat_map (λ f. f.1) found) folders twice
+abbrev pub skips : Bool → Text → Bool
+skips behind_deep name = is_deep name || (behind_deep && (length name == 0))
 
--- how many of these entries name a folder without a pattern
-abbrev pub times_named : List Text → Text → ℕ
-times_named entries folder =
-    count_by (λ entry. not (has_pattern entry) && bytes_eq (normalized entry) folder) entries
+-- the place of an entry that stands for itself
+abbrev pub own_if : Bool → Text → Text → List Text
+own_if holds root entry = if holds then place_of root entry ∷ [] else []
 
--- there was no memory, or a fault of reading folders, which comes of patterns alone
-abbrev pub IsOfFolders : Bool → Error → Type 0
-IsOfFolders has_some e =
-    (e ≡ Memory)
-    ⊎ (IsTrue has_some
-    × ((fault : IoError) × ((¬ (error_kind fault ≡ OutOfMemory)) × (e ≡ Io fault))))
+module _ (d : Disk) where
+  abbrev pub path_if : Bool → Text → List Text
+  path_if wanted path = if is_there wanted (d.there path) then path ∷ [] else []
+
+  -- the folders that lie right in one
+  abbrev pub subfolders : Text → List Text
+  subfolders folder =
+      if is_folder (d.there folder)
+      then flat_map (path_if true) (map (path_below folder) (d.names folder)) else []
+
+  -- a folder, and those below it, so many levels of them
+  abbrev pub below : ℕ → Text → List Text
+  below zero folder = []
+  below (suc n) folder = folder ∷ flat_map (below n) (subfolders folder)
+
+  unfoldable pub all_below : Text → List Text
+  all_below folder = below 2048 folder
+
+  -- a pattern that begins with a dot stands for `.` and `..` too, but not right behind `**`
+  abbrev pub matched : Bool → List Part → Text → List Text
+  matched behind_deep pattern folder =
+      if is_folder (d.there folder) then named_so folder pattern
+      (with_dots (not behind_deep && begins_with_dot pattern) (d.names folder)) else []
+
+  -- what a name leads to in a folder: itself, where something is there, or what its pattern matches
+  abbrev pub further_in : Bool → Text → Text → List Text
+  further_in behind_deep name folder =
+      if is_plain behind_deep name then path_if false (path_below folder name)
+      else option_map_or (λ pattern. matched behind_deep pattern folder) (parts_of (chars name)) []
+
+  -- right behind `**` from the folder and all below it
+  abbrev pub further : Bool → Text → Text → List Text
+  further behind_deep name folder =
+      if behind_deep then flat_map (further_in true name) (all_below folder)
+      else further_in false name folder
+
+  -- where names end: right behind `**` at all below the folder
+  abbrev pub ended : Bool → Text → List Text
+  ended behind_deep folder =
+      if behind_deep then flat_map all_below (subfolders folder) else folder ∷ []
+
+  -- what names lead to from a folder, one after the other
+  abbrev pub led : Bool → List Text → Text → List Text
+  led behind_deep [] folder = ended behind_deep folder
+  led behind_deep (name ∷ names) folder =
+      if skips behind_deep name then led true names folder
+      else flat_map (led false names) (further behind_deep name folder)
+
+  abbrev pub led_to : Text → Text → List Text
+  led_to root entry = led false (pieces entry) (begins_at root entry)
+
+  abbrev pub place_if : Text → List Text
+  place_if path = if is_folder (d.there path) then normalized path ∷ [] else []
+
+  -- the folders among that, or the entry itself where nothing lies there
+  abbrev pub places_of : Text → Text → List Text
+  places_of root entry =
+      own_if (length (led_to root entry) == 0) root entry ++ flat_map place_if (led_to root entry)
+
+-- ---- what was asked and answered
+
+-- a disk answers so
+pub record Agrees (d : Disk) (looks : Looks) : Type 0 where
+  pub there : (path : Text) (t : There) → get_by_text looks.there path ≡ Some t → d.there path ≡ t
+  pub names : (path : Text) (l : Listing) → get_by_text looks.names path ≡ Some l
+      → d.names path ≡ map string_bytes l.names.items
+
+-- the disk that has just what was answered, and nothing else
+abbrev pub disk_of : Looks → Disk
+disk_of looks = record {
+  there = λ path. unwrap_or (get_by_text looks.there path) Nothing;
+  names = λ path.
+      option_map_or (λ l. map string_bytes l.names.items) (get_by_text looks.names path) [];
+}
+
+-- each disk that agrees with the new answers agrees with the old ones, and gives this value
+abbrev pub Tells : {A : Type 0} → (Disk → A) → Looks → Looks → A → Type 0
+Tells of old new value = (d : Disk) → Agrees d new → Agrees d old × (value ≡ of d)
+
+-- or these texts, behind others
+abbrev pub Adds : (Disk → List Text) → Looks → Looks → List (String Global)
+    → List (String Global) → Type 0
+Adds found old new before after =
+    (d : Disk) → Agrees d new
+    → Agrees d old × (map string_bytes after ≡ map string_bytes before ++ found d)
+
+-- ---- entries that are no patterns, and what stands twice
+
+abbrev pub is_wrong_name : Text → Bool
+is_wrong_name name = not (is_deep name) && is_none (parts_of (chars name))
+
+-- Cargo can't read a name of the entry
+abbrev pub is_wrong : Text → Bool
+is_wrong entry = list_any is_wrong_name (pieces entry)
+
+abbrev pub places_if_right : Disk → Text → Text → List Text
+places_if_right d root entry = if is_wrong entry then [] else places_of d root entry
+
+-- the texts of a list that stand in others, or before in it
+abbrev pub repeats_of : List Text → List Text → List Text
+repeats_of before [] = []
+repeats_of before (t ∷ ts) =
+    (if is_in before t then t ∷ [] else []) ++ repeats_of (before ++ t ∷ []) ts
+
+abbrev pub repeats : List Text → List Text
+repeats ts = repeats_of [] ts
+
+-- what couldn't be looked at, or read to its end
+abbrev pub is_unseen : There → Bool
+is_unseen Unseen = true
+is_unseen Folder = false
+is_unseen Other = false
+is_unseen Nothing = false
+
+abbrev pub unseen_in : List (String Global × There) → List Text
+unseen_in es = map (λ e. string_bytes e.0) (filter (λ e. is_unseen e.1) es)
+
+abbrev pub unread_in : List (String Global × Listing) → List Text
+unread_in es = map (λ e. string_bytes e.0) (filter (λ e. not e.1.is_whole) es)
+
+abbrev pub unseen : Looks → List Text
+unseen looks = unseen_in looks.there.entries ++ unread_in looks.names.entries

@@ -1,113 +1,158 @@
--- What a report finds odd, and what each call adds to that.
-use Rattle.std.specs.Prelude.{◌⊎◌, ◌++◌, Bool, false, List, [], ◌∷◌, Option, Some, None}
-use Rattle.std.specs.Prelude.{if◌then◌else◌, map, codes, bytes_eq, filter, option_map}
-use Rattle.std.specs.Prelude.{option_and_then, unwrap_or, string_bytes}
-use Rattle.std.specs.BTreeSet.{BTreeSet}
-use Rattle.std.specs.Cmp.Lexicographic.{slice_cmp}
+-- What a report finds odd: of a place, of a member, and of all members together.
+use Rattle.std.specs.Prelude.{◌≡◌, ◌++◌, ◌&&◌, ◌||◌, ◌==◌, Bool, true, false, List, [], ◌∷◌, Option}
+use Rattle.std.specs.Prelude.{Some, None, Vec, bytes_eq, codes, if◌then◌else◌, is_none, is_some}
+use Rattle.std.specs.Prelude.{length, map, not, option_and_then, option_map, string_bytes}
+use Rattle.std.specs.List.{flat_map, list_any}
 use Rattle.std.specs.Option.{option_map_or}
-use Rattle.std.specs.Ordering.{nat_cmp, ordering_then}
-use Rattle.std.specs.declared.cmp.Ordering.{Ordering}
+use Rattle.std.specs.declared.alloc.Global.{Global}
 use Rattle.cargo_toml.specs.Action.{Text}
-use Rattle.cargo_toml.specs.InheritableValues.{value_of}
+use Rattle.cargo_toml.specs.Dependencies.{DependencyMeaning, detailed, inherited, is_optional}
+use Rattle.cargo_toml.specs.Dependencies.{simple}
+use Rattle.cargo_toml.specs.InheritedDependencies.{Entries}
+use Rattle.cargo_toml.specs.InheritedPackages.{field_is_left}
 use Rattle.cargo_toml.specs.Manifests.{ManifestMeaning}
 use Rattle.cargo_toml.specs.Packages.{PackageMeaning}
-use Rattle.cargo_toml.specs.Reach.{Among}
 use Rattle.cargo_toml.specs.Settings.{edition_text}
 use Rattle.cargo_toml.specs.Templates.{TemplateMeaning}
-use Rattle.cargo_toml_audit.specs.Audited.{word_of}
+use Rattle.cargo_toml_audit.specs.Entries.{Asking, Listed, entries_of}
+use Rattle.cargo_toml_audit.specs.MemberFolders.{repeats}
+use Rattle.cargo_toml_audit.specs.Places.{is_in, place_of}
 use Rattle.cargo_toml_audit.specs.declared.audit.Code.{Code}
-use Rattle.cargo_toml_audit.specs.declared.audit.Code.TheVariants.{Incomplete, ListedTwice}
-use Rattle.cargo_toml_audit.specs.declared.audit.Code.TheVariants.{OtherEdition, OtherLicense}
-use Rattle.cargo_toml_audit.specs.declared.audit.Code.TheVariants.{Outside}
+use Rattle.cargo_toml_audit.specs.declared.audit.Code.TheVariants.{Features, NoLints, NotInherited}
+use Rattle.cargo_toml_audit.specs.declared.audit.Code.TheVariants.{OptionalShared, OtherEdition}
+use Rattle.cargo_toml_audit.specs.declared.audit.Code.TheVariants.{OtherLicense, OtherWorkspace}
+use Rattle.cargo_toml_audit.specs.declared.audit.Code.TheVariants.{Outside, SameName}
+use Rattle.cargo_toml_audit.specs.declared.audit.Code.TheVariants.{SeveralRequirements}
+use Rattle.cargo_toml_audit.specs.declared.audit.Code.TheVariants.{TwoWorkspaces, UnusedDependency}
+use Rattle.cargo_toml_audit.specs.declared.audit.Code.TheVariants.{WorkspaceWithin}
 use Rattle.cargo_toml_audit.specs.declared.audit.Finding.{Finding}
-use Rattle.cargo_toml_audit.specs.declared.members.Members.{Members}
-use Rattle.cargo_toml_audit.specs.Places.{leads_out}
+use Rattle.cargo_toml_audit.specs.declared.audit.Member.{Member}
 
--- what a finding tells: its code, the folder or the dependency that it is about, and its words
+-- what a finding tells: its code, and the place, dependency or entry that it is about. Its words
+-- are for people
 pub record Oddity : Type 0 where
   pub code : Code
   pub subject : Text
-  pub words : Text
 
 abbrev pub oddity_of : Finding → Oddity
-oddity_of f = record {
-  code = f.code;
-  subject = string_bytes f.subject;
-  words = string_bytes f.words;
-}
+oddity_of f = record { code = f.code; subject = string_bytes f.subject }
 
--- what a finding of the code tells of the subject in these words
-abbrev pub oddity_with : Code → Text → Text → Oddity
-oddity_with code subject words = record { code = code; subject = subject; words = words }
+abbrev pub oddities_of : Vec Finding Global → List Oddity
+oddities_of findings = map oddity_of findings.items
 
--- the byte order of oddities: by the word of the code, the subject and the words
-abbrev pub oddity_cmp : Oddity → Oddity → Ordering
-oddity_cmp a b =
-    ordering_then (slice_cmp nat_cmp (word_of a.code) (word_of b.code))
-    (ordering_then (slice_cmp nat_cmp a.subject b.subject) (slice_cmp nat_cmp a.words b.words))
+-- what is found of a subject, of several, and by several codes
+abbrev pub found_if : Code → Bool → Text → List Oddity
+found_if code holds subject = if holds then record { code = code; subject = subject } ∷ [] else []
 
--- some finding tells this
-abbrev pub IsReported : BTreeSet Finding → Oddity → Type 0
-IsReported findings o = Among (map oddity_of findings.keys) o
+abbrev pub found_each : Code → List Text → List Oddity
+found_each code subjects = flat_map (found_if code true) subjects
 
--- all of these are found
-abbrev pub AreReported : BTreeSet Finding → List Oddity → Type 0
-AreReported findings os = (o : Oddity) → Among os o → IsReported findings o
+abbrev pub found_in : Text → List (Code × Bool) → List Oddity
+found_in subject rows = flat_map (λ r. found_if r.0 r.1 subject) rows
 
--- no finding is lost, and each new one is such
-pub record GainsOnly (Such : Oddity → Type 0) (old new : BTreeSet Finding) : Type 0 where
-  pub kept : (o : Oddity) → IsReported old o → IsReported new o
-  pub gained : (o : Oddity) → IsReported new o → IsReported old o ⊎ Such o
+-- ---- what a member has otherwise than its workspace gives: its edition, and its licence
 
--- a member that doesn't complete, with the words of its fault
-abbrev pub refusal_of : Text → Text → Oddity
-refusal_of folder words = oddity_with Incomplete folder words
-
-abbrev pub repeat_of : Text → Oddity
-repeat_of folder = oddity_with ListedTwice folder (codes "two entries of members lead to it")
-
-abbrev pub outsider_of : Text → Oddity
-outsider_of folder =
-    oddity_with Outside folder (codes "it lies outside the workspace's folder")
-
--- what is odd of how members are listed: those that are listed twice, and those outside
-abbrev pub listing_oddities : Members → List Oddity
-listing_oddities m =
-    map repeat_of (map string_bytes m.twice.keys)
-    ++ map outsider_of (filter leads_out (map string_bytes m.folders.keys))
-
--- a member has what its workspace gives
 abbrev pub has_given : Option Text → Text → Bool
 has_given own given = option_map_or (bytes_eq given) own false
 
-abbrev pub other_words : Option Text → Text → Text
-other_words own given =
-    unwrap_or own (codes "none") ++ (codes ", where the workspace has " ++ given)
-
--- a member has another text than its workspace gives, or none
 abbrev pub other_of : Code → Text → Option Text → Option Text → List Oddity
 other_of code folder own None = []
-other_of code folder own (Some given) =
-    if has_given own given then [] else (oddity_with code folder (other_words own given) ∷ [])
+other_of code folder own (Some given) = found_if code (not (has_given own given)) folder
 
--- what a member has otherwise: its edition, and its licence
-abbrev pub differences : Text → Text → Option Text → TemplateMeaning → List Oddity
-differences folder edition license t =
-    other_of OtherEdition folder (Some edition) (option_map edition_text t.edition)
-    ++ other_of OtherLicense folder license t.license
-
-abbrev pub differences_if_any : Text → Text → Option Text → Option TemplateMeaning → List Oddity
-differences_if_any folder edition license t =
-    option_map_or (differences folder edition license) t []
-
-abbrev pub package_differences : {M : Type 0} → Text → Option TemplateMeaning → PackageMeaning M
-    → List Oddity
-package_differences folder t p =
+abbrev pub differences : Option TemplateMeaning → Member → List Oddity
+differences template member =
     option_map_or
-    (λ e. differences_if_any folder (edition_text e) (option_and_then value_of p.license) t)
-    (value_of p.edition) []
+    (λ t. other_of OtherEdition (string_bytes member.folder) (Some (string_bytes member.edition))
+    (option_map edition_text t.edition)
+    ++ other_of OtherLicense (string_bytes member.folder)
+    (option_map string_bytes member.license) t.license)
+    template []
 
--- the same of a member's manifest, by what its workspace gives to packages
-abbrev pub member_differences : {M : Type 0} → Text → Option TemplateMeaning → ManifestMeaning M
-    → List Oddity
-member_differences folder t m = option_map_or (package_differences folder t) m.«package» []
+-- ---- what Cargo refuses of a member's manifest as it is written
+
+-- the workspace that a package names, by the path of its folder; it is another than the root's
+abbrev pub named_by : {M : Type 0} → Option (PackageMeaning M) → Option Text
+named_by p = option_and_then (λ q. q.workspace) p
+
+abbrev pub leads_elsewhere : Text → Text → Option Text → Bool
+leads_elsewhere place root named =
+    option_map_or (λ path. not (bytes_eq (place_of place path) root)) named false
+
+-- a dependency has `workspace = false`, or says nothing of where it comes from
+abbrev pub is_false : DependencyMeaning → Bool
+is_false (simple r) = false
+is_false (inherited i) = not i.workspace
+is_false (detailed d) = false
+
+abbrev pub is_not_inherited : List Listed → Bool
+is_not_inherited es = list_any (λ e. is_false e.1.1) es
+
+-- of the manifest at a place: whether the workspace at this root has no lints; whether the place
+-- lies in its folder, or leads to it; and whether `lint` finds errors in the features
+abbrev pub refusals : {M : Type 0} → Text → Text → Bool → Bool → Bool → ManifestMeaning M
+    → List (Code × Bool)
+refusals place root lacks_lints own errors m =
+    (Features, errors)
+    ∷ (NoLints, lacks_lints && field_is_left m.lints)
+    ∷ (NotInherited, is_not_inherited (entries_of m))
+    ∷ (
+      OtherWorkspace,
+      leads_elsewhere place root (named_by m.«package») && not (is_some m.workspace),
+    )
+    ∷ (Outside, not own && not (is_some (named_by m.«package»)))
+    ∷ (TwoWorkspaces, is_some (named_by m.«package») && is_some m.workspace)
+    ∷ (WorkspaceWithin, is_some m.workspace && not (bytes_eq place root)) ∷ []
+
+-- a package that is completed has nothing to build
+abbrev pub has_no_target : {M : Type 0} → ManifestMeaning M → Bool
+has_no_target m =
+    is_some m.«package» && (is_none m.lib && ((length m.bin == 0) && ((length m.example == 0)
+    && ((length m.test == 0) && (length m.bench == 0)))))
+
+-- ---- what a report takes, behind what it had
+pub record Gain : Type 0 where
+  pub members : List Member
+  pub found : List Oddity
+  pub inherited : List Text
+  pub asked : List Asking
+
+abbrev pub only_found : List Oddity → Gain
+only_found os = record { members = []; found = os; inherited = []; asked = [] }
+
+abbrev pub both : Gain → Gain → Gain
+both g h = record {
+  members = g.members ++ h.members;
+  found = g.found ++ h.found;
+  inherited = g.inherited ++ h.inherited;
+  asked = g.asked ++ h.asked;
+}
+
+-- ---- what only all members together show
+
+-- of a dependency of the workspace: no member inherits it, and it is optional
+abbrev pub shared_oddities : (Text → Bool) → Text × DependencyMeaning → List Oddity
+shared_oddities inherits e =
+    found_if UnusedDependency (not (inherits e.0)) e.0
+    ++ found_if OptionalShared (is_optional e.1) e.0
+
+-- a crate is asked for that was before, and by a requirement that is new
+abbrev pub asking_key : Asking → Text
+asking_key a = a.requirement ++ codes "|" ++ a.name
+
+abbrev pub further_of : (Text → Bool) → (Text → Bool) → Asking → List Oddity
+further_of names keys a =
+    found_if SeveralRequirements (names a.name && not (keys (asking_key a))) a.name
+
+abbrev pub further_from : (Text → Bool) → (Text → Bool) → List Asking → List Oddity
+further_from names keys [] = []
+further_from names keys (a ∷ others) =
+    further_of names keys a
+    ++ further_from (λ t. names t || bytes_eq a.name t) (λ t. keys t || bytes_eq (asking_key a) t)
+    others
+
+-- all that, by the dependencies of the workspace, and what a report took of its members
+abbrev pub overall_oddities : Entries → Gain → List Oddity
+overall_oddities dependencies g =
+    flat_map (shared_oddities (is_in g.inherited)) dependencies
+    ++ (found_each SameName (repeats (map (λ m. string_bytes m.name) g.members))
+    ++ further_from (λ t. false) (λ t. false) g.asked)

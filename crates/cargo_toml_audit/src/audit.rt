@@ -1,37 +1,40 @@
 //! The report on a workspace: what each member is, and what is odd.
-ghost use Rattle.std.specs.Prelude.{◌≡◌, ◌↔◌, [], IfErr, IfOk, IsErrAnd, None, OnErr, OnOk, map};
-ghost use Rattle.std.specs.Prelude.{option_map, string_bytes};
-ghost use Rattle.std.specs.BTreeSet.{IsEmpty, btree_set_len};
+ghost use Rattle.std.specs.Prelude.{◌≡◌, [], ◌∷◌, IfOk, OnOk, map, option_map, string_bytes};
+ghost use Rattle.cargo_toml.specs.Dependencies.{dependency_meaning};
 ghost use Rattle.cargo_toml.specs.Manifests.{held};
-ghost use Rattle.cargo_toml.specs.Reach.{Among};
+ghost use Rattle.cargo_toml.specs.Reads.{map_meaning};
 ghost use Rattle.cargo_toml.specs.Templates.{template_meaning};
-ghost use Rattle.cargo_toml_audit.specs.Audited.{AddsMember, IsNoPackage, IsUntold, word_of};
-ghost use Rattle.cargo_toml_audit.specs.TablesByKind.{all_by_kind};
-ghost use Rattle.cargo_toml_audit.specs.LeftKeys.{left_keys};
-ghost use Rattle.cargo_toml_audit.specs.Noted.{GainsKeys, NotesUses, inherited_in_all};
-ghost use Rattle.cargo_toml_audit.specs.Oddities.{AreReported, GainsOnly, IsReported};
-ghost use Rattle.cargo_toml_audit.specs.Oddities.{listing_oddities, member_differences};
-ghost use Rattle.cargo_toml_audit.specs.Oddities.{oddity_with, refusal_of};
+ghost use Rattle.cargo_toml_audit.specs.AuditedFiles.{Takes, held_in};
+ghost use Rattle.cargo_toml_audit.specs.Entries.{asked_in, entries_of, inherited_in, left_keys};
+ghost use Rattle.cargo_toml_audit.specs.Oddities.{differences, only_found, overall_oddities};
 
 mod differences;
+pub mod entries;
+pub mod findings;
 mod inherited;
+mod refusals;
 mod report;
+mod root;
 mod summary;
 mod uses;
 
-use crate::members::{Members, leads_out};
-use cargo_toml::{Error, Manifest, Workspace};
-use inherited::{add_inherited_dependencies, inherited_keys};
+use crate::members::{repeats, set_of};
+use cargo_toml::{Manifest, Workspace};
+use differences::{add_differences, add_shared, names};
+use entries::entries;
+use findings::find_all;
+use inherited::{add_inherited, inherited_keys};
+pub use refusals::{has_no_target, refusal_rows};
 pub use report::{json, lines};
+pub use root::{Root, needs};
 use std::alloc::{AllocError, Global};
-use std::collections::BTreeSet;
-use summary::summarize;
-use uses::add_uses;
+pub use summary::{summarize, untold_words};
+use uses::{add_uses, further};
 
 /// What a member is. What isn't there is `None`.
 #[derive(Debug, Drop)]
 pub struct Member {
-    /// Its folder, from the workspace's on.
+    /// The place of its folder.
     pub folder: String,
     /// The name of its package.
     pub name: String,
@@ -52,36 +55,112 @@ pub struct Member {
 /// What kind of oddity was found. They stand in the order of their words.
 #[derive(Debug, Clone, Copy, PartialEq, Eq, PartialOrd, Ord)]
 pub enum Code {
-    /// A member doesn't complete.
+    /// A member, or what a member depends on by a path, has no manifest.
+    Absent,
+    /// An entry of a list is no pattern.
+    BadPattern,
+    /// An entry of `default-members` leads to no member.
+    DefaultMember,
+    /// A member's features have errors by `lint`.
+    Features,
+    /// A member doesn't read or complete.
     Incomplete,
     /// A member is listed twice.
     ListedTwice,
+    /// A member inherits lints of a workspace without any.
+    NoLints,
+    /// A member has nothing to build.
+    NoTarget,
+    /// A member has a dependency with `workspace = false`.
+    NotInherited,
+    /// A dependency of the workspace is optional.
+    OptionalShared,
     /// A member's edition is another than the workspace's.
     OtherEdition,
     /// A member's licence is another than the workspace's.
     OtherLicense,
-    /// A member lies outside the workspace's folder.
+    /// A member names another workspace.
+    OtherWorkspace,
+    /// A member lies outside the workspace's folder, and doesn't name it.
     Outside,
+    /// Members have one name.
+    SameName,
     /// Members ask for one crate by several requirements.
     SeveralRequirements,
+    /// A manifest names a workspace, and has one.
+    TwoWorkspaces,
+    /// What was asked for lies in the workspace, and is no member.
+    Unlisted,
+    /// A path under a pattern can't be looked at.
+    Unseen,
     /// No member inherits a dependency of the workspace.
     UnusedDependency,
+    /// A member has a workspace of its own.
+    WorkspaceWithin,
 }
 
 impl Code {
-    /// The word that stands for it in a report.
-    pub fn word(self) -> &'static str
-        ensures { result.now ≡ word_of self }
-    {
+    /// The word that stands for it in a report, and what it says of each subject, where it says one
+    /// thing.
+    fn told(self) -> (&'static str, &'static str) {
         match self {
-            Code::Incomplete => "incomplete",
-            Code::ListedTwice => "listed-twice",
-            Code::OtherEdition => "other-edition",
-            Code::OtherLicense => "other-license",
-            Code::Outside => "outside",
-            Code::SeveralRequirements => "several-requirements",
-            Code::UnusedDependency => "unused-dependency",
+            Code::Absent => ("absent", "there is no manifest"),
+            Code::BadPattern => ("bad-pattern", "Cargo takes it for no pattern"),
+            Code::DefaultMember => ("default-member", "it leads to no member"),
+            Code::Features => ("features", "`lint` finds errors in its features"),
+            Code::Incomplete => ("incomplete", ""),
+            Code::ListedTwice => ("listed-twice", "two entries of members lead to it"),
+            Code::NoLints => ("no-lints", "it inherits lints, and the workspace has none"),
+            Code::NoTarget => ("no-target", "it has no target"),
+            Code::NotInherited => ("not-inherited", "a dependency has `workspace = false`"),
+            Code::OptionalShared => (
+                "optional-shared",
+                "a dependency of the workspace can't be optional",
+            ),
+            Code::OtherEdition => ("other-edition", ""),
+            Code::OtherLicense => ("other-license", ""),
+            Code::OtherWorkspace => (
+                "other-workspace",
+                "its `package.workspace` leads to another workspace",
+            ),
+            Code::Outside => (
+                "outside",
+                "it lies outside the workspace's folder, and doesn't name the workspace",
+            ),
+            Code::SameName => ("same-name", "two members have this name"),
+            Code::SeveralRequirements => ("several-requirements", ""),
+            Code::TwoWorkspaces => (
+                "two-workspaces",
+                "it has `package.workspace` and `[workspace]`",
+            ),
+            Code::Unlisted => ("unlisted", "it lies in the workspace, and is no member"),
+            Code::Unseen => ("unseen", "it can't be looked at, or not to its end"),
+            Code::UnusedDependency => ("unused-dependency", "no member inherits it"),
+            Code::WorkspaceWithin => ("workspace-within", "it has a workspace of its own"),
         }
+    }
+
+    /// The word that stands for it in a report.
+    pub fn word(self) -> &'static str {
+        self.told().0
+    }
+
+    /// What it says of each subject, where it says one thing.
+    pub fn words(self) -> &'static str {
+        self.told().1
+    }
+
+    /// Whether it is about a place.
+    pub fn is_of_place(self) -> bool {
+        !matches!(
+            self,
+            Code::BadPattern
+                | Code::DefaultMember
+                | Code::OptionalShared
+                | Code::SameName
+                | Code::SeveralRequirements
+                | Code::UnusedDependency
+        )
     }
 }
 
@@ -90,7 +169,7 @@ impl Code {
 pub struct Finding {
     /// What kind of oddity.
     pub code: Code,
-    /// The member's folder, or the dependency's key or crate.
+    /// A place, or the name of a package, a key or an entry.
     pub subject: String,
     /// What is odd.
     pub words: String,
@@ -110,68 +189,32 @@ pub struct Use {
 /// A report that is being made.
 #[derive(Drop)]
 pub struct Audit {
+    /// The place of the workspace.
+    pub root: String,
     /// The members that complete, in the order in which they were added.
     pub members: Vec<Member>,
     /// What is odd.
-    pub findings: BTreeSet<Finding>,
+    pub findings: Vec<Finding>,
     /// What the members ask for by a requirement.
-    pub uses: BTreeSet<Use>,
-    /// The keys of the workspace's dependencies that some member inherits.
-    pub inherited: BTreeSet<String>,
+    pub uses: Vec<Use>,
+    /// The keys of the workspace's dependencies that members inherit.
+    pub inherited: Vec<String>,
 }
 
 impl Audit {
-    /// The report on no member.
-    pub fn new(alloc: Global) -> Audit
-        ensures members { result.members.items ≡ [] }
-        ensures findings { btree_set_len result.findings ≡ 0 }
-        ensures uses { IsEmpty result.uses }
-        ensures inherited { IsEmpty result.inherited }
+    /// The report on no member of the workspace that lies at this place.
+    pub fn new(root: String) -> Audit
+        ensures root { result.root ≡ root }
+        ensures empty { held_in result ≡ only_found [] }
     {
+        let alloc = *root.allocator();
         Audit {
+            root,
             members: Vec::new(alloc),
-            findings: BTreeSet::new(alloc),
-            uses: BTreeSet::new(alloc),
-            inherited: BTreeSet::new(alloc),
+            findings: Vec::new(alloc),
+            uses: Vec::new(alloc),
+            inherited: Vec::new(alloc),
         }
-    }
-
-    fn find(&mut self, code: Code, subject: &str, words: String) -> Result<(), AllocError>
-        ensures rest { self.new ≡ record self.old { findings = self.new.findings } }
-        ensures findings { GainsOnly (λ o. o ≡ oddity_with code subject.now (string_bytes words))
-            self.old.findings self.new.findings }
-        ensures found { OnOk result
-            (IsReported self.new.findings (oddity_with code subject.now (string_bytes words))) }
-    {
-        let subject = String::from_str(*self.members.allocator(), subject)?;
-        self.findings.insert(Finding {
-            code,
-            subject,
-            words,
-        })?;
-        Ok(())
-    }
-
-    /// Adds what is odd of how members are listed.
-    pub fn add_listing(&mut self, members: &Members) -> Result<(), AllocError>
-        ensures rest { self.new ≡ record self.old { findings = self.new.findings } }
-        ensures findings { GainsOnly (Among (listing_oddities members.now))
-            self.old.findings self.new.findings }
-        ensures found { OnOk result (AreReported self.new.findings (listing_oddities members.now)) }
-    {
-        let alloc = *self.members.allocator();
-        for folder in &members.twice {
-            let words = String::from_str(alloc, "two entries of members lead to it")?;
-            self.find(Code::ListedTwice, folder.as_str(), words)?;
-        }
-        for member in &members.folders {
-            if !leads_out(member.as_str()) {
-                continue;
-            }
-            let words = String::from_str(alloc, "it lies outside the workspace's folder")?;
-            self.find(Code::Outside, member.as_str(), words)?;
-        }
-        Ok(())
     }
 
     /// Takes in a member's manifest as it is written: notes which dependencies of the workspace it
@@ -179,54 +222,60 @@ impl Audit {
     pub fn add_written<M>(&mut self, manifest: &Manifest<M>) -> Result<Vec<String>, AllocError>
         ensures keys { IfOk result
             (λ keys. map string_bytes keys.items ≡ left_keys (held manifest.now)) }
-        ensures rest { self.new ≡ record self.old { inherited = self.new.inherited } }
-        ensures inherited { OnOk result
-            (GainsKeys (inherited_in_all (all_by_kind (held manifest.now)))
-            self.old.inherited self.new.inherited) }
+        ensures takes { OnOk result (Takes (record {
+          members = [];
+          found = [];
+          inherited = inherited_in (entries_of (held manifest.now));
+          asked = [];
+        })
+            self.old self.new) }
     {
-        let alloc = *self.members.allocator();
+        let alloc = *self.root.allocator();
+        let entries = entries(alloc, manifest)?;
         let mut keys = inherited_keys(alloc, manifest)?;
-        add_inherited_dependencies(manifest, &mut keys, &mut self.inherited)?;
+        add_inherited(entries.as_slice(), &mut keys, &mut self.inherited)?;
         Ok(keys)
     }
 
-    /// Adds a member whose manifest is completed, and notes what it asks for.
-    pub fn add_completed<M>(
+    /// Adds a member, and notes what its completed manifest asks for.
+    pub fn add_member<M>(
         &mut self,
-        folder: &str,
+        member: Member,
         manifest: &Manifest<M>,
-        inherits: Vec<String>,
         workspace: &Workspace<M>,
-    ) -> Result<(), Error>
-        ensures added { OnOk result (AddsMember folder.now (held manifest.now) inherits
-            self.old.members.items self.new.members.items) }
-        ensures kept { OnErr result (self.new.members.items ≡ self.old.members.items) }
-        ensures no_package { IsErrAnd result IsNoPackage ↔ (manifest.now.«package» ≡ None) }
-        ensures refused { IfErr result (IsUntold (held manifest.now)) }
-        ensures findings { GainsOnly (Among (member_differences folder.now
-            (option_map template_meaning workspace.now.«package») (held manifest.now)))
-            self.old.findings self.new.findings }
-        ensures found { OnOk result (AreReported self.new.findings (member_differences folder.now
-            (option_map template_meaning workspace.now.«package») (held manifest.now))) }
-        ensures noted { NotesUses folder.now (held manifest.now) result self.old self.new }
+    ) -> Result<(), AllocError>
+        ensures { OnOk result (Takes (record {
+          members = member ∷ [];
+          found = differences (option_map template_meaning workspace.now.«package») member;
+          inherited = [];
+          asked = asked_in (entries_of (held manifest.now));
+        })
+            self.old self.new) }
     {
-        let alloc = *self.members.allocator();
-        let member = summarize(alloc, folder, manifest, inherits)?;
-        add_uses(alloc, folder, manifest, &mut self.uses)?;
-        self.compare(alloc, &member, workspace)?;
+        let alloc = *self.root.allocator();
+        let entries = entries(alloc, manifest)?;
+        add_uses(member.folder.as_str(), entries.as_slice(), &mut self.uses)?;
+        add_differences(&member, workspace, &mut self.findings)?;
         self.members.push(member)?;
         Ok(())
     }
 
-    /// Adds a member that doesn't complete, by the words of its fault.
-    pub fn add_refused(&mut self, folder: &str, words: &str) -> Result<(), AllocError>
-        ensures rest { self.new ≡ record self.old { findings = self.new.findings } }
-        ensures findings { GainsOnly (λ o. o ≡ refusal_of folder.now words.now)
-            self.old.findings self.new.findings }
-        ensures found { OnOk result
-            (IsReported self.new.findings (refusal_of folder.now words.now)) }
+    /// Adds what shows once all members were added: dependencies of the workspace that none
+    /// inherits or that are optional, names that several members have, and crates that are asked
+    /// for by several requirements.
+    pub fn finish<M>(&mut self, workspace: &Workspace<M>) -> Result<(), AllocError>
+        ensures { OnOk result (Takes (only_found (overall_oddities
+            (map_meaning dependency_meaning workspace.now.dependencies) (held_in self.old)))
+            self.old self.new) }
     {
-        let words = String::from_str(*self.members.allocator(), words)?;
-        self.find(Code::Incomplete, folder, words)
+        let alloc = *self.root.allocator();
+        let inherited = set_of(alloc, self.inherited.as_slice())?;
+        let names = names(alloc, self.members.as_slice())?;
+        let same = repeats(alloc, names.as_slice())?;
+        let mut further = further(alloc, self.uses.as_slice())?;
+        add_shared(&workspace.dependencies, &inherited, &mut self.findings)?;
+        find_all(&mut self.findings, Code::SameName, same.as_slice())?;
+        self.findings.append(&mut further)?;
+        Ok(())
     }
 }

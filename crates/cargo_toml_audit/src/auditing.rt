@@ -1,231 +1,247 @@
 //! The report on a workspace.
-ghost use Rattle.std.specs.Prelude.{◌≡◌, ◌⊎◌, ◌≤◌, IfErr, IfOk, IfSome, IsTrue, OnErr, OnOk};
-ghost use Rattle.std.specs.Prelude.{Some, map, string_bytes};
-ghost use Rattle.std.specs.BTreeSet.{btree_set_len, keys};
-ghost use Rattle.std.specs.List.Sorted.{IsStrictlySortedBy};
-ghost use Rattle.toml.specs.declared.value.Value.{Value};
-ghost use Rattle.cargo_toml.specs.Error.{Memory};
-ghost use Rattle.cargo_toml.specs.Workspace.{Workspace as Table};
-ghost use Rattle.cargo_toml_audit.specs.Oddities.{GainsOnly, oddity_cmp, oddity_of};
-ghost use Rattle.cargo_toml_audit.specs.AuditSteps.{AddsAudited, AddsFolder, IsRefusedWith};
-ghost use Rattle.cargo_toml_audit.specs.AuditSteps.{IsUnreported, IsUnshown, NotesOnly};
-ghost use Rattle.cargo_toml_audit.specs.AuditSteps.{TellsRefusal, UnlessMemory};
-ghost use Rattle.cargo_toml_audit.specs.AuditedFolders.{AreMembersOf, IsAuditFault};
-ghost use Rattle.cargo_toml_audit.specs.AuditedFolders.{IsAudited, IsReportOn};
-ghost use Rattle.cargo_toml_audit.specs.AuditedFolders.{IsReportText};
-ghost use Rattle.cargo_toml_audit.specs.AuditedMembers.{IsAskedThere, IsDifference};
-ghost use Rattle.cargo_toml_audit.specs.AuditedMembers.{IsInheritedThere, IsMemberFault};
-ghost use Rattle.cargo_toml_audit.specs.AuditedMembers.{words_told};
+ghost use Rattle.std.specs.Prelude.{◌≡◌, ◌++◌, IfErr, IfOk, OnOk, map, string_bytes};
+ghost use Rattle.std.specs.List.{flat_map, list_any};
+ghost use Rattle.cargo_toml_audit.specs.AuditSteps.{AreListed, known_of};
+ghost use Rattle.cargo_toml_audit.specs.AuditedFiles.{IsAuditFault, IsAudited, IsReport, astray};
+ghost use Rattle.cargo_toml_audit.specs.AuditedFiles.{base_of, default_entries, found_beside};
+ghost use Rattle.cargo_toml_audit.specs.AuditedFiles.{found_in_lists};
+ghost use Rattle.cargo_toml_audit.specs.AuditedFiles.{is_astray};
+ghost use Rattle.cargo_toml_audit.specs.MemberFolders.{Agrees, Disk};
+ghost use Rattle.cargo_toml_audit.specs.Oddities.{oddities_of};
 
-use crate::audit::{Audit, json, lines};
-use crate::members::{Members, list_members, manifest_path};
-use crate::reading::manifest_in;
-use cargo_toml::{Error, Manifest, Workspace};
+mod above;
+mod place;
+mod walk;
+
+use crate::audit::findings::{find_all, find_if};
+use crate::audit::{Audit, Code, Finding, Root, json, lines};
+use crate::members::{
+    Looks, included, listed, manifest_path, places_of_entry, repeats, set_of, unseen, wrong_entries,
+};
+use above::{absolute, workspace_of};
+use cargo_toml::Error;
+use cargo_toml_tools::files::manifest_in;
 use std::alloc::{AllocError, Global};
-use std::io;
+use std::collections::BTreeSet;
+use std::random::RandomSource;
 use std::rt::Files;
+use walk::add_members;
 
-/// The report on the workspace in a folder, and whether something is odd: JSON where `as_json` is
-/// set, and else lines. Where `shows` is set, a long one tells on standard error how far it is.
+/// The report on the workspace around a folder. Where `shows` is set, a long one tells on standard
+/// error how far it is.
 ///
-/// Refused where the folder's manifest can't be read or has no workspace, or its members can't be
-/// listed. A member that is refused is a finding.
-pub fn audit<R: Files + Eprint + AllocGlobal>(
+/// Refused where the folder isn't there, no workspace is found at or above it, or a manifest on the
+/// way there can't be read. A member that is refused is a finding.
+pub fn audit<R: Files + Eprint + RandomSource + AllocGlobal>(
     rt: &R,
     folder: &str,
-    as_json: bool,
     shows: bool,
-) -> Result<(String, bool), Error>
-    ensures audited { IfOk result (λ r. IsAudited folder.now as_json (string_bytes r.0) r.1) }
+) -> Result<Audit, Error>
+    ensures audited { IfOk result IsAudited }
+    ensures refused { IfErr result IsAuditFault }
+{
+    let start = absolute(rt, folder)?;
+    let workspace = workspace_of(rt, start.as_str())?;
+    let Some(found) = workspace else {
+        return Err(Error::Other("there is no workspace"));
+    };
+    report_at(rt, found.root.as_str(), found.asked.as_str(), shows)
+}
+
+/// The report on the workspace that lies at a place, in which another one is asked for.
+fn report_at<R: Files + Eprint + RandomSource + AllocGlobal>(
+    rt: &R,
+    place: &str,
+    asked: &str,
+    shows: bool,
+) -> Result<Audit, Error>
+    ensures audited { IfOk result IsAudited }
+    ensures refused { IfErr result IsAuditFault }
+{
+    let path = manifest_path(rt.alloc(), place)?;
+    let held = manifest_in(rt, path.as_str())?;
+    let manifest = &*held.manifest;
+    let Some(workspace) = &manifest.workspace else {
+        return Err(Error::Other("there is no workspace"));
+    };
+    let root = Root {
+        place,
+        path: path.as_str(),
+        manifest,
+        workspace,
+    };
+    let report = report_on(rt, root, asked, shows)?;
+    Ok(report)
+}
+
+/// The report on a workspace, in which this place is asked for.
+fn report_on<R: Files + Eprint + RandomSource + AllocGlobal>(
+    rt: &R,
+    root: Root<'_>,
+    asked: &str,
+    shows: bool,
+) -> Result<Audit, Error>
+    ensures report { IfOk result (IsReport (base_of root.entry) asked.now) }
+    ensures place { IfOk result (λ a. string_bytes a.root ≡ root.entry.place.now) }
     ensures refused { IfErr result IsAuditFault }
 {
     let alloc = rt.alloc();
-    let path = manifest_path(alloc, folder, ".")?;
-    let root = manifest_in(rt, path.as_str())?;
-    let audit = audited(rt, folder, (&*root.manifest, path.as_str()), shows)?;
-    let text = written(alloc, &audit, as_json)?;
-    Ok((text, !audit.findings.is_empty()))
-}
-
-/// A report as JSON, or as lines.
-fn written(alloc: Global, audit: &Audit, as_json: bool) -> Result<String, AllocError>
-    ensures text { IfOk result (λ text. IsReportText as_json audit.now.members.items
-        (keys audit.now.findings) (string_bytes text)) }
-    ensures in_order { OnOk result
-        (IsStrictlySortedBy oddity_cmp (map oddity_of (keys audit.now.findings))) }
-{
-    if as_json {
-        json(alloc, audit)
-    } else {
-        lines(alloc, audit)
-    }
-}
-
-/// The report on the workspace of this manifest, which lies in `folder`, at its path.
-fn audited<R: Files + Eprint + AllocGlobal>(
-    rt: &R,
-    folder: &str,
-    root: (&Manifest, &str),
-    shows: bool,
-) -> Result<Audit, Error>
-    ensures report { IfOk result (λ a. (workspace : Table Value)
-        × (root.entry.0.now.workspace ≡ Some workspace)
-        × IsReportOn root.entry.0.now root.entry.1.now workspace folder.now a) }
-    ensures refused { IfErr result (IsUnreported root.entry.0.now shows) }
-{
-    let Some(workspace) = &root.0.workspace else {
-        return Err(Error::Other("there is no workspace"));
+    let mut looks = Looks::new(alloc);
+    let mut audit = Audit::new(String::from_str(alloc, root.place)?);
+    let lists = read_lists(rt, &mut looks, root, &mut audit.findings)?;
+    let members = add_members(rt, root, lists.first, &mut audit, shows)?;
+    let known = Known {
+        listed: lists.listed,
+        entered: lists.entered,
+        members,
     };
-    let (manifest, path) = root;
-    let found = list_members(rt, folder, manifest, workspace)?;
-    let root = Root {
-        folder,
-        manifest,
-        path,
-        workspace,
-    };
-    report_on(rt, root, &found, shows)
-}
-
-/// A workspace: the folder in which it lies, its manifest at the path that this has, and the table
-/// in there.
-#[derive(Clone, Copy)]
-struct Root<'a> {
-    folder: &'a str,
-    manifest: &'a Manifest,
-    path: &'a str,
-    workspace: &'a Workspace,
-}
-
-/// The report on these members of a workspace.
-fn report_on<R: Files + Eprint + AllocGlobal>(
-    rt: &R,
-    root: Root<'_>,
-    found: &Members,
-    shows: bool,
-) -> Result<Audit, Error>
-    requires { AreMembersOf root.manifest.now root.workspace.now found.now }
-    ensures report { IfOk result (IsReportOn root.entry.manifest.now root.entry.path.now
-        root.entry.workspace.now root.entry.folder.now) }
-    ensures refused { IfErr result (IsUnshown shows (btree_set_len found.now.folders)) }
-{
-    let mut audit = Audit::new(rt.alloc());
-    audit.add_listing(found)?;
-    for (i, member) in found.folders.iter().enumerate() {
-        show_progress(rt, shows, i, found.folders.len())?;
-        add_folder(rt, root, member.as_str(), &mut audit)?;
-    }
+    find_beside(rt, &mut looks, root, (&known, asked), &mut audit.findings)?;
     audit.finish(root.workspace)?;
     Ok(audit)
 }
 
-/// Adds to a report what lies in a folder, which is seen from the workspace's: a member, or that it
-/// was refused.
-fn add_folder<R: Files + AllocGlobal>(
+/// The places that entries of `members` lead to.
+#[derive(Drop)]
+struct Lists {
+    /// Those that aren't excluded, and the root.
+    first: Vec<String>,
+    /// All.
+    listed: BTreeSet<String>,
+    /// Those that aren't excluded.
+    entered: BTreeSet<String>,
+}
+
+/// Reads where the entries of `members` lead, and finds what is odd of the lists.
+fn read_lists<R: Files + AllocGlobal>(
     rt: &R,
+    looks: &mut Looks,
     root: Root<'_>,
-    member: &str,
-    audit: &mut Audit,
-) -> Result<(), Error>
-    ensures added { OnOk result (AddsFolder root.entry.manifest.now root.entry.path.now
-        root.entry.workspace.now member.now root.entry.folder.now audit.old audit.new) }
-    ensures noted { OnOk result (NotesOnly IsInheritedThere
-        (IsAskedThere root.entry.manifest.now root.entry.path.now member.now)
-        audit.old audit.new) }
-    ensures refused { IfErr result (λ e. e ≡ Memory) }
+    findings: &mut Vec<Finding>,
+) -> Result<Lists, AllocError>
+    ensures { IfOk result (λ lists. (d : Disk) → Agrees d looks.new → Agrees d looks.old
+        × AreListed (base_of root.entry) d lists findings.old findings.new) }
 {
     let alloc = rt.alloc();
-    let path = manifest_path(alloc, root.folder, member)?;
-    let place = Place {
-        folder: member,
-        path: path.as_str(),
-    };
-    let outcome = add_member(rt, place, root, audit);
-    add_refusal(alloc, member, outcome, audit)
+    let all = listed(rt, looks, root.place, root.workspace.members.as_slice())?;
+    let mut first = included(alloc, root.limits(), all.as_slice())?;
+    find_in_lists(alloc, root, first.as_slice(), findings)?;
+    let listed = set_of(alloc, all.as_slice())?;
+    let entered = set_of(alloc, first.as_slice())?;
+    first.push(String::from_str(alloc, root.place)?)?;
+    Ok(Lists {
+        first,
+        listed,
+        entered,
+    })
 }
 
-/// Where a member is.
-#[derive(Clone, Copy)]
-struct Place<'a> {
-    folder: &'a str,
-    path: &'a str,
+/// Finds that the place that is asked for is no member's, default members that aren't, and what
+/// couldn't be looked at.
+fn find_beside<R: Files + AllocGlobal>(
+    rt: &R,
+    looks: &mut Looks,
+    root: Root<'_>,
+    by: (&Known, &str),
+    findings: &mut Vec<Finding>,
+) -> Result<(), AllocError>
+    ensures { OnOk result ((d : Disk) → Agrees d looks.new → Agrees d looks.old
+        × (oddities_of findings.new ≡ oddities_of findings.old ++ found_beside
+        (base_of root.entry) looks.new d (known_of by.entry.0.now) by.entry.1.now)) }
+{
+    let (known, asked) = by;
+    find_if(
+        findings,
+        Code::Unlisted,
+        !known.members.contains(asked),
+        asked,
+    )?;
+    find_astray(rt, looks, root, known, findings)?;
+    let unseen = unseen(rt.alloc(), looks)?;
+    find_all(findings, Code::Unseen, unseen.as_slice())
 }
 
-/// Adds to a report that a member was refused, where it was. Only want of memory ends the report.
-fn add_refusal(
+/// Finds what is listed twice, by the places that are entered, and entries that are no patterns.
+fn find_in_lists(
     alloc: Global,
-    folder: &str,
-    outcome: Result<(), Error>,
-    audit: &mut Audit,
-) -> Result<(), Error>
-    ensures rest { audit.new ≡ record audit.old { findings = audit.new.findings } }
-    ensures findings { GainsOnly (IsRefusedWith outcome folder.now)
-        audit.old.findings audit.new.findings }
-    ensures told { OnOk result (IfErr outcome
-        (λ e. TellsRefusal e folder.now audit.old.findings audit.new.findings)) }
-    ensures refused { IfErr result (λ e. e ≡ Memory) }
-{
-    match outcome {
-        Ok(()) => Ok(()),
-        Err(Error::Memory) => Err(Error::Memory),
-        Err(fault) => {
-            let words = words_of(alloc, &fault)?;
-            Ok(audit.add_refused(folder, words.as_str().trim_end())?)
-        }
-    }
-}
-
-/// The words of a member's fault. Of what its workspace gives the fault inside is told: which
-/// workspace it is, is known.
-fn words_of(alloc: Global, fault: &Error) -> Result<String, AllocError>
-    ensures { IfOk result
-        (λ words. IfSome (words_told fault.now) (λ t. string_bytes words ≡ t)) }
-{
-    match fault {
-        Error::Workspace(inner) => format!(in alloc; "{}", inner.0),
-        _ => format!(in alloc; "{fault}"),
-    }
-}
-
-/// Adds a member to a report, completed from its workspace.
-fn add_member<R: Files + AllocGlobal>(
-    rt: &R,
-    place: Place<'_>,
     root: Root<'_>,
-    audit: &mut Audit,
-) -> Result<(), Error>
-    ensures added { OnOk result (AddsAudited root.entry.manifest.now root.entry.path.now
-        root.entry.workspace.now place.entry.folder.now audit.old audit.new) }
-    ensures kept { OnErr result (audit.new.members.items ≡ audit.old.members.items) }
-    ensures findings { GainsOnly (IsDifference root.entry.manifest.now root.entry.path.now
-        root.entry.workspace.now place.entry.folder.now) audit.old.findings audit.new.findings }
-    ensures noted { UnlessMemory result (NotesOnly IsInheritedThere
-        (IsAskedThere root.entry.manifest.now root.entry.path.now place.entry.folder.now)
-        audit.old audit.new) }
-    ensures left { IfErr result (λ e. (e ≡ Memory)
-        ⊎ (audit.new ≡ record audit.old { inherited = audit.new.inherited })) }
-    ensures refused { IfErr result
-        (IsMemberFault root.entry.manifest.now root.entry.path.now place.entry.path.now) }
+    entered: &[String],
+    findings: &mut Vec<Finding>,
+) -> Result<(), AllocError>
+    ensures { OnOk result (oddities_of findings.new ≡ oddities_of findings.old
+        ++ found_in_lists (base_of root.entry) (map string_bytes entered.now)) }
 {
-    let alloc = rt.alloc();
-    let mut held = manifest_in(rt, place.path)?;
-    let inherits = audit.add_written(&*held.manifest)?;
-    held.manifest
-        .complete_from_path_and_workspace(rt, alloc, place.path, Some((root.manifest, root.path)))?;
-    audit.add_completed(place.folder, &*held.manifest, inherits, root.workspace)
+    let twice = repeats(alloc, entered)?;
+    let wrong = wrong_entries(alloc, root.workspace.members.as_slice())?;
+    let wrong_defaults = wrong_entries(alloc, root.workspace.default_members.as_slice())?;
+    find_all(findings, Code::ListedTwice, twice.as_slice())?;
+    find_all(findings, Code::BadPattern, wrong.as_slice())?;
+    find_all(findings, Code::BadPattern, wrong_defaults.as_slice())
 }
 
-/// Tells a terminal how far a long report is.
-fn show_progress<R: Eprint>(rt: &R, shows: bool, done: usize, all: usize) -> io::Result<()>
-    ensures { IfErr result (λ _. IsTrue shows × (20 ≤ all)) }
+/// The places that entries of `members` lead to, those of them that aren't excluded, and those of
+/// members.
+#[derive(Drop)]
+struct Known {
+    listed: BTreeSet<String>,
+    entered: BTreeSet<String>,
+    members: BTreeSet<String>,
+}
+
+/// Finds the entries of `default-members` that don't lead to members alone, or to what is listed
+/// and excluded.
+fn find_astray<R: Files + AllocGlobal>(
+    rt: &R,
+    looks: &mut Looks,
+    root: Root<'_>,
+    known: &Known,
+    findings: &mut Vec<Finding>,
+) -> Result<(), AllocError>
+    ensures { OnOk result ((d : Disk) → Agrees d looks.new → Agrees d looks.old
+        × (oddities_of findings.new ≡ oddities_of findings.old
+        ++ flat_map (astray (base_of root.entry) d (known_of known.now))
+        (default_entries (base_of root.entry)))) }
 {
-    if !shows || all < 20 {
-        return Ok(());
-    }
-    if done.saturating_add(1) == all {
-        eprint!(rt; "\r\u{1b}[K")?;
-    } else if done % 10 == 0 {
-        eprint!(rt; "\r{done} of {all} members")?;
+    for entry in root.workspace.default_members.as_slice() {
+        let entry = entry.as_str();
+        let places = places_of_entry(rt, looks, root.place, entry)?;
+        let is_astray = any_astray(known, places.as_slice());
+        find_if(findings, Code::DefaultMember, is_astray, entry)?;
     }
     Ok(())
+}
+
+/// Whether one of these places is none of a member, nor listed and excluded.
+fn any_astray(known: &Known, places: &[String]) -> bool
+    ensures { result ≡ list_any (is_astray (known_of known.now)) (map string_bytes places.now) }
+{
+    for place in places {
+        if is_astray(known, place.as_str()) {
+            return true;
+        }
+    }
+    false
+}
+
+fn is_astray(known: &Known, place: &str) -> bool
+    ensures { result ≡ is_astray (known_of known.now) place.now }
+{
+    !known.members.contains(place)
+        && !(known.listed.contains(place) && !known.entered.contains(place))
+}
+
+/// The report as text, and whether something is odd: JSON where `as_json` is set, and else lines.
+/// Where `shows` is set, a long one tells on standard error how far it is.
+pub fn audit_text<R: Files + Eprint + RandomSource + AllocGlobal>(
+    rt: &R,
+    folder: &str,
+    as_json: bool,
+    shows: bool,
+) -> Result<(String, bool), Error> {
+    let report = audit(rt, folder, shows)?;
+    let text = if as_json {
+        json(rt.alloc(), &report)?
+    } else {
+        lines(rt.alloc(), &report)?
+    };
+    Ok((text, !report.findings.is_empty()))
 }

@@ -1,14 +1,9 @@
-//! The report on a workspace: what its members inherit, what is odd in it, and its folders.
+//! The report on a workspace: what each member is, and what is odd, by Cargo's rules.
 //!
 //! `audit` and `members` borrow the manifests that they read. `auditing` reads and owns them, and
-//! alone pays for that when it is proved. `escape` writes names and texts of strangers.
+//! alone pays for that when it is proved.
 #![tactic(auto)]
 
 pub mod audit;
 pub mod auditing;
-pub mod escape;
-mod json;
 pub mod members;
-mod reading;
-mod requirement;
-mod tables;

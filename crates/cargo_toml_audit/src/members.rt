@@ -1,188 +1,152 @@
-//! The members of a workspace, by its `members` and `exclude`. Unlike Cargo, `**` is no more than
-//! `*`, `[` stands for itself, and path dependencies add none.
-ghost use Rattle.std.specs.Prelude.{◌≡◌, ◌<◌, ◌∷◌, ◌&&◌, ◌||◌, [], ℕ, Bool, List, IfErr};
-ghost use Rattle.std.specs.Prelude.{IfOk, IsFalse, IsSome, IsTrue, OnOk, bytes_eq, codes, false};
-ghost use Rattle.std.specs.Prelude.{is_some, map, not, string_bytes};
-ghost use Rattle.std.specs.BTreeSet.{contains_text, keys};
-ghost use Rattle.std.specs.List.{list_any};
-ghost use Rattle.cargo_toml.specs.Reach.{Among};
-ghost use Rattle.cargo_toml_audit.specs.FurtherFolders.{AddsPaths};
-ghost use Rattle.cargo_toml_audit.specs.MemberFolders.{AreListed, AreOfPaths, IsOfFolders};
-ghost use Rattle.cargo_toml_audit.specs.MemberFolders.{has_pattern, lists_folder, times_named};
-ghost use Rattle.cargo_toml_audit.specs.Places.{is_excluded, lies_in, lies_under, manifest_path};
-ghost use Rattle.cargo_toml_audit.specs.Places.{normalized};
+//! The members of a workspace, as Cargo finds them by its lists and by paths of dependencies.
+ghost use Rattle.std.specs.Prelude.{◌≡◌, ◌++◌, IfOk, OnOk, filter, map, not, string_bytes};
+ghost use Rattle.std.specs.List.{flat_map};
+ghost use Rattle.cargo_toml_audit.specs.MemberFolders.{Tells, is_wrong};
+ghost use Rattle.cargo_toml_audit.specs.MemberFolders.{is_wrong_name, places_if_right, repeats};
+ghost use Rattle.cargo_toml_audit.specs.MemberFolders.{unread_in, unseen, unseen_in};
+ghost use Rattle.cargo_toml_audit.specs.Places.{excludes};
 
-mod matching;
+mod patterns;
+mod places;
+mod sets;
 mod walk;
 
-use cargo_toml::{Error, Manifest, Workspace};
+use patterns::{is_deep, tokens_of};
+use places::pieces;
+pub use places::{Limits, excludes, lies_in, manifest_path, place_of, seen_from};
+pub use sets::{note, repeats, set_of};
 use std::alloc::{AllocError, Global};
-use std::collections::BTreeSet;
+use std::collections::BTreeMap;
 use std::rt::Files;
-pub use walk::leads_out;
-use walk::{climbs_from, expanded, is_within, normalized, path_below, seen_from};
+use walk::places_of;
+pub use walk::{Listing, Looks, There, look_at};
 
-/// The members that a workspace lists, by their folders from its own on.
-#[derive(Debug, Drop)]
-pub struct Members {
-    /// Each folder once, without `.` and with `..` at the front alone. The workspace's own is `.`.
-    pub folders: BTreeSet<String>,
-    /// Those that are listed more than once.
-    pub twice: BTreeSet<String>,
-}
-
-/// The members that the workspace of this manifest lists, which lies in `root`.
-///
-/// A pattern stands for the folders that it matches, where each `*` and `?` stays within one name;
-/// one that matches none stands for itself. What lies in an excluded folder is left out, unless it
-/// lies in one that an entry of `members` names as it is written. The manifest itself is a member
-/// where it has a package.
-pub fn list_members<M, R: Files + AllocGlobal>(
+/// The places that the entries of a list in `root` lead to, one entry after the other. One that
+/// Cargo can't read leads nowhere.
+pub fn listed<R: Files + AllocGlobal>(
     rt: &R,
+    looks: &mut Looks,
     root: &str,
-    manifest: &Manifest<M>,
-    workspace: &Workspace<M>,
-) -> Result<Members, Error>
-    ensures listed { IfOk result (λ m. AreListed
-        (lists_folder (map string_bytes workspace.now.members.items)
-        (map string_bytes workspace.now.exclude.items))
-        (is_some manifest.now.«package») (map string_bytes workspace.now.members.items)
-        (contains_text m.folders) (contains_text m.twice)) }
-    ensures named { IfOk result (λ m. (entry : List ℕ)
-        → Among (map string_bytes workspace.now.members.items) entry → IsFalse (has_pattern entry)
-        → IsTrue (contains_text m.folders (normalized entry))) }
-    ensures own { IfOk result (λ m. IsSome manifest.now.«package»
-        → IsTrue (contains_text m.folders (codes "."))) }
-    ensures twice { IfOk result (λ m. (folder : List ℕ)
-        → 1 < times_named (map string_bytes workspace.now.members.items) folder
-        → IsTrue (contains_text m.twice folder)) }
-    ensures refused { IfErr result (IsOfFolders
-        (list_any has_pattern (map string_bytes workspace.now.members.items))) }
+    entries: &[String],
+) -> Result<Vec<String>, AllocError>
+    ensures { IfOk result (λ places. Tells
+        (λ d. flat_map (places_if_right d root.now) (map string_bytes entries.now))
+        looks.old looks.new (map string_bytes places.items)) }
 {
-    let alloc = rt.alloc();
-    let mut members = Members {
-        folders: BTreeSet::new(alloc),
-        twice: BTreeSet::new(alloc),
-    };
-    for entry in &workspace.members {
-        let found = expanded(rt, root, entry.as_str())?;
-        add_all(alloc, &mut members, &found, workspace)?;
+    let mut all = Vec::new(rt.alloc());
+    for entry in entries {
+        let mut places = places_of_entry(rt, looks, root, entry.as_str())?;
+        all.append(&mut places)?;
     }
-    add_own(alloc, &mut members, manifest)?;
-    Ok(members)
+    Ok(all)
 }
 
-/// Adds the folder of the workspace, where its manifest has a package.
-fn add_own<M>(
-    alloc: Global,
-    members: &mut Members,
-    manifest: &Manifest<M>,
-) -> Result<(), AllocError>
-    ensures { OnOk result ((lists : List ℕ → List ℕ → Bool) → (paths : List (List ℕ))
-        → AreOfPaths lists false paths
-        (contains_text members.old.folders) (contains_text members.old.twice)
-        → AreOfPaths lists (is_some manifest.now.«package») paths
-        (contains_text members.new.folders) (contains_text members.new.twice)) }
+/// The places that an entry of a list in `root` leads to, unless Cargo can't read it.
+pub fn places_of_entry<R: Files + AllocGlobal>(
+    rt: &R,
+    looks: &mut Looks,
+    root: &str,
+    entry: &str,
+) -> Result<Vec<String>, AllocError>
+    ensures { IfOk result (λ places. Tells (λ d. places_if_right d root.now entry.now)
+        looks.old looks.new (map string_bytes places.items)) }
 {
-    if manifest.package.is_none() {
-        return Ok(());
+    if is_wrong(rt.alloc(), entry)? {
+        return Ok(Vec::new(rt.alloc()));
     }
-    members.folders.insert(String::from_str(alloc, ".")?)?;
-    Ok(())
+    places_of(rt, looks, root, entry)
 }
 
-/// Adds the folders that an entry of `members` leads to, but for those that are excluded.
-fn add_all<M>(
-    alloc: Global,
-    members: &mut Members,
-    found: &BTreeSet<String>,
-    workspace: &Workspace<M>,
-) -> Result<(), AllocError>
-    ensures { OnOk result (AddsPaths
-        (lists_folder (map string_bytes workspace.now.members.items)
-        (map string_bytes workspace.now.exclude.items))
-        (map string_bytes (keys found.now)) members.old members.new) }
+/// Whether Cargo can't read an entry as a pattern.
+fn is_wrong(alloc: Global, entry: &str) -> Result<bool, AllocError>
+    ensures { IfOk result (λ b. b ≡ is_wrong entry.now) }
 {
-    for folder in found {
-        add_found(alloc, members, folder.as_str(), workspace)?;
-    }
-    Ok(())
-}
-
-/// Adds a folder that an entry of `members` leads to, unless it is excluded.
-fn add_found<M>(
-    alloc: Global,
-    members: &mut Members,
-    folder: &str,
-    workspace: &Workspace<M>,
-) -> Result<(), AllocError>
-    ensures { OnOk result (AddsPaths
-        (lists_folder (map string_bytes workspace.now.members.items)
-        (map string_bytes workspace.now.exclude.items))
-        (folder.now ∷ []) members.old members.new) }
-{
-    let folder = normalized(alloc, folder)?;
-    if is_excluded(alloc, folder.as_str(), workspace)? {
-        return Ok(());
-    }
-    add(members, folder)?;
-    Ok(())
-}
-
-/// Adds a folder, or tells that it is there already.
-fn add(members: &mut Members, folder: String) -> Result<(), AllocError>
-    ensures folders { OnOk result ((text : List ℕ) → contains_text members.new.folders text
-        ≡ (contains_text members.old.folders text || bytes_eq (string_bytes folder) text)) }
-    ensures twice { OnOk result ((text : List ℕ) → contains_text members.new.twice text
-        ≡ (contains_text members.old.twice text || (bytes_eq (string_bytes folder) text
-        && contains_text members.old.folders (string_bytes folder)))) }
-{
-    if members.folders.contains(folder.as_str()) {
-        members.twice.insert(folder)?;
-    } else {
-        members.folders.insert(folder)?;
-    }
-    Ok(())
-}
-
-/// Whether a folder is excluded, and lies in none that `members` names as it is written.
-fn is_excluded<M>(alloc: Global, folder: &str, workspace: &Workspace<M>) -> Result<bool, AllocError>
-    ensures { IfOk result (λ b. b ≡ is_excluded (map string_bytes workspace.now.members.items)
-        (map string_bytes workspace.now.exclude.items) folder.now) }
-{
-    if !lies_in(alloc, folder, workspace.exclude.as_slice())? {
-        return Ok(false);
-    }
-    Ok(!lies_in(alloc, folder, workspace.members.as_slice())?)
-}
-
-/// Whether a folder is one of these, or lies in one.
-fn lies_in(alloc: Global, folder: &str, folders: &[String]) -> Result<bool, AllocError>
-    ensures { IfOk result (λ b. b ≡ lies_in folder.now (map string_bytes folders.now)) }
-{
-    for outer in folders {
-        let outer = normalized(alloc, outer.as_str())?;
-        if lies_under(folder, outer.as_str()) {
+    let names = pieces(alloc, entry)?;
+    for name in names.as_slice() {
+        if is_wrong_name(alloc, *name)? {
             return Ok(true);
         }
     }
     Ok(false)
 }
 
-/// Whether a folder is this one, or lies in it.
-fn lies_under(folder: &str, outer: &str) -> bool
-    ensures { result ≡ lies_under folder.now outer.now }
+fn is_wrong_name(alloc: Global, name: &str) -> Result<bool, AllocError>
+    ensures { IfOk result (λ b. b ≡ is_wrong_name name.now) }
 {
-    if outer == "." {
-        return !leads_out(folder);
-    }
-    is_within(folder, outer) && !climbs_from(folder, outer)
+    Ok(!is_deep(name) && tokens_of(alloc, name)?.is_none())
 }
 
-/// The path of the manifest in a folder that is seen from `root`.
-pub fn manifest_path(alloc: Global, root: &str, folder: &str) -> Result<String, AllocError>
-    ensures { IfOk result (λ path. string_bytes path ≡ manifest_path root.now folder.now) }
+/// The entries that Cargo can't read.
+pub fn wrong_entries(alloc: Global, entries: &[String]) -> Result<Vec<String>, AllocError>
+    ensures { IfOk result
+        (λ all. map string_bytes all.items ≡ filter is_wrong (map string_bytes entries.now)) }
 {
-    let folder = seen_from(alloc, root, folder)?;
-    path_below(alloc, folder.as_str(), "Cargo.toml")
+    let mut all = Vec::new(alloc);
+    for entry in entries {
+        if is_wrong(alloc, entry.as_str())? {
+            all.push(entry.clone()?)?;
+        }
+    }
+    Ok(all)
+}
+
+/// Those places that a workspace doesn't exclude.
+pub fn included(
+    alloc: Global,
+    limits: Limits<'_>,
+    places: &[String],
+) -> Result<Vec<String>, AllocError>
+    ensures { IfOk result (λ all. map string_bytes all.items
+        ≡ filter (λ p. not (excludes limits.entry.root.now (map string_bytes limits.entry.exclude.now)
+        (map string_bytes limits.entry.members.now) p)) (map string_bytes places.now)) }
+{
+    let mut all = Vec::new(alloc);
+    for place in places {
+        if !excludes(alloc, limits, place.as_str())? {
+            all.push(place.clone()?)?;
+        }
+    }
+    Ok(all)
+}
+
+/// What couldn't be looked at, or read to its end.
+pub fn unseen(alloc: Global, looks: &Looks) -> Result<Vec<String>, AllocError>
+    ensures { IfOk result (λ all. map string_bytes all.items ≡ unseen looks.now) }
+{
+    let mut all = Vec::new(alloc);
+    add_unseen(alloc, &looks.there, &mut all)?;
+    add_unread(alloc, &looks.names, &mut all)?;
+    Ok(all)
+}
+
+fn add_unseen(
+    alloc: Global,
+    known: &BTreeMap<String, There>,
+    all: &mut Vec<String>,
+) -> Result<(), AllocError>
+    ensures { OnOk result (map string_bytes all.new.items
+        ≡ map string_bytes all.old.items ++ unseen_in known.now.entries) }
+{
+    for (path, there) in known {
+        if *there == There::Unseen {
+            all.push(path.clone()?)?;
+        }
+    }
+    Ok(())
+}
+
+fn add_unread(
+    alloc: Global,
+    known: &BTreeMap<String, Listing>,
+    all: &mut Vec<String>,
+) -> Result<(), AllocError>
+    ensures { OnOk result (map string_bytes all.new.items
+        ≡ map string_bytes all.old.items ++ unread_in known.now.entries) }
+{
+    for (path, listing) in known {
+        if !listing.is_whole {
+            all.push(path.clone()?)?;
+        }
+    }
+    Ok(())
 }

@@ -25,8 +25,8 @@ use cargo_toml_features::features::Feature;
 use std::alloc::{AllocError, Global};
 use std::collections::{BTreeMap, BTreeSet};
 
-// Room for `default` and for some features that dependencies imply.
-const ROOM: usize = 16;
+// Room for `default` and for the few features that dependencies imply.
+const ROOM: usize = 17;
 
 /// What the lists of features say, before dependencies are looked at.
 #[derive(Drop)]

@@ -1,6 +1,6 @@
 -- Features by the places of their names.
-use Rattle.std.specs.Prelude.{◌≡◌, ◌≢◌, ◌↔◌, ◌<◌, ℕ, Bool, List, true, false, IsFalse, IsTrue, bytes_eq, codes}
-use Rattle.std.specs.Prelude.{if◌then◌else◌, length, map, not}
+use Rattle.std.specs.Prelude.{◌≡◌, ◌≢◌, ◌↔◌, ◌<◌, ℕ, Bool, List, true, false, IsFalse, IsTrue}
+use Rattle.std.specs.Prelude.{bytes_eq, codes, if◌then◌else◌, length, map, not}
 use Rattle.cargo_toml.specs.Action.{Text}
 use Rattle.cargo_toml.specs.Ascending.{Ascend}
 use Rattle.cargo_toml.specs.Graph.{Table}

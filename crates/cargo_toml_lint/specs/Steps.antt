@@ -38,7 +38,8 @@ module _ {S : Type 0} (m : HashMap (Bor Text) Feature S) where
   -- what is found of a listed feature
   abbrev pub listed_findings : Known → ℕ → Text × List Text → List About
   listed_findings known limit e =
-      feature_findings (held_names known) (nat_lt limit (length e.1) || not (explicit_at e.0)) e.0 e.1
+      feature_findings (held_names known)
+      (nat_lt limit (length e.1) || not (explicit_at e.0)) e.0 e.1
 
   -- what is found of what is written, by the names that are gathered
   abbrev pub written_in : {M : Type 0} → Known → ℕ → ManifestMeaning M → List About

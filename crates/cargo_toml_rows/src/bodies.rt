@@ -94,6 +94,7 @@ fn table(alloc: Global, a: &str, hidden_a: &str, hidden_b: &str) -> Shown {
     Ok(format!(in alloc;
         "package.name = 'p'\nfeatures = {{ a = [{a}], _a = [{hidden_a}], _b = [{hidden_b}] }}\n\
         bin = [{{ name = 'x', required-features = ['a'] }}, \
-        {{ name = 'y', required-features = ['_a'] }}, {{ name = 'z', required-features = ['_b'] }}]\n"
+        {{ name = 'y', required-features = ['_a'] }}, \
+        {{ name = 'z', required-features = ['_b'] }}]\n"
     )?)
 }

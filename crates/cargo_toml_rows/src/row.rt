@@ -22,13 +22,10 @@ impl<R: Files + AllocGlobal> Row<'_, R> {
         self.rt.alloc()
     }
 
-    /// The bytes of its manifest, and none of a row that has no manifest.
+    /// The bytes of its manifest.
     pub fn manifest(&self) -> Result<Vec<u8>, Error> {
         let path = format!(in self.alloc(); "{}/Cargo.toml", self.path)?;
-        match read(self.rt, path.as_str()) {
-            Err(Error::Io(_)) => Ok(Vec::new(self.alloc())),
-            bytes => bytes,
-        }
+        read(self.rt, path.as_str())
     }
 
     /// The text of a file in its folder, if that or its template is there.

@@ -39,7 +39,7 @@ pub fn push_code(text: &mut String, name: &str) -> Result<(), AllocError> {
 }
 
 /// What stands before the item at this place of a list: a comma, but not before the first.
-pub(crate) fn comma_before(place: usize) -> &'static str {
+pub fn comma_before(place: usize) -> &'static str {
     if place == 0 { "" } else { ", " }
 }
 

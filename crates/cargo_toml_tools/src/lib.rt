@@ -12,4 +12,4 @@ pub mod files;
 pub mod index;
 pub mod json;
 pub mod lint;
-mod requirement;
+pub mod requirement;

@@ -1,4 +1,5 @@
 //! What comes of requests about files.
+use cargo_toml_audit::auditing::audit_text;
 use cargo_toml_check::check::check_lines;
 use cargo_toml_check::files::{features_in, json_in, toml_in};
 use cargo_toml_check::lint::{Judging, lint_lines};
@@ -113,17 +114,13 @@ fn answer_index<R: Files + Print + Eprint + RandomSource + AllocGlobal>(
 }
 
 /// The report on the workspace in a folder.
-pub(crate) fn audit<R: Files + Print + Eprint + AllocGlobal>(
+pub(crate) fn audit<R: Files + Print + Eprint + RandomSource + AllocGlobal>(
     rt: &R,
     folder: &str,
     as_json: bool,
     shows: bool,
 ) -> io::Result<Outcome> {
-    put(
-        rt,
-        folder,
-        cargo_toml_audit::auditing::audit(rt, folder, as_json, shows),
-    )
+    put(rt, folder, audit_text(rt, folder, as_json, shows))
 }
 
 /// Writes what came of a file, and whether that is odd; or tells why the file is refused.

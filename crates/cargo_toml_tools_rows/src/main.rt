@@ -12,7 +12,7 @@ mod findings;
 mod words;
 
 use cargo_toml::Error;
-use cargo_toml_audit::auditing::audit;
+use cargo_toml_audit::auditing::audit_text;
 use cargo_toml_check::check::check_lines;
 use cargo_toml_check::files::{features_in, json_in, toml_in};
 use cargo_toml_check::lint::{Judging, lint_lines};
@@ -134,8 +134,8 @@ fn answer<R: Files + RandomSource + Eprint + AllocGlobal>(
         }
         "document" => told(alloc, "FILE", document_text(rt, file.as_str(), false)),
         "graph" => told(alloc, "FILE", document_text(rt, file.as_str(), true)),
-        "audit" => reported(alloc, "FOLDER", audit(rt, folder, false, false)),
-        "report" => reported(alloc, "FOLDER", audit(rt, folder, true, false)),
+        "audit" => reported(alloc, "FOLDER", audit_text(rt, folder, false, false)),
+        "report" => reported(alloc, "FOLDER", audit_text(rt, folder, true, false)),
         _ => Err(Error::Other("no such kind of row")),
     }
 }

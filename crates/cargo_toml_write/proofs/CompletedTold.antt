@@ -1,39 +1,32 @@
 -- What completion gives of a manifest that is told, from a workspace that is, is told.
-use Rattle.std.proofs.Common.{arith, ◌≡◌, refl, ap, subst, ℕ, List, [], ◌∷◌, Bool, true, false, Option, Some, None, IfSome, option_map, option_and_then, Result, Ok, Err, if◌then◌else◌}
+use Rattle.std.proofs.Common.{arith, ◌≡◌, refl, ap, subst, ℕ, List, [], ◌∷◌, Bool, Option, Some, None, IfSome, option_and_then, Result, Ok, Err, if◌then◌else◌}
 use Rattle.std.specs.List.{AllByRecursion}
 use Rattle.std.specs.Str.{bytes_eq}
 use Rattle.std.proofs.lemmas.List.Elements.{All-from_recursion, recursion_from_All}
 use Rattle.semver.specs.Parse.{Held}
-use Rattle.toml.specs.Data.{Data}
-use Rattle.cargo_toml_dependencies.specs.Dependencies.{DependencyMeaning, InheritedMeaning, detail_keys, detailed, inherited, simple}
-use Rattle.cargo_toml_dependencies.specs.Inheriting.{Entries, adds_nothing, detail_of_requirement, entry_at, from_template, inherited_entries, inherited_entry, inherited_target, inherited_targets, with_entry}
+use Rattle.cargo_toml_dependencies.specs.Dependencies.{DependencyMeaning, InheritedMeaning, detailed, inherited, simple}
+use Rattle.cargo_toml_dependencies.specs.Inheriting.{Entries, detail_of_requirement, entry_at, from_template, inherited_entries, inherited_entry, inherited_target, inherited_targets, with_entry}
 use Rattle.cargo_toml_dependencies.specs.Targets.{TargetMeaning}
 use Rattle.cargo_toml_discovery.specs.Discovering.{discovered}
 use Rattle.cargo_toml_discovery.specs.Names.{Name}
 use Rattle.cargo_toml_discovery.specs.Around.{around}
-use Rattle.cargo_toml_discovery.specs.Seen.{Seen, seen, seen_as, faulty, unclear}
+use Rattle.cargo_toml_discovery.specs.Seen.{Seen, seen, seen_as}
 use Rattle.cargo_toml_discovery.specs.Told as folders
 use Rattle.cargo_toml_manifest.specs.Choosing.{Choice, from, lost, unclear_root}
 use Rattle.cargo_toml_manifest.specs.Completing.{complete_by, gives, seen_at, then_found}
 use Rattle.cargo_toml_manifest.specs.Finding.{found_for, stated_by, wanted_by, with_discovered}
 use Rattle.cargo_toml_manifest.specs.Inheriting.{inherited_from, inherited_if_there, inherited_manifest, own_tables}
-use Rattle.cargo_toml_manifest.specs.declared.manifest.Manifest.{Manifest}
-use Rattle.cargo_toml_manifest.specs.Manifests.{ManifestMeaning, manifest_meaning}
+use Rattle.cargo_toml_manifest.specs.Manifests.{ManifestMeaning}
 use Rattle.cargo_toml_package.specs.Inheriting.{any_field_left, filled_field, inherited_package, with_template_if_there}
-use Rattle.cargo_toml_package.specs.declared.package.Package.{Package}
-use Rattle.cargo_toml_package.specs.Packages.{PackageMeaning, package_meaning}
+use Rattle.cargo_toml_package.specs.Packages.{PackageMeaning}
 use Rattle.cargo_toml_package.specs.Templates.{TemplateMeaning}
 use Rattle.cargo_toml_parts.specs.Paths.{workspace_folder}
 use Rattle.cargo_toml_parts.specs.Answers.{◌>>=◌, beside, each}
 use Rattle.cargo_toml_parts.specs.FaultValues.{Fault}
-use Rattle.cargo_toml_parts.specs.Reads.{is_among}
 use Rattle.cargo_toml_parts.specs.Versions.{Parts}
 use Rattle.cargo_toml_parts.specs.declared.inheritable.Inheritable.{Inheritable}
-use Rattle.cargo_toml_parts.specs.declared.inheritable.Inheritable.TheVariants.{Set, Inherited}
-use Rattle.cargo_toml_package.specs.declared.workspace.Workspace.{Workspace}
-use Rattle.cargo_toml_package.specs.Workspaces.{workspace_meaning}
 use Rattle.cargo_toml_package.specs.Sharing.{LintsByTool, Shared, inherited_lints}
-use Rattle.cargo_toml_write.specs.Asked.{EachValue, IfSet, TargetMeets, WorkspaceMeets}
+use Rattle.cargo_toml_write.specs.Asked.{EachValue, IfSet, TargetMeets}
 use Rattle.cargo_toml_write.specs.Requirements.{CanBeRead}
 use Rattle.cargo_toml_write.specs.Reread.{ChoiceIsTold, IsTold, SharedIsTold, reread_dependency, told}
 use Rattle.cargo_toml_write.specs.WrittenDependencies.{DependencyAgain}
@@ -56,8 +49,7 @@ yields_err : {A : Type 0} {P : A → Type 0} (e : Fault) → Yields P (Err e)
 yields_err e = record { each_is = λ x is. absurd cc }
 
 then_yields : {A B : Type 0} {Q : A → Type 0} {P : B → Type 0} (r : Result A Fault) (f : A → Result B Fault) → Yields Q r → ((x : A) → Q x → Yields P (f x)) → Yields P (◌>>=◌ r f)
-then_yields (Ok x) f h k = k x (h.each_is x refl)
-then_yields (Err e) f h k = yields_err e
+then_yields r f h1 h2 = grind (arith, yields_err)
 
 -- dependencies
 abbrev Told : DependencyMeaning → Type 0
@@ -67,16 +59,14 @@ abbrev AllTold : Entries → Type 0
 AllTold es = AllByRecursion (λ (e : List ℕ × DependencyMeaning). Told e.1) es
 
 at_key : (b : Bool) (d : DependencyMeaning) (rest : Option DependencyMeaning) → Told d → IfSome rest Told → IfSome (if b then Some d else rest) Told
-at_key true d rest h more = h
-at_key false d rest h more = more
+at_key b d rest h1 h2 = grind arith
 
 entry_told : (key : List ℕ) (es : Entries) → AllTold es → IfSome (entry_at key es) Told
 entry_told key [] h = tt
 entry_told key (e ∷ es) h = at_key (bytes_eq key e.0) e.1 (entry_at key es) h.0 (entry_told key es h.1)
 
 lookup_told : (key : List ℕ) (templates : Option Entries) → IfSome templates AllTold → IfSome (option_and_then (entry_at key) templates) Told
-lookup_told key None h = tt
-lookup_told key (Some es) h = entry_told key es h
+lookup_told key templates h1 = grind (arith, entry_told)
 
 simple_told : (b : Bool) (base : List ℕ) (entry : InheritedMeaning) (r : List Held) → CanBeRead r → Yields Told (if b then Ok (simple r) else Ok (detailed (with_entry base entry (detail_of_requirement r))))
 simple_told b base entry r h1 = grind (arith, All-from_recursion, yields_ok)
@@ -96,8 +86,7 @@ each_yields P Q f h (x ∷ xs) all =
     then_yields {Q = AllByRecursion Q} {P = AllByRecursion Q} (each f xs) _ (each_yields P Q f h xs all.1) (λ ys qs. yields_ok {P = AllByRecursion Q} (y ∷ ys) (q, qs)))
 
 beside_yields : {A : Type 0} (P : A → Type 0) (key : List ℕ) (r : Result A Fault) → Yields P r → Yields (λ (e : List ℕ × A). P e.1) (beside key r)
-beside_yields P key (Ok x) h = yields_ok (key, x) (h.each_is x refl)
-beside_yields P key (Err e) h = yields_err e
+beside_yields P key r h1 = grind (arith, yields_err, yields_ok)
 
 values_yield : {A B : Type 0} (P : A → Type 0) (Q : B → Type 0) (f : List ℕ → A → Result B Fault) → ((key : List ℕ) (x : A) → P x → Yields Q (f key x)) → (es : List (List ℕ × A)) → EachValue P es
     → Yields (EachValue Q) (each (λ e. beside e.0 (f e.0 e.1)) es)
@@ -136,12 +125,10 @@ module _ {M : Type 0} where
   IsVersioned p = VersionAgain p.version
 
   filled_told : (template : Option TemplateMeaning) (base : List ℕ) (p : PackageMeaning M) → IfSome template TemplateAgain → IsVersioned p → IsVersioned (with_template_if_there base template p)
-  filled_told None base p all h = h
-  filled_told (Some t) base p all h = version_told p.version t.version h all
+  filled_told template base p h1 h2 = grind (arith, version_told)
 
   checked_told : (b : Bool) (p : PackageMeaning M) (fault : Fault) → IsVersioned p → Yields IsVersioned (if b then Err fault else Ok p)
-  checked_told true p fault h = yields_err fault
-  checked_told false p fault h = yields_ok {P = IsVersioned} p h
+  checked_told b p fault h1 = grind (arith, yields_err, yields_ok)
 
   package_told : (template : Option TemplateMeaning) (base : List ℕ) (o : Option (PackageMeaning M)) → IfSome template TemplateAgain → IfSome o IsVersioned
       → Yields (λ q. IfSome q IsVersioned) (inherited_if_there template base o)
@@ -186,20 +173,3 @@ module _ {M : Type 0} where
   completed_told m n (from (Some w)) folder h all is = then_told (Some w.1) folder (inherited_manifest w.0 (workspace_folder w.1) m) (from_told w.0 (workspace_folder w.1) m all h) n is
   completed_told m n lost folder h all is = absurd cc
   completed_told m n unclear_root folder h all is = absurd cc
-
--- what is told doesn't depend on how metadata are seen
-any_metadata : {M : Type 0} (o : Option M) → IfSome o (λ (x : M). Unit {0})
-any_metadata None = tt
-any_metadata (Some x) = tt
-
-module _ {X M N : Type 0} (f : X → M) (g : X → N) where
-  package_as : (x : Option (Package X)) → IfSome (option_map (package_meaning f) x) (λ p. VersionAgain p.version) → IfSome (option_map (package_meaning g) x) (λ p. VersionAgain p.version)
-  package_as None h = tt
-  package_as (Some p) h = h
-
-  workspace_as : (x : Option (Workspace X)) → IfSome (option_map (workspace_meaning f) x) (WorkspaceMeets told) → IfSome (option_map (workspace_meaning g) x) (WorkspaceMeets told)
-  workspace_as None h = tt
-  workspace_as (Some w) h = record { metadata = any_metadata (option_map g w.metadata); template = h.template; dependencies = h.dependencies; lints = h.lints }
-
-  pub told_as : (m : Manifest X) → IsTold (manifest_meaning f m) → IsTold (manifest_meaning g m)
-  told_as m h1 = grind (arith, package_as, workspace_as)

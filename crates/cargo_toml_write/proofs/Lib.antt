@@ -1,9 +1,7 @@
 pub mod CompletedTold
-pub mod Gathered
 pub mod ReadAgain
 pub mod ReadAgainTypes
 pub mod ReadParts
 pub mod Rows
 pub mod Spelled
-pub mod Tables
-pub mod Told
+pub mod Writers

@@ -1,33 +1,137 @@
--- What stands at the keys of a written table, and what it is read as: key by key, and as lists and maps.
-use Rattle.std.proofs.Common.{◌≡◌, ◌∙◌, ◌&&◌, refl, sym, ap, subst, not, Bool, true, false, ℕ, List, [], ◌∷◌, nat_cmp, is_eq, Option, Some, None, option_map, Result, Ok, Err, IfErr, IfSome, IsTrue, inl, inr, if◌then◌else◌, ◌++◌, append-nil, append_assoc, option_and_then, Ordering, Less, Greater}
+-- What a table holds at its keys after writes, and what it is read as: key by key, and as lists and maps.
+use Rattle.std.proofs.Common.{arith, ◌≡◌, true, false, Option, Some, is_eq, sym, ap, ℕ, List, [], ◌∷◌, String, Global, Ordering, Less, Equal, Greater, string_bytes, nat_cmp, refl, ◌∙◌, ◌&&◌, Bool, None, option_map, subst, inl, inr, not, Result, IfErr, IfSome, IsTrue, if◌then◌else◌, ◌++◌, append-nil, append_assoc, option_and_then}
 use Rattle.std.specs.Cmp.Lexicographic.{slice_cmp}
-use Rattle.std.specs.Result.{result_ok}
-use Rattle.std.specs.Str.{bytes_eq}
-use Rattle.std.proofs.lemmas.Bool.{and_parts, false≢true, not-true}
+use Rattle.std.specs.Ordering.{match_ordering, ordering_reverse}
+use Rattle.std.specs.Cmp.{tied_itself}
+use Rattle.std.proofs.lemmas.Bool.{false≢true, and_parts, cases_Bool, not-true}
+use Rattle.std.proofs.lemmas.Cmp.{nat_list_cmp_total}
+use Rattle.std.specs.BTreeMap.{insert_entry}
+use Rattle.std.specs.String.{string_cmp}
+use Rattle.std.specs.Option.{unwrap_or}
 use Rattle.std.proofs.lemmas.Map.Text.{is_eq-slice_cmp}
 use Rattle.std.proofs.lemmas.Slice.Eq.{bytes_eq-Decides}
+use Rattle.toml.specs.Data.{Data, Members, no_members, member, get_member, boolean, string, Items, no_items, item, as_str, as_bool, as_table}
+use Rattle.toml.specs.declared.value.Value.{Value}
+use Rattle.toml.specs.View.{view, members_view}
+use Rattle.toml.proofs.Views.{Entry}
+use Rattle.cargo_toml_parts.specs.Reads.{is_among, others_read, array_of, items_reads, list_of, required_of, optional_of, given_of, map_of}
+use Rattle.cargo_toml_write.specs.Ways.{members_of, text_way, texts_way, truth_way, free_way, version_way, list_way, AreItems, exactly, is_nil, inheritable_way, inherited_tree, is_set_and, unless_missing, Ascend, entry_rows, map_way}
+use Rattle.cargo_toml_write.specs.Writes.{put_member, Row, AreWritten, put_some, Way, IsHeld, unless, IsLawful, IsReadAgain, IsWriting, table_way}
+use Rattle.std.specs.Result.{result_ok}
+use Rattle.std.specs.Str.{bytes_eq}
 use Rattle.std.specs.List.{All, AllByRecursion}
 use Rattle.std.specs.List.Sorted.{IsStrictlySortedBy}
 use Rattle.std.specs.Map.{keys_of}
-use Rattle.std.specs.Ordering.{match_ordering, ordering_reverse}
-use Rattle.std.proofs.lemmas.Cmp.{nat_list_cmp_total}
 use Rattle.std.proofs.lemmas.List.Elements.{All-from_recursion, recursion_from_All}
-use Rattle.toml.specs.Data.{Data, boolean, string, Members, get_member, Items, no_items, item, as_str, as_bool, as_table, no_members, member}
-use Rattle.toml.specs.View.{view}
-use Rattle.toml.specs.declared.value.Value.{Value}
 use Rattle.cargo_toml_parts.specs.declared.error.Error.{Error, Memory}
 use Rattle.cargo_toml_parts.specs.Floats.{has_no_float, without_floats}
 use Rattle.cargo_toml_parts.specs.declared.inheritable.Inheritable.{Inheritable}
-use Rattle.cargo_toml_parts.specs.declared.inheritable.Inheritable.TheVariants.{Set, Inherited}
-use Rattle.cargo_toml_parts.specs.Inherits.{inheritable_of, set_or, workspace_flag}
-use Rattle.cargo_toml_parts.specs.Reads.{array_of, items_reads, list_of, required_of, optional_of, given_of, is_among, map_of, others_read}
+use Rattle.cargo_toml_parts.specs.declared.inheritable.Inheritable.TheVariants.{Set}
+use Rattle.cargo_toml_parts.specs.Inherits.{inheritable_of}
 use Rattle.cargo_toml_parts.specs.Versions.{Parts, version_of}
 use Rattle.cargo_toml_write.specs.Asked.{IfSet, EachValue}
 use Rattle.cargo_toml_write.specs.Reread.{each_value}
-use Rattle.cargo_toml_write.specs.Ways.{text_way, texts_way, truth_way, free_way, version_way, list_way, AreItems, exactly, is_nil, inheritable_way, inherited_tree, is_set_and, unless_missing, Ascend, entry_rows, map_way}
-use Rattle.cargo_toml_write.specs.Writes.{Way, Row, IsHeld, unless, IsLawful, put_some, IsReadAgain, IsWriting, AreWritten, put_member, table_way}
 use Rattle.cargo_toml_write.specs.WrittenPackages.{IsVersionAgain}
-use Rattle.cargo_toml_write.proofs.Tables.{get_put-same, get_put-other, all_named, are_apart, others_rows}
+
+chosen : (o : Ordering) (a b c : List Entry) → members_view (match_ordering o a b c) ≡ match_ordering o (members_view a) (members_view b) (members_view c)
+chosen o a b c = grind arith
+
+pub members_view-insert : (es : List Entry) (k : String Global) (v : Value) → members_view (insert_entry string_cmp es k v) ≡ put_member (string_bytes k) (view v) (members_view es)
+members_view-insert [] k v = refl
+members_view-insert (e ∷ es) k v = chosen (string_cmp k e.0) _ _ _ ∙ rw (members_view-insert es k v)
+
+same_order : (k l m : List ℕ) → slice_cmp nat_cmp l m ≡ Equal → slice_cmp nat_cmp k m ≡ slice_cmp nat_cmp k l
+same_order k l m e =
+    nat_list_cmp_total.antisymm k m ∙ ap ordering_reverse (sym (nat_list_cmp_total.congr l m k e)) ∙ sym (nat_list_cmp_total.antisymm k l)
+
+pub passes : (o : Ordering) (r s : Option Data) → is_eq o ≡ false → match_ordering o r s r ≡ r
+passes o r s h1 = grind arith
+
+found : (o : Ordering) (r s : Option Data) → is_eq o ≡ true → match_ordering o r s r ≡ s
+found o r s h1 = grind arith
+
+-- what a key holds after another key was written
+other_at : (o : Ordering) (k l m : List ℕ) (d e : Data) (ms : Members) → o ≡ slice_cmp nat_cmp l m → is_eq (slice_cmp nat_cmp k l) ≡ false
+    → get_member k (put_member l d ms) ≡ get_member k ms
+    → get_member k (match_ordering o (member l d (member m e ms)) (member m d ms) (member m e (put_member l d ms))) ≡ get_member k (member m e ms)
+other_at o k l m d e ms h1 h2 h3 = grind (arith, passes, same_order)
+
+pub get_put-other : (k l : List ℕ) (d : Data) (ms : Members) → is_eq (slice_cmp nat_cmp k l) ≡ false → get_member k (put_member l d ms) ≡ get_member k ms
+get_put-other k l d no_members ne = passes (slice_cmp nat_cmp k l) _ _ ne
+get_put-other k l d (member m e ms) ne = other_at (slice_cmp nat_cmp l m) k l m d e ms refl ne (get_put-other k l d ms ne)
+
+same_at : (o : Ordering) (k m : List ℕ) (d e : Data) (ms : Members) → o ≡ slice_cmp nat_cmp k m → get_member k (put_member k d ms) ≡ Some d
+    → get_member k (match_ordering o (member k d (member m e ms)) (member m d ms) (member m e (put_member k d ms))) ≡ Some d
+same_at Less k m d e ms same ih = found (slice_cmp nat_cmp k k) _ _ (ap is_eq (tied_itself nat_list_cmp_total k))
+same_at Equal k m d e ms same ih = found (slice_cmp nat_cmp k m) _ _ (ap is_eq (sym same))
+same_at Greater k m d e ms same ih = passes (slice_cmp nat_cmp k m) _ _ (ap is_eq (sym same)) ∙ ih
+
+-- what a key holds after it was written
+pub get_put-same : (k : List ℕ) (d : Data) (ms : Members) → get_member k (put_member k d ms) ≡ Some d
+get_put-same k d no_members = found (slice_cmp nat_cmp k k) _ _ (ap is_eq (tied_itself nat_list_cmp_total k))
+get_put-same k d (member m e ms) = same_at (slice_cmp nat_cmp k m) k m d e ms refl (get_put-same k d ms)
+
+pub same_key : (k l : List ℕ) → slice_cmp nat_cmp k l ≡ Equal → k ≡ l
+same_key k l h = (bytes_eq-Decides k l).0 (sym (is_eq-slice_cmp k l) ∙ ap is_eq h)
+
+-- a key that is named is none of another name
+pub are_apart : (names : List (List ℕ)) (k l : List ℕ) (o : Ordering) → o ≡ slice_cmp nat_cmp k l → is_among names k ≡ true → is_among names l ≡ false → is_eq o ≡ false
+are_apart names k l Less is named other = refl
+are_apart names k l Equal is named other =
+    absurd (false≢true (sym other ∙ subst (λ (x : List ℕ). is_among names x ≡ true) (same_key k l (sym is)) named))
+are_apart names k l Greater is named other = refl
+
+other_or_named : (names : List (List ℕ)) (k l : List ℕ) (o : Ordering) → o ≡ slice_cmp nat_cmp k l → is_among names k ≡ false → is_among names l ≡ true → is_eq o ≡ false
+other_or_named names k l Less is other named = refl
+other_or_named names k l Equal is other named =
+    absurd (false≢true (sym other ∙ subst (λ (x : List ℕ). is_among names x ≡ true) (sym (same_key k l (sym is))) named))
+other_or_named names k l Greater is other named = refl
+
+-- what was read of the other keys has them as the table does
+some_mapped : {A B : Type 0} (o : Option A) (f : A → B) (y : B) → option_map f o ≡ Some y → (x : A) × (o ≡ Some x) × (f x ≡ y)
+some_mapped None f y h = cc h
+some_mapped (Some x) f y h = (x, refl, ap (λ o. unwrap_or o (f x)) h)
+
+pub other_member : (names : List (List ℕ)) (k : List ℕ) (ms : Members) (es : List (List ℕ × Data)) → is_among names k ≡ false → others_read names (λ x. Some x) ms ≡ Some es
+    → get_member k ms ≡ get_member k (members_of es)
+other_member names k no_members es other read = ap (λ (o : Option (List (List ℕ × Data))). get_member k (members_of (unwrap_or o []))) read
+other_member names k (member l d ms) es other read = elim (cases_Bool (is_among names l)) [
+  | inl named ↦
+      passes (slice_cmp nat_cmp k l) _ _ (other_or_named names k l _ refl other named) ∙ other_member names k ms es other (rw named at read)
+  | inr apart ↦
+      let more = some_mapped (others_read names (λ x. Some x) ms) (λ (xs : List (List ℕ × Data)). (l, d) ∷ xs) es (rw apart at read) in
+      ap (λ r. match_ordering (slice_cmp nat_cmp k l) r (Some d) r) (other_member names k ms more.0 other more.1)
+      ∙ ap (λ (xs : List (List ℕ × Data)). get_member k (members_of xs)) more.2
+]
+
+-- rows of named keys
+abbrev pub all_named : List (List ℕ) → List Row → Bool
+all_named names [] = true
+all_named names (row ∷ rows) = is_among names row.key && all_named names rows
+
+-- which leave the others as they were
+module _ {M : Type 0} (names : List (List ℕ)) (reads : Data → Option M) where
+  put_others : (o : Ordering) (k l : List ℕ) (d e : Data) (ms : Members) → o ≡ slice_cmp nat_cmp k l → is_among names k ≡ true
+      → others_read names reads (put_member k d ms) ≡ others_read names reads ms
+      → others_read names reads (match_ordering o (member k d (member l e ms)) (member l d ms) (member l e (put_member k d ms))) ≡ others_read names reads (member l e ms)
+  put_others Less k l d e ms same among rest = rw among refl
+  put_others Equal k l d e ms same among rest =
+      let named : is_among names l ≡ true = subst (λ (x : List ℕ). is_among names x ≡ true) (same_key k l (sym same)) among in
+      rw named refl
+  put_others Greater k l d e ms same among rest = rw rest refl
+
+  others_put : (k : List ℕ) (d : Data) (ms : Members) → is_among names k ≡ true → others_read names reads (put_member k d ms) ≡ others_read names reads ms
+  others_put k d no_members among = rw among refl
+  others_put k d (member l e ms) among = put_others (slice_cmp nat_cmp k l) k l d e ms refl among (others_put k d ms among)
+
+  others_some : (k : List ℕ) (o : Option Data) (ms : Members) → is_among names k ≡ true → others_read names reads (put_some k o ms) ≡ others_read names reads ms
+  others_some k o ms h1 = grind (arith, others_put)
+
+  pub others_rows : (rows : List Row) (old new : Members) → all_named names rows ≡ true → AreWritten rows old new → others_read names reads new ≡ others_read names reads old
+  others_rows [] old new named written = ap (others_read names reads) written
+  others_rows (row ∷ rows) old new named (mid, one, rest) =
+      let parts : (is_among names row.key ≡ true) × (all_named names rows ≡ true) = and_parts _ _ named in
+      others_rows rows mid new parts.1 rest ∙ ap (others_read names reads) one.3 ∙ others_some row.key one.0 old parts.0
 
 -- a tree of what is there stands at a key, and nothing where nothing is
 pub record StandsAt {X : Type 0} (o : Option Data) (way : Way X) (x : Option X) : Type 0 where
@@ -57,23 +161,19 @@ none_there (k ∷ ks) = (refl, none_there ks)
 
 -- a key that is none of some others is apart from each
 symmetric : (b : Bool) (k l : List ℕ) → bytes_eq k l ≡ b → bytes_eq l k ≡ false → b ≡ false
-symmetric true k l same h = absurd (false≢true (sym h ∙ (bytes_eq-Decides l k).1 (sym ((bytes_eq-Decides k l).0 same))))
-symmetric false k l same h = refl
+symmetric b k l h1 h2 = grind (arith, bytes_eq-Decides, false≢true)
 
 apart : (k l : List ℕ) → bytes_eq l k ≡ false → is_eq (slice_cmp nat_cmp k l) ≡ false
 apart k l h = is_eq-slice_cmp k l ∙ symmetric (bytes_eq k l) k l refl h
 
 either_false : (b c : Bool) → (if b then true else c) ≡ false → (b ≡ false) × (c ≡ false)
-either_false true c h = absurd cc
-either_false false c h = (refl, h)
+either_false b c h1 = grind arith
 
 put_other : (k l : List ℕ) (d : Option Data) (ms : Members) → is_eq (slice_cmp nat_cmp k l) ≡ false → get_member k (put_some l d ms) ≡ get_member k ms
-put_other k l None ms h = refl
-put_other k l (Some d) ms h = get_put-other k l d ms h
+put_other k l d ms h1 = grind (arith, get_put-other)
 
 put_same : (k : List ℕ) (d : Option Data) (ms : Members) → get_member k ms ≡ None → get_member k (put_some k d ms) ≡ d
-put_same k None ms h = h
-put_same k (Some d) ms h = get_put-same k d ms
+put_same k d ms h1 = grind (arith, get_put-same)
 
 -- which rows leave as it was
 pub untouched : (k : List ℕ) (rows : List Row) (old new : Members) → is_among (row_keys rows) k ≡ false → AreWritten rows old new → get_member k new ≡ get_member k old
@@ -125,23 +225,18 @@ pub record StandsFor {X M : Type 0} (left_out : X → Bool) (P : X → Type 0) (
 
 -- what was written holds no float, so the public reader reads it as the reader itself does
 pub floatless_again : {M : Type 0} (reads : Data → Option M) (d : Data) (m : M) → IsTrue (has_no_float d) → reads d ≡ Some m → without_floats reads d ≡ Some m
-floatless_again {M = M} reads d m floatless again =
-    let P : Bool → Type 0 = λ b. (if b then reads d else None) ≡ Some m in
-    subst P (sym floatless) again
+floatless_again reads d m h1 h2 = grind arith
 
 -- each tree of a value reads as m: so does the one that was written
 pub tree_again : {X M : Type 0} {way : Way X} → IsLawful way → (x : X) (reads : Data → Option M) (m : M) (r : Result Value Error) → IsWriting way x r → ReadsAs way reads x m → IsReadAgain reads m r
-tree_again law x reads m (Ok v) tree again = floatless_again reads (view v) m ((law.each x).floatless (view v) tree) (again (view v) tree)
-tree_again law x reads m (Err e) fault again = tt
+tree_again law x reads m r written again = grind (arith, floatless_again)
 
 pub reads_again : {X M : Type 0} {way : Way X} {reads : Data → Option M} {P : X → Type 0} {f : X → M} → IsLawful way → AgainAs way reads P f → (x : X) (r : Result Value Error) → IsWriting way x r → P x → IsReadAgain reads (f x) r
 reads_again {reads = reads} {f = f} law again x r written h = tree_again law x reads (f x) r written (again.each x h)
 
 -- a value that is as asked is refused with `Memory` alone
 pub alone : {X : Type 0} {way : Way X} → IsLawful way → (x : X) (r : Result Value Error) → IsWriting way x r → way.asks x → IfErr r (λ e. e ≡ Memory)
-alone law x (Ok v) tree asked = tt
-alone law x (Err e) (inl memory) asked = memory
-alone law x (Err e) (inr refused) asked = absurd ((law.each x).never asked e refused.1)
+alone law x r written asked = grind arith
 
 -- a step of a reader, by what stands at its key, and what follows it
 pub step : {A B : Type 0} (o : Option A) (f : A → Option B) (x : A) (r : Option B) → o ≡ Some x → f x ≡ r → option_and_then f o ≡ r
@@ -149,13 +244,10 @@ step o f x r e h = rw e h
 
 module _ {X M N : Type 0} {way : Way X} {reads : Data → Option M} {P : X → Type 0} {g : X → M} (o : Option Data) (r : Option N) where
   required_at : (x : X) (o : Option Data) → AgainAs way reads P g → P x → IsHeld way (Some x) o → required_of reads o ≡ Some (g x)
-  required_at x None law h is = absurd is
-  required_at x (Some d) law h is = law.each x h d is
+  required_at x o h1 h2 h3 = grind arith
 
   given_at : (b : Bool) (x : X) (missing : M) (o : Option Data) → AgainAs way reads P g → P x → (b ≡ true → g x ≡ missing) → IsHeld way (unless b x) o → given_of reads missing o ≡ Some (g x)
-  given_at true x missing o law h left_out is = ap (given_of reads missing) is ∙ ap Some (sym (left_out refl))
-  given_at false x missing None law h left_out is = absurd is
-  given_at false x missing (Some d) law h left_out is = law.each x h d is
+  given_at b x missing o h1 h2 h3 h4 = grind arith
 
   pub required : (x : X) → StandsAt o way (Some x) → AgainAs way reads P g → P x → required_of reads o ≡ Some (g x)
   required x held law h = required_at x o law h held.is
@@ -175,20 +267,13 @@ module _ {X M N : Type 0} {way : Way X} {reads : Data → Option M} {P : X → T
 
 module _ {X N : Type 0} {way : Way X} {reads : Data → Option X} {P : X → Type 0} (o : Option Data) (r : Option N) where
   optional : (x : Option X) (o : Option Data) → AgainAs way reads P (λ (y : X). y) → IfSome x P → IsHeld way x o → optional_of reads o ≡ Some x
-  optional None o law h is = ap (optional_of reads) is
-  optional (Some x) None law h is = absurd is
-  optional (Some x) (Some d) law h is = ap (option_map Some) (law.each x h d is)
+  optional x o h1 h2 h3 = grind arith
 
   pub optional_read : (x : Option X) (f : Option X → Option N) → StandsAt o way x → AgainAs way reads P (λ (y : X). y) → IfSome x P → f x ≡ r → option_and_then f (optional_of reads o) ≡ r
   optional_read x f held law h rest = step (optional_of reads o) f x r (optional x o law h held.is) rest
 
 flag : (missing b : Bool) (o : Option Data) → IsHeld truth_way (unless_missing missing b) o → given_of as_bool missing o ≡ Some b
-flag true true o is = ap (given_of as_bool true) is
-flag false false o is = ap (given_of as_bool false) is
-flag true false None is = absurd is
-flag true false (Some d) is = ap as_bool is
-flag false true None is = absurd is
-flag false true (Some d) is = ap as_bool is
+flag missing b o h1 = grind arith
 
 pub flagged : (missing b : Bool) (o : Option Data) → StandsAt o truth_way (unless_missing missing b) → given_of as_bool missing o ≡ Some b
 flagged missing b o held = flag missing b o held.is
@@ -198,16 +283,13 @@ flag_read o r missing b f held rest = step (given_of as_bool missing o) f b r (f
 
 -- of any value nothing is asked
 pub if_any : {X : Type 0} (x : Option X) → IfSome x (Any {X = X})
-if_any None = tt
-if_any (Some x) = tt
+if_any x = grind arith
 
 pub set_any : {X : Type 0} (x : Inheritable X) → IfSet (Any {X = X}) x
-set_any (Set x) = tt
-set_any Inherited = tt
+set_any x = grind arith
 
 pub if_set_any : {X : Type 0} (x : Option (Inheritable X)) → IfSome x (IfSet (Any {X = X}))
-if_set_any None = tt
-if_set_any (Some x) = set_any x
+if_set_any x = grind (arith, set_any)
 
 pub ruleset read_back = (required_read, optional_read, flag_read, given_read, always_read, if_any, set_any, if_set_any)
 
@@ -255,16 +337,14 @@ nil = record { each = λ xs h none. nil_left xs none }
 
 -- what the workspace may give
 set_or_inherited : {X : Type 0} (way : Way X) (reads : Data → Option X) (P : X → Type 0) → AgainAs way reads P (λ (x : X). x) → reads inherited_tree ≡ None → (x : Inheritable X) → IfSet P x → ReadsAs (inheritable_way way) (inheritable_of reads) x x
-set_or_inherited way reads P law none (Set x) h d tree = ap (λ o. set_or o (workspace_flag d)) (law.each x h d tree)
-set_or_inherited way reads P law none Inherited h d is = ap (inheritable_of reads) is ∙ ap (λ o. set_or o (workspace_flag inherited_tree)) none
+set_or_inherited way reads P h1 h2 h3 h4 h5 h6 = grind arith
 
 pub inheritable_again : {X : Type 0} {way : Way X} {reads : Data → Option X} {P : X → Type 0} → AgainAs way reads P (λ (x : X). x) → reads inherited_tree ≡ None
     → AgainAs (inheritable_way way) (inheritable_of reads) (IfSet P) (λ (x : Inheritable X). x)
 inheritable_again {way = way} {reads = reads} {P = P} law none = record { each = set_or_inherited way reads P law none }
 
 set_left : {X : Type 0} (P : X → Type 0) (test : X → Bool) (missing : X) → StandsFor test P (λ (x : X). x) missing → (x : Inheritable X) → IfSet P x → is_set_and test x ≡ true → x ≡ Set missing
-set_left P test missing stands (Set x) h none = ap Set (stands.each x h none)
-set_left P test missing stands Inherited h none = absurd cc
+set_left P test missing h1 h2 h3 h4 = grind arith
 
 pub set_stands : {X : Type 0} {P : X → Type 0} (test : X → Bool) (missing : X) → StandsFor test P (λ (x : X). x) missing → StandsFor (is_set_and test) (IfSet P) (λ (x : Inheritable X). x) (Set missing)
 set_stands {P = P} test missing stands = record { each = set_left P test missing stands }
@@ -333,10 +413,7 @@ module _ {X M : Type 0} (way : Way X) (reads : Data → Option M) (f : X → M) 
     first-last : (b : Bool) (l k : List ℕ) (x : M) (o : Option M) (r : Option (List (List ℕ × M)))
         → (if b then last k x r else option_and_then (λ y. option_map (λ es. (l, y) ∷ es) (last k x r)) o)
         ≡ last k x (if b then r else option_and_then (λ y. option_map (λ es. (l, y) ∷ es) r) o)
-    first-last true l k x o r = refl
-    first-last false l k x None r = refl
-    first-last false l k x (Some y) None = refl
-    first-last false l k x (Some y) (Some es) = refl
+    first-last b l k x o r = grind arith
 
     read-behind : (ms : Members) (k : List ℕ) (d : Data) (x : M) → is_among names k ≡ false → reads d ≡ Some x → others_read names reads (behind ms k d) ≡ last k x (others_read names reads ms)
     read-behind no_members k d x other h = rw (other, h) refl

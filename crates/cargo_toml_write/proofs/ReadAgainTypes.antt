@@ -1,7 +1,7 @@
 -- Written settings, tables, dependencies, packages, workspaces and manifests, each read as what it is read again as.
-use Rattle.std.proofs.Common.{arith, ◌≡◌, ◌∙◌, refl, ap, ℕ, true, option_map, option_and_then, List, [], codes, Bool, false, Option, Some, None, sym, pos, ◌∷◌, inl, inr, MatchBool, Result, Ok, Err, IfSome, subst, cond, not, map, is_eq, IsTrue, Less, nat_cmp}
+use Rattle.std.proofs.Common.{arith, ◌≡◌, ◌∙◌, refl, ap, ℕ, true, option_map, option_and_then, List, [], codes, Bool, false, Option, Some, None, sym, ◌∷◌, inl, inr, MatchBool, Result, Ok, Err, IfSome, subst, cond, not, map, is_eq, IsTrue, Less, nat_cmp}
 use Rattle.std.proofs.lemmas.Bool.{and_parts, false≢true}
-use Rattle.std.specs.Ordering.{int_eq, ordering_reverse}
+use Rattle.std.specs.Ordering.{ordering_reverse}
 use Rattle.std.proofs.lemmas.Bool.Decides.{Decides-int_eq}
 use Rattle.std.proofs.lemmas.List.Elements.{recursion_from_All, All-from_recursion}
 use Rattle.std.specs.Map.{keys_of}
@@ -31,7 +31,7 @@ use Rattle.cargo_toml_write.specs.Ways.{number_way, small_way, text_way, texts_w
 use Rattle.cargo_toml_write.specs.Writes.{AreWritten, IsWriting, required_row, IsHeld, put_some, Way, given_row}
 use Rattle.cargo_toml_write.specs.WrittenSettings.{edition_way, resolver_way, is_unrestricted, file_way, publish_way, debug_way, strip_way, is_usual, lto_way, status_way, level_text, level_way, status_text, file_tree, debug_tree, strip_tree, lto_tree}
 use Rattle.cargo_toml_write.specs.WrittenTables.{product_way, product_rows, badge_way, badges_way, badge_rows, badges_rows, has_no_badge, maintenance_way, maintenance_rows, is_level_alone, lint_groups_way, table_lint_way, has_no_profile, lint_rows, lint_way, profile_way, profiles_way, IsApart, AreApart, known_profiles, profile_rows, profiles_rows}
-use Rattle.cargo_toml_write.proofs.ReadAgain.{AgainAs, AllHeld, Any, Again, StandsAt, ReadsAs, StandsFor, again, collected, flagged, free_again, free_maps, map_same, nil, nil_left, read_back, required, same_tree, step, table_again, text_again, texts_again, truth_again, untouched, given, map_as, nothing_asked, whole, inheritable_again, list_again, nil_map, set_stands, version_again}
+use Rattle.cargo_toml_write.proofs.ReadAgain.{AgainAs, AllHeld, Any, Again, StandsAt, ReadsAs, StandsFor, again, collected, flagged, free_again, free_maps, map_same, nil, nil_left, read_back, required, same_tree, step, table_again, text_again, texts_again, truth_again, untouched, given, map_as, nothing_asked, whole, inheritable_again, list_again, nil_map, set_stands, version_again, other_member}
 use Rattle.std.specs.List.Sorted.{IsStrictlySortedBy}
 use Rattle.std.specs.Result.{result_ok}
 use Rattle.std.specs.Cmp.Lexicographic.{slice_cmp}
@@ -52,8 +52,7 @@ use Rattle.cargo_toml_write.specs.WrittenDependencies.{dependency_way, inherited
 use Rattle.cargo_toml_write.specs.WrittenManifests.{all_features, manifest_rows, manifest_way}
 use Rattle.cargo_toml_write.proofs.ReadParts.{Gives, gives_some, bind, skip}
 use Rattle.cargo_toml_write.proofs.Spelled.{spelled_again}
-use Rattle.cargo_toml_write.proofs.Tables.{other_member}
-use Rattle.cargo_toml_write.proofs.Told.{Told, nothing}
+use Rattle.cargo_toml_write.proofs.Rows.{Told, nothing}
 use Rattle.semver.specs.Identifiers.{parts_of}
 use Rattle.cargo_toml_dependencies.specs.Targets.{TargetMeaning, target_of}
 use Rattle.cargo_toml_manifest.specs.declared.manifest.Manifest.{Manifest}
@@ -109,8 +108,7 @@ pub ruleset values_back = (read_back, text_again, truth_again, texts_again, free
 -- products
 -- a truth value of which the other spelling is missing
 spelling : (o other : Option Data) (b : Bool) → other ≡ None → given_of as_bool false o ≡ Some b → either_flag o other ≡ Some b
-spelling None other b none h = rw none h
-spelling (Some d) other b none h = rw none h
+spelling o other b h1 h2 = grind arith
 
 one_spelling : (o other : Option Data) (r : Option ProductMeaning) (b : Bool) (f : Bool → Option ProductMeaning) → StandsAt o truth_way (unless_missing false b) → other ≡ None → f b ≡ r → option_and_then f (either_flag o other) ≡ r
 one_spelling o other r b f held none rest = step (either_flag o other) f b r (spelling o other b none (flagged false b o held)) rest
@@ -140,13 +138,10 @@ maintenance_again = again (table_again maintenance_rows maintenance_of (λ s. re
 
 -- all badges: one that is not there is none
 badge_or_none : (x : Option BadgeMeaning) (o : Option Data) → StandsAt o badge_way x → option_and_then badge_reads o ≡ x
-badge_or_none None o held = ap (option_and_then badge_reads) held.is
-badge_or_none (Some b) None held = absurd held.is
-badge_or_none (Some b) (Some d) held = badge_again.each b tt d held.is
+badge_or_none x o h1 = grind (arith, badge_again)
 
 status_read : (s : MaintenanceStatus) (o : Option Data) → StandsAt o maintenance_way (Some s) → or_none (option_and_then maintenance_reads o) ≡ s
-status_read s None held = absurd held.is
-status_read s (Some d) held = ap or_none (maintenance_again.each s tt d held.is)
+status_read s o h1 = grind (arith, maintenance_again)
 
 badges_members : (b : BadgesMeaning) (ms : Members) → AllHeld (badges_rows b) ms → Some (badges_of ms) ≡ Some b
 badges_members b ms (appveyor, (circle_ci, (gitlab, (travis_ci, (codecov, (coveralls, (resolution, (open_issues, (maintenance, end))))))))) =
@@ -189,9 +184,7 @@ alone_again : (x : LintLevel) → lint_of (string (level_text x)) ≡ Some (leve
 alone_again = elim [ Allow ↦ refl | Warn ↦ refl | ForceWarn ↦ refl | Deny ↦ refl | Forbid ↦ refl ]
 
 is_alone : (l : LintMeaning) → is_level_alone l ≡ true → level_alone l.level ≡ l
-is_alone l h =
-    let parts : (int_eq l.priority (pos 0) ≡ true) × (is_nil l.config ≡ true) = and_parts _ _ h in
-    rw ((Decides-int_eq l.priority (pos 0)).0 parts.0, nil_left l.config parts.1) refl
+is_alone l h1 = grind (arith, and_parts, nil_left, Decides-int_eq)
 
 lint_members : (l : LintMeaning) (ms : Members) → IsApart l → Ascend (keys_of l.config) → AreWritten (lint_rows l) no_members ms → table_lint ms ≡ Some l
 lint_members l ms apart ascend written =
@@ -200,8 +193,7 @@ lint_members l ms apart ascend written =
     search (read_back, level_again, small_again, step) depth 30 fits 4000
 
 lint_either : (b : Bool) (l : LintMeaning) (d : Data) → b ≡ is_level_alone l → IsApart l → MatchBool b (level_way.trees l.level d) (table_lint_way.trees l d) → lint_of d ≡ Some l
-lint_either true l d alone apart tree = rw tree (alone_again l.level ∙ ap (λ (m : LintMeaning). Some m) (is_alone l (sym alone)))
-lint_either false l d alone apart (ascend, (ms, is, written)) = rw is (lint_members l ms apart ascend written)
+lint_either b l d h1 h2 h3 = grind (arith, alone_again, is_alone, lint_members)
 
 pub lint_again : AgainAs lint_way lint_of IsApart (λ (l : LintMeaning). l)
 lint_again = record { each = λ l apart d tree. lint_either (is_level_alone l) l d refl apart tree }
@@ -300,9 +292,7 @@ at_flag false i d says tree = as_detail i d says tree
 
 -- each dependency is read as it is read again
 reread_tree : (x : DependencyMeaning) (d : Data) → dependency_way.trees x d → dependency_way.trees (reread_dependency x) d
-reread_tree (simple r) d tree = tree
-reread_tree (inherited i) d tree = at_flag i.workspace i d refl tree
-reread_tree (detailed x) d tree = tree
+reread_tree x d h1 = grind (arith, at_flag)
 
 abbrev pub Reread : DependencyMeaning → Type 0
 Reread x = DependencyAgain (reread_dependency x)
@@ -361,8 +351,7 @@ said_past (f ∷ fs) e es h =
 -- a name inside those above another is above it
 named_at : (b : Bool) (name m n : List ℕ) (names : List (List ℕ)) → bytes_eq m n ≡ b → slice_cmp nat_cmp name m ≡ Less → IsTrue (cond b true (is_among names n))
     → (IsTrue (is_among names n) → slice_cmp nat_cmp name n ≡ Less) → slice_cmp nat_cmp name n ≡ Less
-named_at true name m n names same less inside rest = subst (λ (x : List ℕ). slice_cmp nat_cmp name x ≡ Less) ((bytes_eq-Decides m n).0 same) less
-named_at false name m n names same less inside rest = rest inside
+named_at b name m n names h1 h2 h3 h4 = grind (arith, bytes_eq-Decides)
 
 named_above : (name n : List ℕ) (names : List (List ℕ)) → AreAbove name names → IsTrue (is_among names n) → slice_cmp nat_cmp name n ≡ Less
 named_above name n [] h inside = absurd (false≢true inside)
@@ -377,8 +366,7 @@ still_named name names (e ∷ es) above named =
     (subst (λ (b : Bool). IsTrue (cond b true (is_among names e.0))) (below_apart name e.0 above.0) named.0, still_named name names es above.1 named.1)
 
 not_first : (b : Bool) (names : List (List ℕ)) (n : List ℕ) → b ≡ false → IsTrue (cond b true (is_among names n)) → IsTrue (is_among names n)
-not_first true names n apart inside = absurd (false≢true (sym apart))
-not_first false names n apart inside = inside
+not_first b names n h1 h2 = grind (arith, false≢true)
 
 abbrev AreSaid : List (List ℕ × Detail) → Type 0
 AreSaid es = AllByRecursion (λ e. is_plain e.1 ≡ false) es
@@ -394,8 +382,7 @@ abbrev AreAgain : List (List ℕ × List (List ℕ)) → Type 0
 AreAgain fs = (es : List (List ℕ × Detail)) → Ascend (keys_of es) → AreNamed (keys_of fs) es → AreSaid es → details_of (joined fs es) ≡ es
 
 kept : (b : Bool) (e : List ℕ × Detail) (es : List (List ℕ × Detail)) → b ≡ false → cond (not b) (e ∷ es) es ≡ e ∷ es
-kept true e es h = absurd (false≢true (sym h))
-kept false e es h = refl
+kept b e es h1 = grind (arith, false≢true)
 
 details_at : (b : Bool) (f : List ℕ × List (List ℕ)) (fs : List (List ℕ × List (List ℕ))) (e : List ℕ × Detail) (es : List (List ℕ × Detail)) → bytes_eq f.0 e.0 ≡ b
     → AreAbove f.0 (keys_of fs) → AreAbove e.0 (keys_of es) → Ascend (keys_of es) → AreNamed (f.0 ∷ keys_of fs) (e ∷ es) → AreSaid (e ∷ es) → AreAgain fs
@@ -490,9 +477,7 @@ ruleset eithers = (either_text, either_texts, either_file, either_publish, eithe
 -- the metadata
 pub metadata_read : {X W M : Type 0} (way : Way W) (held : X → W) (meaning : X → M) (reads : Data → Option M) (x : Option X) (o : Option Data)
     → MetadataAgain way held meaning reads x → IsHeld way (option_map held x) o → optional_of reads o ≡ Some (option_map meaning x)
-metadata_read way held meaning reads None o again is = ap (optional_of reads) is
-metadata_read way held meaning reads (Some x) None again is = absurd is
-metadata_read way held meaning reads (Some x) (Some d) again is = ap (λ m. option_map Some m) (again d is)
+metadata_read way held meaning reads x o h1 h2 = grind arith
 
 metadata_step : {X W M N : Type 0} (way : Way W) (held : X → W) (meaning : X → M) (reads : Data → Option M) (x : Option X) (o : Option Data) (f : Option M → Option N) (r : Option N)
     → StandsAt o way (option_map held x) → MetadataAgain way held meaning reads x → f (option_map meaning x) ≡ r → option_and_then f (optional_of reads o) ≡ r
@@ -557,18 +542,14 @@ either_groups = inheritable_again groups_again refl
 -- a value with metadata, which are written as one meaning and read as another
 pair_read : {W X N : Type 0} (way : Way W) (reads : Data → Option N) (held : X → W) (meant : X → N) (x : Option X) (o : Option Data) → ((y : X) → x ≡ Some y → ReadsAs way reads (held y) (meant y))
     → IsHeld way (option_map held x) o → optional_of reads o ≡ Some (option_map meant x)
-pair_read way reads held meant None o again is = ap (optional_of reads) is
-pair_read way reads held meant (Some x) None again is = absurd is
-pair_read way reads held meant (Some x) (Some d) again is = ap (option_map Some) (again x refl d is)
+pair_read way reads held meant x o h1 h2 = grind arith
 
 mapped_twice : {A B C : Type 0} (f : B → C) (g : A → B) (o : Option A) → option_map (λ x. f (g x)) o ≡ option_map f (option_map g o)
-mapped_twice f g None = refl
-mapped_twice f g (Some x) = refl
+mapped_twice f g o = grind arith
 
 module _ {X W M : Type 0} (way : Way W) (held : X → W) (meaning : X → M) (reads : Data → Option M) (law : AreReadAgain way held meaning reads) where
   metadata_again : (x : Option X) → MetadataAgain way held meaning reads x
-  metadata_again None = tt
-  metadata_again (Some x) = law x
+  metadata_again x = grind arith
 
   workspace_members : (w : Workspace X) → WorkspaceMeets told (workspace_meaning meaning w) → (ms : Members) → AllHeld (workspace_rows way (workspace_meaning held w)) ms
       → workspace_of reads ms ≡ Some (reread_workspace (workspace_meaning meaning w))

@@ -1,7 +1,7 @@
 -- What was read of a tree that holds no float is such as is asked, where each part that was read is: it is as asked of what is
 -- written, it is told so that it is read again, and then it stays.
 use Prim.Native.String.{String as Words}
-use Rattle.std.proofs.Common.{◌≡◌, refl, ap, subst, ℕ, List, [], ◌∷◌, codes, Bool, true, false, IsTrue, Option, Some, None, IfSome, option_map, option_and_then, Ordering, Less, Equal, Greater, nat_cmp, if◌then◌else◌, sym, arith, ◌∙◌, cond, not, ◌++◌, lit<, Result, Ok, Err, ◌&&◌}
+use Rattle.std.proofs.Common.{◌≡◌, refl, ap, subst, ℕ, List, [], ◌∷◌, codes, Bool, true, false, IsTrue, Option, Some, None, IfSome, option_map, option_and_then, Ordering, nat_cmp, if◌then◌else◌, sym, arith, ◌∙◌, cond, not, ◌++◌, lit<, Result, Ok, ◌&&◌}
 use Rattle.std.specs.Cmp.Lexicographic.{slice_cmp}
 use Rattle.std.specs.Ordering.{match_ordering}
 use Rattle.std.specs.List.{AllByRecursion, All}
@@ -11,7 +11,7 @@ use Rattle.toml.specs.Data.{Data, table, Members, no_members, member, get_member
 use Rattle.cargo_toml_dependencies.specs.Dependencies.{DependencyMeaning, dependency_of, InheritedMeaning, DetailMeaning, simple, inherited, detailed, no_detail, strict_of, inherited_or, detail_keys, detail_of_table}
 use Rattle.cargo_toml_dependencies.specs.Features.{features_of, no_features, apart, details_of, feature_of, lists_of}
 use Rattle.cargo_toml_dependencies.specs.Targets.{target_of, TargetMeaning}
-use Rattle.cargo_toml_manifest.specs.Manifests.{ManifestMeaning, by_zero_rule, target_reads, product_reads, badges_reads, no_badges, profiles_reads, no_profiles, manifest_of, manifest_reads, zero_rule_applies, is_zero}
+use Rattle.cargo_toml_manifest.specs.Manifests.{ManifestMeaning, by_zero_rule, target_reads, product_reads, badges_reads, no_badges, profiles_reads, no_profiles, manifest_of, manifest_reads, zero_rule_applies}
 use Rattle.cargo_toml_package.specs.Packages.{PackageMeaning, package_reads, package_of_table}
 use Rattle.cargo_toml_package.specs.Templates.{template_reads, TemplateMeaning, template_of}
 use Rattle.cargo_toml_package.specs.Workspaces.{WorkspaceMeaning, workspace_of, workspace_reads}
@@ -43,7 +43,7 @@ use Rattle.cargo_toml_write.specs.Writes.{Row, RowsAsk, Way, unless}
 use Rattle.cargo_toml_write.specs.WrittenDependencies.{DetailAgain, DependencyAgain, dependency_way, AreTold, detail_way, known_rows, dependencies_way, target_way}
 use Rattle.cargo_toml_write.specs.WrittenPackages.{IsVersionAgain, TemplateAgain, VersionAgain, package_way, workspace_way}
 use Rattle.cargo_toml_write.specs.WrittenTables.{IsApart, AreApart, is_level_alone, lint_way, profiles_way, profile_way, table_lint_way, has_no_profile, lint_groups_way}
-use Rattle.cargo_toml_write.proofs.Tables.{other_member}
+use Rattle.cargo_toml_write.proofs.ReadAgain.{other_member}
 use Rattle.cargo_toml_parts.specs.declared.inheritable.Inheritable.{Inheritable}
 use Rattle.cargo_toml_write.specs.WrittenManifests.{manifest_way}
 use Rattle.cargo_toml_package.specs.Sharing.{LintsByTool}
@@ -65,16 +65,13 @@ gives_some {P = P} x h = record { each = λ y e. subst P (ap (or_else x) e) h }
 
 -- a step and what follows, and a step of which nothing is asked
 pub bind : {A B : Type 0} {Q : A → Type 0} {P : B → Type 0} (o : Option A) (f : A → Option B) → Gives Q o → ((x : A) → Q x → Gives P (f x)) → Gives P (option_and_then f o)
-bind None f h k = gives_none
-bind (Some x) f h k = k x (h.each x refl)
+bind o f h1 h2 = grind (arith, gives_none)
 
 pub skip : {A B : Type 0} {P : B → Type 0} (o : Option A) (f : A → Option B) → ((x : A) → Gives P (f x)) → Gives P (option_and_then f o)
-skip None f k = gives_none
-skip (Some x) f k = k x
+skip o f h1 = grind (arith, gives_none)
 
 pub mapped : {A B : Type 0} {Q : A → Type 0} {P : B → Type 0} (o : Option A) (f : A → B) → Gives Q o → ((x : A) → Q x → P (f x)) → Gives P (option_map f o)
-mapped None f h k = gives_none
-mapped (Some x) f h k = gives_some (f x) (k x (h.each x refl))
+mapped o f h1 h2 = grind (arith, gives_none, gives_some)
 
 -- a reader that gives such of a tree that holds no float
 abbrev pub Reads : {M : Type 0} → (M → Type 0) → (Data → Option M) → Type 0
@@ -87,9 +84,7 @@ abbrev pub MembersFloatless : Members → Type 0
 MembersFloatless ms = IsTrue (members_have_no_float ms)
 
 chosen : (o : Ordering) (r s : Option Data) → Gives Floatless r → Gives Floatless s → Gives Floatless (match_ordering o r s r)
-chosen Less r s hr hs = hr
-chosen Equal r s hr hs = hs
-chosen Greater r s hr hs = hr
+chosen o r s h1 h2 = grind arith
 
 pub got_floatless : (k : List ℕ) (ms : Members) → MembersFloatless ms → Gives Floatless (get_member k ms)
 got_floatless k no_members h = gives_none
@@ -98,15 +93,13 @@ got_floatless k (member l d ms) h =
     chosen (slice_cmp nat_cmp k l) (get_member k ms) (Some d) (got_floatless k ms parts.1) (gives_some {P = Floatless} d parts.0)
 
 optional_gives : {M : Type 0} {P : M → Type 0} (reads : Data → Option M) → Reads P reads → (o : Option Data) → Gives Floatless o → Gives (λ x. IfSome x P) (optional_of reads o)
-optional_gives {P = P} reads r None h = gives_some {P = λ x. IfSome x P} None tt
-optional_gives reads r (Some d) h = mapped (reads d) (λ x. Some x) (r d (h.each d refl)) (λ x p. p)
+optional_gives reads h1 h2 h3 = grind (arith, gives_some, mapped)
 
 pub optional_reads : {M : Type 0} {P : M → Type 0} (key : Words) (reads : Data → Option M) → Reads P reads → (ms : Members) → MembersFloatless ms → Gives (λ x. IfSome x P) (optional_at key reads ms)
 optional_reads key reads r ms h = optional_gives reads r (get_member (codes key) ms) (got_floatless (codes key) ms h)
 
 given_gives : {M : Type 0} {P : M → Type 0} (missing : M) (reads : Data → Option M) → P missing → Reads P reads → (o : Option Data) → Gives Floatless o → Gives P (given_of reads missing o)
-given_gives missing reads p r None h = gives_some missing p
-given_gives missing reads p r (Some d) h = r d (h.each d refl)
+given_gives missing reads h1 h2 h3 h4 = grind (arith, gives_some)
 
 pub given_reads : {M : Type 0} {P : M → Type 0} (key : Words) (missing : M) (reads : Data → Option M) → P missing → Reads P reads → (ms : Members) → MembersFloatless ms → Gives P (given_at key missing reads ms)
 given_reads key missing reads p r ms h = given_gives missing reads p r (get_member (codes key) ms) (got_floatless (codes key) ms h)
@@ -117,8 +110,7 @@ Entries {M = M} P es = AllByRecursion (λ (e : List ℕ × M). P e.1) es
 
 one_entry : {M : Type 0} {P : M → Type 0} (b : Bool) (k : List ℕ) (o : Option M) (rest : Option (List (List ℕ × M))) → Gives P o → Gives (Entries P) rest
     → Gives (Entries P) (if b then rest else option_and_then (λ x. option_map (λ xs. (k, x) ∷ xs) rest) o)
-one_entry true k o rest one more = more
-one_entry {P = P} false k o rest one more = bind {Q = P} {P = Entries P} o _ one (λ x p. mapped {Q = Entries P} {P = Entries P} rest (λ xs. (k, x) ∷ xs) more (λ xs ps. (p, ps)))
+one_entry b k o rest h1 h2 = grind (arith, bind, mapped)
 
 entries_read : {M : Type 0} {P : M → Type 0} (names : List (List ℕ)) (reads : Data → Option M) → Reads P reads → (ms : Members) → MembersFloatless ms → Gives (Entries P) (others_read names reads ms)
 entries_read {P = P} names reads r no_members h = gives_some {P = Entries P} [] tt
@@ -134,8 +126,7 @@ pub no_entries : {M : Type 0} (P : M → Type 0) → EachValue P []
 no_entries {M = M} P = All-from_recursion (λ (x : List ℕ × M). P x.1) [] tt
 
 pub table_reads : {M : Type 0} {P : M → Type 0} (f : Members → Option M) → ((ms : Members) → MembersFloatless ms → Gives P (f ms)) → (d : Data) → Floatless d → Gives P (option_and_then f (as_table d))
-table_reads f r (table ms) h = r ms h
-table_reads f r _ h = gives_none
+table_reads f h1 h2 h3 = grind (arith, gives_none)
 
 pub map_reads : {M : Type 0} {P : M → Type 0} (reads : Data → Option M) → Reads P reads → Reads (EachValue P) (map_of reads)
 map_reads reads r d h = table_reads (others_read [] reads) (λ ms free. others_reads [] reads r ms free) d h
@@ -151,21 +142,17 @@ anything o = record { each = λ x e. tt }
 
 -- what a workspace may give
 flag_gives : {M : Type 0} {P : M → Type 0} (flag : Option Bool) → Gives (IfSet P) (by_flag {M = M} flag)
-flag_gives None = gives_none
-flag_gives {P = P} (Some true) = gives_some {P = IfSet P} Inherited tt
-flag_gives (Some false) = gives_none
+flag_gives flag = grind (arith, gives_none, gives_some)
 
 set_gives : {M : Type 0} {P : M → Type 0} (o : Option M) (flag : Option Bool) → Gives P o → Gives (IfSet P) (set_or o flag)
-set_gives {P = P} None flag h = flag_gives {P = P} flag
-set_gives {P = P} (Some x) flag h = gives_some {P = IfSet P} (Set x) (h.each x refl)
+set_gives o flag h1 = grind (arith, flag_gives, gives_some)
 
 pub inheritable_reads : {M : Type 0} {P : M → Type 0} (reads : Data → Option M) → Reads P reads → Reads (IfSet P) (inheritable_of reads)
 inheritable_reads reads r d h = set_gives (reads d) (workspace_flag d) (r d h)
 
 -- the public reader refuses a tree that holds a float
 public_at : {M : Type 0} {P : M → Type 0} (reads : Data → Option M) → Reads P reads → (b : Bool) (d : Data) → b ≡ has_no_float d → Gives P (if b then reads d else None)
-public_at reads r true d is = r d (sym is)
-public_at reads r false d is = gives_none
+public_at reads h1 h2 h3 h4 = grind (arith, gives_none)
 
 pub public_reads : {M : Type 0} {P : M → Type 0} (reads : Data → Option M) → Reads P reads → (d : Data) → Gives P (without_floats reads d)
 public_reads reads r d = public_at reads r (has_no_float d) d refl
@@ -221,8 +208,7 @@ module _ {M : Type 0} (asked : Asked M) (metadata_of : Data → Option M) (leave
   workspace_read d h = table_reads (workspace_of metadata_of) workspace_members d h
 
   found_ruled : (found : Option (PackageMeaning M)) → IfSome found (λ p. asked.«package» (by_zero_rule p)) → IfSome (option_map by_zero_rule found) asked.«package»
-  found_ruled None h = tt
-  found_ruled (Some p) h = h
+  found_ruled found h1 = grind arith
 
   abbrev Whole : ManifestMeaning M → Type 0
   Whole = ManifestMeets asked
@@ -256,8 +242,7 @@ module _ {M : Type 0} (asked : Asked M) (metadata_of : Data → Option M) (leave
 
 -- what was read of a tree without floats is as asked of what is written
 pub unless_asked : {X : Type 0} (P : X → Type 0) (b : Bool) (x : X) → P x → IfSome (unless b x) P
-unless_asked P true x h = tt
-unless_asked P false x h = h
+unless_asked P b x h1 = grind arith
 
 module _ {X : Type 0} (way : Way X) (P : X → Type 0) (f : (x : X) → P x → way.asks x) where
   entries_asked : (es : List (List ℕ × X)) → AllByRecursion (λ (e : List ℕ × X). P e.1) es → RowsAsk (entry_rows way es)
@@ -287,8 +272,7 @@ detail_members ms h =
     search (bind, skip, detail_holds) depth 60 fits 4000
 
 inherited_gives : (i : Option InheritedMeaning) (d : Option DetailMeaning) → Gives detail_way.asks d → Gives dependency_way.asks (inherited_or i d)
-inherited_gives (Some i) d h = gives_some {P = dependency_way.asks} (inherited i) tt
-inherited_gives None d h = mapped {Q = detail_way.asks} {P = dependency_way.asks} d detailed h (λ x p. p)
+inherited_gives i d h1 = grind (arith, gives_some, mapped)
 
 dependency_read : Reads dependency_way.asks dependency_of
 unfolding dependency_of
@@ -343,8 +327,7 @@ abbrev PackageAsked : PackageMeaning Data → Type 0
 PackageAsked p = (package_way free_way).asks (by_zero_rule p)
 
 ruled : (b : Bool) (p : PackageMeaning Data) → IfSome p.metadata Floatless → (package_way free_way).asks (if b then record p { publish = Set (everywhere false) } else p)
-ruled true p metadata = (metadata, tt)
-ruled false p metadata = (metadata, tt)
+ruled b p h1 = grind arith
 
 package_holds : (p : PackageMeaning Data) → IfSome p.metadata Floatless → Gives PackageAsked (Some p)
 package_holds p metadata = gives_some {P = PackageAsked} p (ruled (zero_rule_applies p) p metadata)
@@ -389,25 +372,20 @@ pub version_text : (text : List ℕ) (v : Parts) → version_parts text ≡ Ok v
 version_text text v h = ap version_parts (version_parts-sound text v h).0 ∙ h
 
 version_from : (text : List ℕ) (r : Result Parts Error) → version_parts text ≡ r → Gives IsVersionAgain (result_ok r)
-version_from text (Ok v) h = gives_some {P = IsVersionAgain} v (version_text text v h)
-version_from text (Err e) h = gives_none
+version_from text r h1 = grind (arith, gives_none, gives_some, version_text)
 
 version_told : (d : Data) → Gives IsVersionAgain (version_of d)
-version_told (string s) = version_from s (version_parts s) refl
-version_told d = gives_none
+version_told d = grind (arith, gives_none, version_from)
 
 requirement_from : (text : List ℕ) (r : Result (List Held) Error) → req_of text ≡ r → Gives CanBeRead (result_ok r)
-requirement_from text (Ok held) e = gives_some {P = CanBeRead} held (text, e)
-requirement_from text (Err e) h = gives_none
+requirement_from text r h1 = grind (arith, gives_none, gives_some)
 
 requirement_told : (d : Data) → Gives CanBeRead (requirement_of d)
-requirement_told (string s) = requirement_from s (req_of s) refl
-requirement_told d = gives_none
+requirement_told d = grind (arith, gives_none, requirement_from)
 
 -- a value that may be missing
 optional_told : {X : Type 0} (P : X → Type 0) (reads : Data → Option X) → ((d : Data) → Gives P (reads d)) → (o : Option Data) → Gives (λ x. IfSome x P) (optional_of reads o)
-optional_told P reads each None = gives_some {P = λ x. IfSome x P} None tt
-optional_told P reads each (Some d) = mapped {Q = P} {P = λ x. IfSome x P} (reads d) (λ x. Some x) (each d) (λ x h. h)
+optional_told P reads h1 h2 = grind (arith, gives_some, mapped)
 
 -- what is collected has other keys than those that are known
 abbrev AreOthers : {X : Type 0} → List (List ℕ) → List (List ℕ × X) → Type 0
@@ -419,8 +397,7 @@ EachKey {X = X} names es = All (λ (e : List ℕ × X). is_among names e.0 ≡ f
 module _ {X : Type 0} (names : List (List ℕ)) (reads : Data → Option X) where
   one_other : (b : Bool) (k : List ℕ) (o : Option X) (rest : Option (List (List ℕ × X))) → is_among names k ≡ b → Gives (AreOthers names) rest
       → Gives (AreOthers names) (if b then rest else option_and_then (λ x. option_map (λ xs. (k, x) ∷ xs) rest) o)
-  one_other true k o rest e more = more
-  one_other false k o rest e more = skip {P = AreOthers names} o _ (λ x. mapped {Q = AreOthers names} {P = AreOthers names} rest (λ xs. (k, x) ∷ xs) more (λ xs all. (e, all)))
+  one_other b k o rest h1 h2 = grind (arith, mapped, skip)
 
   others_by : (ms : Members) → Gives (AreOthers names) (others_read names reads ms)
   others_by no_members = gives_some {P = AreOthers names} [] tt
@@ -451,8 +428,7 @@ detail_told ms =
 
 no_first : {A B C D : Type 0} (a : Option A) (b : Option B) (c : Option C) (y : B) (z : C) (f : A → B → C → D)
     → b ≡ Some y → c ≡ Some z → option_and_then (λ v. option_and_then (λ w. option_and_then (λ u. Some (f v w u)) c) b) a ≡ None → a ≡ None
-no_first None b c y z f eb ec h = refl
-no_first (Some v) b c y z f eb ec h = cc (rw (eb, ec) at h)
+no_first a b c y z f h1 h2 h3 = grind arith
 
 not_workspace : (ms : Members) (x : DetailMeaning) → strict_of ms ≡ None → Told ms x → required_at "workspace" as_bool (members_of x.unstable) ≡ None
 not_workspace ms x strict (again, features, optional, collected) =
@@ -468,28 +444,23 @@ ToldAgain (inherited i) = Unit {0}
 ToldAgain (detailed x) = DependencyAgain (detailed x)
 
 of_either : (i : Option InheritedMeaning) (o : Option DetailMeaning) → (i ≡ None → Gives (λ x. DependencyAgain (detailed x)) o) → Gives ToldAgain (inherited_or i o)
-of_either (Some i) o detail = gives_some {P = ToldAgain} (inherited i) tt
-of_either None o detail = mapped {Q = λ x. DependencyAgain (detailed x)} {P = ToldAgain} o detailed (detail refl) (λ x p. p)
+of_either i o h1 = grind (arith, gives_some, mapped)
 
 of_table : (ms : Members) → Gives ToldAgain (inherited_or (strict_of ms) (detail_of_table ms))
 of_table ms = of_either (strict_of ms) (detail_of_table ms) (λ strict. record { each = λ x e. (((detail_told ms).each x e).0, not_workspace ms x strict ((detail_told ms).each x e)) })
 
 pub read_again_told : (d : Data) → Gives ToldAgain (dependency_of d)
 unfolding dependency_of
-read_again_told (string s) = mapped {Q = CanBeRead} {P = ToldAgain} (result_ok (req_of s)) simple (requirement_from s (req_of s) refl) (λ x p. p)
-read_again_told (table ms) = of_table ms
-read_again_told d = gives_none
+read_again_told d = grind (arith, gives_none, mapped, of_table, requirement_from)
 
 reread_at : (b : Bool) (i : InheritedMeaning) → i.workspace ≡ b → DependencyAgain (if b then inherited i else detailed (record no_detail { features = i.features; optional = i.optional }))
-reread_at true i says = says
-reread_at false i says = (record { version = tt; not_inherited = refl; apart = All-from_recursion (λ (m : List ℕ × Data). is_among detail_keys m.0 ≡ false) [] tt }, refl)
+reread_at b i h1 = grind (arith, All-from_recursion)
 
 reread_told : (x : DependencyMeaning) → ToldAgain x → DependencyAgain (reread_dependency x)
 reread_told x h1 = grind (arith, reread_at)
 
 same_at : (b : Bool) (i : InheritedMeaning) → b ≡ true → (if b then inherited i else detailed (record no_detail { features = i.features; optional = i.optional })) ≡ inherited i
-same_at true i h = refl
-same_at false i h = absurd (false≢true h)
+same_at b i h1 = grind (arith, false≢true)
 
 -- what it is read again as is what it was, where it says so
 pub stays : (x : DependencyMeaning) → ToldAgain x → SaysTrue x → reread_dependency x ≡ x
@@ -503,16 +474,14 @@ abbrev AreNamed : List (List ℕ) → List (List ℕ × Detail) → Type 0
 AreNamed names es = AllByRecursion (λ e. IsTrue (is_among names e.0)) es
 
 more : (b c : Bool) → IsTrue c → IsTrue (cond b true c)
-more true c h = refl
-more false c h = h
+more b c h1 = grind arith
 
 named_more : (name : List ℕ) (names : List (List ℕ)) (es : List (List ℕ × Detail)) → AreNamed names es → AreNamed (name ∷ names) es
 named_more name names [] h = tt
 named_more name names (e ∷ es) h = (more (bytes_eq name e.0) (is_among names e.0) h.0, named_more name names es h.1)
 
 named_first : (b : Bool) (name : List ℕ) (d : Detail) (names : List (List ℕ)) (es : List (List ℕ × Detail)) → AreNamed names es → AreNamed (name ∷ names) (cond b ((name, d) ∷ es) es)
-named_first true name d names es h = (ap (λ (b : Bool). cond b true (is_among names name)) ((bytes_eq-Decides name name).1 refl), named_more name names es h)
-named_first false name d names es h = named_more name names es h
+named_first b name d names es h1 = grind (arith, bytes_eq-Decides, named_more)
 
 named : (fs : Written) → AreNamed (keys_of (lists_of fs)) (details_of fs)
 named [] = tt
@@ -522,8 +491,7 @@ abbrev AreSaid : List (List ℕ × Detail) → Type 0
 AreSaid es = AllByRecursion (λ e. is_plain e.1 ≡ false) es
 
 said_first : (b : Bool) (name : List ℕ) (d : Detail) (es : List (List ℕ × Detail)) → is_plain d ≡ b → AreSaid es → AreSaid (cond (not b) ((name, d) ∷ es) es)
-said_first true name d es plain h = h
-said_first false name d es plain h = (plain, h)
+said_first b name d es h1 h2 = grind arith
 
 said : (fs : Written) → AreSaid (details_of fs)
 said [] = tt
@@ -565,13 +533,11 @@ template_members ms =
 
 template_told : (d : Data) → Gives TemplateAgain (template_reads d)
 unfolding template_reads
-template_told (table ms) = template_members ms
-template_told d = gives_none
+template_told d = grind (arith, gives_none, template_members)
 
 module _ {M : Type 0} (metadata_of : Data → Option M) where
   ruled_version : (b : Bool) (p : PackageMeaning M) → VersionAgain p.version → VersionAgain ((if b then record p { publish = Set (everywhere false) } else p).version)
-  ruled_version true p h = h
-  ruled_version false p h = h
+  ruled_version b p h1 = grind arith
 
   abbrev IsVersioned : PackageMeaning M → Type 0
   IsVersioned p = VersionAgain ((by_zero_rule p).version)
@@ -623,13 +589,11 @@ target_stays t h1 h2 = grind (arith, entries_stay)
 
 -- the rule of version 0.0.0 does nothing twice
 and_false : (b : Bool) → (b && false) ≡ false
-and_false true = refl
-and_false false = refl
+and_false b = grind arith
 
 ruled_twice : {M : Type 0} (b : Bool) (p : PackageMeaning M) → zero_rule_applies p ≡ b
     → by_zero_rule (if b then record p { publish = Set (everywhere false) } else p) ≡ (if b then record p { publish = Set (everywhere false) } else p)
-ruled_twice true p applies = rw (and_false (is_zero p.version)) refl
-ruled_twice false p applies = rw applies refl
+ruled_twice b p h1 = grind (arith, and_false)
 
 module _ {M : Type 0} where
   -- what holds of a manifest that was read
@@ -657,8 +621,7 @@ module _ {M : Type 0} where
   }
 
   package_stays : (x : Option (PackageMeaning M)) → IfSome x (λ p. by_zero_rule p ≡ p) → option_map by_zero_rule x ≡ x
-  package_stays None h = refl
-  package_stays (Some p) h = ap Some h
+  package_stays x h1 = grind arith
 
   workspace_stays : (x : Option (WorkspaceMeaning M)) → IfSome x (WorkspaceMeets kept) → IfSome x (WorkspaceMeets says_true) → option_map reread_workspace x ≡ x
   workspace_stays x h1 h2 = grind (arith, entries_stay)

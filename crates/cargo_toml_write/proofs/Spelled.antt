@@ -1,5 +1,5 @@
 -- What the reader of `semver` reads as a requirement is read again from its own text.
-use Rattle.std.proofs.Common.{◌≡◌, ◌<◌, ◌≤◌, ◌^◌, ◌==◌, ℕ, zero, suc, List, [], ◌∷◌, length, Option, Some, None, Result, Ok, Err, Bool, true, false, not, refl, sym, ◌∙◌, subst, arith, inl, inr, ◌&&◌, ◌||◌, ◌++◌, ◌+◌, ap, append_assoc, append-nil}
+use Rattle.std.proofs.Common.{◌≡◌, ◌<◌, ◌≤◌, ◌^◌, ◌==◌, ℕ, zero, suc, List, [], ◌∷◌, length, Option, Some, None, Result, Ok, Bool, true, false, not, refl, sym, ◌∙◌, subst, arith, inl, inr, ◌&&◌, ◌||◌, ◌++◌, ◌+◌, ap, append_assoc, append-nil}
 use Rattle.std.specs.Prelude.{◌⊎◌, if◌then◌else◌}
 use Rattle.std.specs.List.{list_all}
 use Rattle.std.proofs.lemmas.Bool.{cases_Bool, eq-eqb}
@@ -48,8 +48,7 @@ AreSpelled n cs = (length cs ≤ n) × AllSpelled cs
 
 -- the operator that was read is no wildcard
 either-plain : (x : Bool) (a b : Op × List ℕ) → is_wildcard a.0 ≡ false → is_wildcard b.0 ≡ false → is_wildcard (if x then a else b).0 ≡ false
-either-plain true a b p q = p
-either-plain false a b p q = q
+either-plain x a b h1 h2 = grind arith
 
 equal-plain : (one two : Op) (text : List ℕ) → is_wildcard one ≡ false → is_wildcard two ≡ false → is_wildcard (first_or_equal one two text).0 ≡ false
 equal-plain one two [] p q = p
@@ -182,8 +181,7 @@ comparator-ok input c h =
 
 -- the comparators of a requirement
 or-ok : (r : Result Parsed Error) (input : List ℕ) (p : Parsed) → comparator_or r input ≡ Ok p → r ≡ Ok p
-or-ok (Ok q) input p h = h
-or-ok (Err e) input p h = cc h
+or-ok r input p h1 = grind arith
 
 next-ok : (n : ℕ) (c : Held) (next : Option (List ℕ)) (cs : List Held) → ((text : List ℕ) (ds : List Held) → req_from n text ≡ Ok ds → AreSpelled n ds) → IsSpelled c
     → req_next (req_from n) c next ≡ Ok cs → AreSpelled (suc n) cs
@@ -259,8 +257,7 @@ bind-on : {A B : Type 0} (r : Result A Error) (x : A) (f : A → Result B Error)
 bind-on r x f e = rw e refl
 
 pick-false : {T : Type 0} (x : Bool) (a b : T) → x ≡ false → (if x then a else b) ≡ b
-pick-false true a b e = cc e
-pick-false false a b e = refl
+pick-false x a b h1 = grind arith
 
 abbrev ok-of : ℕ → Result ℕ Error
 ok-of k = Ok k
@@ -310,20 +307,17 @@ no-digit : (pre : List ℕ) (next : Option (List ℕ)) → starts_digit (marked 
 no-digit pre next = grind arith
 
 after-no_digit : (next : Option (List ℕ)) → starts_digit (after next) ≡ false
-after-no_digit None = refl
-after-no_digit (Some text) = refl
+after-no_digit next = grind arith
 
 -- a comparator whose missing numbers are not written
 short-again : (default : Bool) (o : Op) (major : ℕ) (next : Option (List ℕ)) → Reads (from_major default o major (after next)) (o, major, None, None, []) next
 unfolding strip_spaces
-short-again default o major None = (place.Major, refl)
-short-again default o major (Some text) = (place.Major, refl)
+short-again default o major next = grind arith
 
 minor_end : (default : Bool) (o : Op) (major minor : ℕ) (next : Option (List ℕ))
     → Reads (from_minor default major (o, Some minor, false, place.Minor, after next)) (o, major, Some minor, None, []) next
 unfolding strip_spaces
-minor_end default o major minor None = (place.Minor, refl)
-minor_end default o major minor (Some text) = (place.Minor, refl)
+minor_end default o major minor next = grind arith
 
 -- the same reading, by another text
 same-text : (f : List ℕ → Result Parsed Error) (s t : List ℕ) (c : Held) (next : Option (List ℕ)) → s ≡ t → Reads (f t) c next → Reads (f s) c next
@@ -353,14 +347,12 @@ plain-again default o major (Some x) (Some y) pre next s =
 -- a wildcard
 star-again : (major : ℕ) (next : Option (List ℕ)) → Reads (from_major true Caret major (46 ∷ 42 ∷ after next)) (Wildcard, major, None, None, []) next
 unfolding strip_spaces
-star-again major None = (place.Minor, refl)
-star-again major (Some text) = (place.Minor, refl)
+star-again major next = grind arith
 
 star_end : (major minor : ℕ) (next : Option (List ℕ))
     → Reads (from_minor true major (Caret, Some minor, false, place.Minor, 46 ∷ 42 ∷ after next)) (Wildcard, major, Some minor, None, []) next
 unfolding strip_spaces
-star_end major minor None = (place.Patch, refl)
-star_end major minor (Some text) = (place.Patch, refl)
+star_end major minor next = grind arith
 
 wild-again : (major : ℕ) (minor patch : Option ℕ) (pre : List ℕ) (next : Option (List ℕ)) → AreNumbers Wildcard minor patch pre
     → Reads (from_major true Caret major (after_major (46 ∷ 42 ∷ []) minor patch pre ++ after next)) (Wildcard, major, minor, patch, pre) next
@@ -381,12 +373,10 @@ numbered input o body major rest e s n = rw (e, s, n) refl
 
 rest-no_digit : (star : List ℕ) (minor patch : Option ℕ) (pre : List ℕ) (next : Option (List ℕ)) → starts_digit (star ++ after next) ≡ false
     → starts_digit (after_major star minor patch pre ++ after next) ≡ false
-rest-no_digit star None patch pre next h = h
-rest-no_digit star (Some x) patch pre next h = refl
+rest-no_digit star minor patch pre next h1 = grind arith
 
 star-no_digit : (o : Op) (next : Option (List ℕ)) → starts_digit (star_of o ++ after next) ≡ false
-star-no_digit Wildcard next = refl
-star-no_digit o next = after-no_digit next
+star-no_digit o next = grind (arith, after-no_digit)
 
 rest-again : (o : Op) (input body : List ℕ) (major : ℕ) (minor patch : Option ℕ) (pre : List ℕ) (next : Option (List ℕ)) → input ≡ sign_of o ++ body → AreNumbers o minor patch pre
     → Reads (from_major (length input == length body) (read_op o) major (after_major (star_of o) minor patch pre ++ after next)) (o, major, minor, patch, pre) next

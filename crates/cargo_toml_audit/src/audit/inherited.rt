@@ -1,23 +1,19 @@
 //! What a manifest leaves to its workspace.
-ghost use Rattle.std.specs.Prelude.{◌≡◌, ◌++◌, [], ◌∷◌, IfOk, OnOk};
-ghost use Rattle.std.specs.Prelude.{map, option_map, string_bytes};
+ghost use Rattle.std.specs.Prelude.{◌≡◌, ◌++◌, [], IfOk, OnOk, map, option_map, string_bytes};
+ghost use Rattle.std.specs.List.{flat_map};
 ghost use Rattle.std.specs.Option.{option_map_or};
 ghost use Rattle.cargo_toml.specs.Dependencies.{dependency_meaning};
 ghost use Rattle.cargo_toml.specs.InheritedDependencies.{is_left};
 ghost use Rattle.cargo_toml.specs.InheritedPackages.{is_left_there, leavable_rows};
 ghost use Rattle.cargo_toml.specs.Manifests.{held};
 ghost use Rattle.cargo_toml.specs.Packages.{held_package};
-ghost use Rattle.cargo_toml_dependencies.specs.Replacing.{entries_meaning};
-ghost use Rattle.cargo_toml_audit.specs.Checked.{own_by_kind};
-ghost use Rattle.cargo_toml_audit.specs.TablesByKind.{all_by_kind};
-ghost use Rattle.cargo_toml_audit.specs.LeftKeys.{left_fields, left_in, left_in_tables};
-ghost use Rattle.cargo_toml_audit.specs.LeftKeys.{left_rows};
-ghost use Rattle.cargo_toml_audit.specs.Noted.{GainsKeys, inherited_in, inherited_in_all};
+ghost use Rattle.cargo_toml_audit.specs.Entries.{inherited_by, inherited_in, left_dependency};
+ghost use Rattle.cargo_toml_audit.specs.Entries.{left_fields, listed_of, named_if, table_name};
 
-use crate::tables::Tables;
-use cargo_toml::{Dependency, DepsSet, Inheritable, Manifest, Package};
+use super::entries::Entry;
+use cargo_toml::features::Kind;
+use cargo_toml::{Dependency, Inheritable, Manifest, Package};
 use std::alloc::{AllocError, Global};
-use std::collections::BTreeSet;
 
 /// A key, and whether its value is left to the workspace.
 type Row = (&'static str, bool);
@@ -27,14 +23,13 @@ pub fn inherited_keys<M>(alloc: Global, manifest: &Manifest<M>) -> Result<Vec<St
     ensures { IfOk result (λ keys. map string_bytes keys.items ≡ left_fields (held manifest.now)) }
 {
     let mut keys = package_keys(alloc, &manifest.package)?;
-    let lints = [("lints", !manifest.lints.is_set())];
-    add_left(alloc, &mut keys, &lints)?;
+    add_row(alloc, &mut keys, ("lints", !manifest.lints.is_set()))?;
     Ok(keys)
 }
 
 fn package_keys<M>(alloc: Global, package: &Option<Package<M>>) -> Result<Vec<String>, AllocError>
-    ensures { IfOk result (λ keys. map string_bytes keys.items
-        ≡ left_rows (option_map_or leavable_rows (option_map held_package «package».now) [])) }
+    ensures { IfOk result (λ keys. map string_bytes keys.items ≡ flat_map named_if
+        (option_map_or leavable_rows (option_map held_package «package».now) [])) }
 {
     let mut keys = Vec::new(alloc);
     let Some(package) = package else {
@@ -69,15 +64,17 @@ fn leavable_rows<M>(package: &Package<M>) -> [Row; 16]
     ]
 }
 
-fn is_inherited(text: &Option<Inheritable<String>>) -> bool
+/// Whether a text is left to the workspace.
+pub fn is_inherited(text: &Option<Inheritable<String>>) -> bool
     ensures { result ≡ is_left_there text.now }
 {
     matches!(text, Some(Inheritable::Inherited))
 }
 
+#[tactic(auto, using(crate::proofs::Walks::mapped_next))]
 fn add_left(alloc: Global, keys: &mut Vec<String>, rows: &[Row]) -> Result<(), AllocError>
-    ensures { OnOk result (map string_bytes keys.new.items
-        ≡ map string_bytes keys.old.items ++ left_rows (map (λ r. (r.0.now, r.1)) rows.now)) }
+    ensures { OnOk result (map string_bytes keys.new.items ≡ map string_bytes keys.old.items
+        ++ flat_map named_if (map (λ r. (r.0.now, r.1)) rows.now)) }
 {
     for row in rows {
         add_row(alloc, keys, *row)?;
@@ -87,7 +84,7 @@ fn add_left(alloc: Global, keys: &mut Vec<String>, rows: &[Row]) -> Result<(), A
 
 fn add_row(alloc: Global, keys: &mut Vec<String>, row: Row) -> Result<(), AllocError>
     ensures { OnOk result (map string_bytes keys.new.items
-        ≡ map string_bytes keys.old.items ++ left_rows ((row.entry.0.now, row.entry.1) ∷ [])) }
+        ≡ map string_bytes keys.old.items ++ named_if (row.entry.0.now, row.entry.1)) }
 {
     let (key, is_left) = row;
     if !is_left {
@@ -99,89 +96,56 @@ fn add_row(alloc: Global, keys: &mut Vec<String>, row: Row) -> Result<(), AllocE
 
 /// Adds the dependencies that are left to the workspace to the keys of this member, with the table
 /// in front, and to those of all members.
-pub fn add_inherited_dependencies<M>(
-    manifest: &Manifest<M>,
+#[tactic(auto, using(crate::proofs::Walks::mapped_next))]
+pub fn add_inherited(
+    entries: &[Entry<'_>],
     keys: &mut Vec<String>,
-    all: &mut BTreeSet<String>,
+    all: &mut Vec<String>,
 ) -> Result<(), AllocError>
     ensures keys { OnOk result (map string_bytes keys.new.items
-        ≡ map string_bytes keys.old.items ++ left_in_tables (all_by_kind (held manifest.now))) }
-    ensures all { OnOk result
-        (GainsKeys (inherited_in_all (all_by_kind (held manifest.now))) all.old all.new) }
+        ≡ map string_bytes keys.old.items ++ flat_map left_dependency (map listed_of entries.now)) }
+    ensures all { OnOk result (map string_bytes all.new.items
+        ≡ map string_bytes all.old.items ++ inherited_in (map listed_of entries.now)) }
 {
-    let own = Tables {
-        normal: &manifest.dependencies,
-        dev: &manifest.dev_dependencies,
-        build: &manifest.build_dependencies,
-    };
-    add_tables(own, keys, all)?;
-    for (_, target) in &manifest.target {
-        let tables = Tables {
-            normal: &target.dependencies,
-            dev: &target.dev_dependencies,
-            build: &target.build_dependencies,
-        };
-        add_tables(tables, keys, all)?;
+    for entry in entries {
+        add_entry(*entry, keys, all)?;
     }
     Ok(())
 }
 
-fn add_tables(
-    tables: Tables<'_>,
+fn add_entry(
+    entry: Entry<'_>,
     keys: &mut Vec<String>,
-    all: &mut BTreeSet<String>,
+    all: &mut Vec<String>,
 ) -> Result<(), AllocError>
     ensures keys { OnOk result (map string_bytes keys.new.items
-        ≡ map string_bytes keys.old.items ++ left_in_tables (own_by_kind tables.entry)) }
-    ensures all { OnOk result
-        (GainsKeys (inherited_in_all (own_by_kind tables.entry)) all.old all.new) }
+        ≡ map string_bytes keys.old.items ++ left_dependency (listed_of entry.entry)) }
+    ensures all { OnOk result (map string_bytes all.new.items
+        ≡ map string_bytes all.old.items ++ inherited_by (listed_of entry.entry)) }
 {
-    add_table(tables.normal, "dependencies", keys, all)?;
-    add_table(tables.dev, "dev-dependencies", keys, all)?;
-    add_table(tables.build, "build-dependencies", keys, all)
-}
-
-fn add_table(
-    table: &DepsSet,
-    name: &str,
-    keys: &mut Vec<String>,
-    all: &mut BTreeSet<String>,
-) -> Result<(), AllocError>
-    ensures keys { OnOk result (map string_bytes keys.new.items
-        ≡ map string_bytes keys.old.items ++ left_in name.now (entries_meaning table.now)) }
-    ensures all { OnOk result
-        (GainsKeys (inherited_in (entries_meaning table.now)) all.old all.new) }
-{
-    for (key, dependency) in table {
-        add_dependency(key, dependency, name, keys, all)?;
-    }
-    Ok(())
-}
-
-/// Adds a dependency where it is left to the workspace.
-fn add_dependency(
-    key: &String,
-    dependency: &Dependency,
-    table: &str,
-    keys: &mut Vec<String>,
-    all: &mut BTreeSet<String>,
-) -> Result<(), AllocError>
-    ensures keys { OnOk result (map string_bytes keys.new.items ≡ map string_bytes keys.old.items
-        ++ left_in table.now ((string_bytes key.now, dependency_meaning dependency.now) ∷ [])) }
-    ensures all { OnOk result (GainsKeys
-        (inherited_in ((string_bytes key.now, dependency_meaning dependency.now) ∷ []))
-        all.old all.new) }
-{
-    if !is_left(dependency) {
+    if !is_left(entry.dependency) {
         return Ok(());
     }
     let alloc = *keys.allocator();
+    let key = entry.key;
+    let table = table_name(entry.kind);
     keys.push(format!(in alloc; "{table}.{key}")?)?;
-    all.insert(key.clone()?)?;
+    all.push(String::from_str(alloc, key)?)?;
     Ok(())
 }
 
-fn is_left(dependency: &Dependency) -> bool
+fn table_name(kind: Kind) -> &'static str
+    ensures { result.now ≡ table_name kind }
+{
+    match kind {
+        Kind::Normal => "dependencies",
+        Kind::Dev => "dev-dependencies",
+        Kind::Build => "build-dependencies",
+    }
+}
+
+/// Whether a dependency is left to the workspace.
+pub fn is_left(dependency: &Dependency) -> bool
     ensures { result ≡ is_left (dependency_meaning dependency.now) }
 {
     matches!(dependency, Dependency::Inherited(_))

@@ -1,51 +1,105 @@
 //! How a report is written.
-ghost use Rattle.std.specs.Prelude.{◌≡◌, ◌+◌, ◌∷◌, ◌++◌, [], IfOk, OnOk, codes, map};
-ghost use Rattle.std.specs.Prelude.{string_bytes, vec_len};
-ghost use Rattle.std.specs.BTreeSet.{btree_set_len, keys};
-ghost use Rattle.std.specs.List.Sorted.{IsStrictlySortedBy};
-ghost use Rattle.serde_json.specs.View.{view};
-ghost use Rattle.cargo_toml_audit.specs.Escaped.{column, whole_lines};
-ghost use Rattle.cargo_toml_audit.specs.Escapes.{AreLines};
-ghost use Rattle.cargo_toml_audit.specs.Oddities.{oddity_cmp, oddity_of};
-ghost use Rattle.cargo_toml_audit.specs.Reported.{keys_text, member_line, oddity_line, or_dash};
-ghost use Rattle.cargo_toml_audit.specs.ReportedJson.{IsReportOf, finding_rows, member_rows};
-ghost use Rattle.cargo_toml_audit.specs.ReportedJson.{object_of_rows};
 
-use super::{Audit, Finding, Member};
-use crate::escape::{Format, comma_before, push_escaped};
-use crate::json::{put_text, put_texts};
+use super::{Audit, Code, Finding, Member, Use};
+use crate::members::seen_from;
+use cargo_toml_tools::escape::{Format, comma_before, push_escaped};
+use cargo_toml_tools::json::{put_text, put_texts};
 use serde_json::{Map, Value, push, put};
 use std::alloc::{AllocError, Global};
-use std::collections::BTreeSet;
+use std::collections::{BTreeMap, BTreeSet};
 
 /// The report as lines: one for each member, and then one for each finding, in byte order.
 ///
 /// `member FOLDER | NAME | VERSION | EDITION | RUST-VERSION | LICENSE | PUBLISH | INHERITS`, and
 /// `finding CODE | SUBJECT | WORDS`, where `-` stands for what isn't there.
-pub fn lines(alloc: Global, audit: &Audit) -> Result<String, AllocError>
-    ensures exact { IfOk result (λ text. string_bytes text ≡ whole_lines
-        (map member_line audit.now.members.items ++ map oddity_line (keys audit.now.findings))) }
-    ensures lines { IfOk result (λ text. AreLines
-        (vec_len audit.now.members + btree_set_len audit.now.findings) (string_bytes text)) }
-    ensures in_order { OnOk result
-        (IsStrictlySortedBy oddity_cmp (map oddity_of (keys audit.now.findings))) }
-{
+pub fn lines(alloc: Global, audit: &Audit) -> Result<String, AllocError> {
     let mut text = String::new(alloc);
-    for member in &audit.members {
-        push_member(&mut text, member)?;
+    for (folder, member) in &shown_members(alloc, audit)? {
+        push_member(&mut text, folder.as_str(), member)?;
     }
-    for finding in &audit.findings {
+    for finding in &shown_findings(alloc, audit)? {
         push_finding(&mut text, finding)?;
     }
     Ok(text)
 }
 
-fn push_member(text: &mut String, member: &Member) -> Result<(), AllocError>
-    ensures { OnOk result
-        (string_bytes text.new ≡ string_bytes text.old ++ (member_line member.now ++ 10 ∷ [])) }
-{
+/// The members by their folders, as they are seen from the workspace's.
+fn shown_members<'a>(
+    alloc: Global,
+    audit: &'a Audit,
+) -> Result<BTreeMap<String, &'a Member>, AllocError> {
+    let mut all = BTreeMap::new(alloc);
+    for member in &audit.members {
+        let folder = seen_from(alloc, audit.root.as_str(), member.folder.as_str())?;
+        all.insert(folder, member)?;
+    }
+    Ok(all)
+}
+
+/// What was found, each once. A place is told as it is seen from the workspace, and of a crate with
+/// several requirements all that ask for it.
+fn shown_findings(alloc: Global, audit: &Audit) -> Result<BTreeSet<Finding>, AllocError> {
+    let asked = requirements(alloc, audit)?;
+    let mut all = BTreeSet::new(alloc);
+    for finding in &audit.findings {
+        let subject = if finding.code.is_of_place() {
+            seen_from(alloc, audit.root.as_str(), finding.subject.as_str())?
+        } else {
+            finding.subject.clone()?
+        };
+        let words = match asked.get(finding.subject.as_str()) {
+            Some(words) if finding.code == Code::SeveralRequirements => words.clone()?,
+            _ => finding.words.clone()?,
+        };
+        all.insert(Finding {
+            code: finding.code,
+            subject,
+            words,
+        })?;
+    }
+    Ok(all)
+}
+
+/// By the name of a crate, its requirements in order, each with the folders of what asks by it.
+fn requirements(alloc: Global, audit: &Audit) -> Result<BTreeMap<String, String>, AllocError> {
+    let mut uses = BTreeSet::new(alloc);
+    for one in &audit.uses {
+        let folder = seen_from(alloc, audit.root.as_str(), one.folder.as_str())?;
+        uses.insert(Use {
+            name: one.name.clone()?,
+            requirement: one.requirement.clone()?,
+            folder,
+        })?;
+    }
+    let mut all: BTreeMap<String, String> = BTreeMap::new(alloc);
+    let mut last = String::new(alloc);
+    for one in &uses {
+        let mut words = all.remove(one.name.as_str()).unwrap_or(String::new(alloc));
+        push_use(&mut words, one, last.as_str())?;
+        all.insert(one.name.clone()?, words)?;
+        last = one.requirement.clone()?;
+    }
+    Ok(all)
+}
+
+/// Writes one more use of a crate, behind those that the words have, the last of them by this
+/// requirement.
+fn push_use(words: &mut String, one: &Use, last: &str) -> Result<(), AllocError> {
+    if words.is_empty() || one.requirement.as_str() != last {
+        if !words.is_empty() {
+            words.push_str("; ")?;
+        }
+        words.push_str(one.requirement.as_str())?;
+        words.push_str(" in ")?;
+    } else {
+        words.push_str(", ")?;
+    }
+    words.push_str(one.folder.as_str())
+}
+
+fn push_member(text: &mut String, folder: &str, member: &Member) -> Result<(), AllocError> {
     text.push_str("member ")?;
-    push_escaped(text, member.folder.as_str(), Format::Line)?;
+    push_escaped(text, folder, Format::Line)?;
     push_cell(text, member.name.as_str())?;
     push_cell(text, member.version.as_str())?;
     push_cell(text, member.edition.as_str())?;
@@ -56,16 +110,11 @@ fn push_member(text: &mut String, member: &Member) -> Result<(), AllocError>
 }
 
 /// A dash stands for what isn't there.
-fn or_dash(words: &Option<String>) -> &str
-    ensures { result.now ≡ or_dash words.now }
-{
+fn or_dash(words: &Option<String>) -> &str {
     words.as_deref().unwrap_or("-")
 }
 
-fn push_finding(text: &mut String, finding: &Finding) -> Result<(), AllocError>
-    ensures { OnOk result
-        (string_bytes text.new ≡ string_bytes text.old ++ (oddity_line finding.now ++ 10 ∷ [])) }
-{
+fn push_finding(text: &mut String, finding: &Finding) -> Result<(), AllocError> {
     text.push_str("finding ")?;
     text.push_str(finding.code.word())?;
     push_cell(text, finding.subject.as_str())?;
@@ -73,17 +122,12 @@ fn push_finding(text: &mut String, finding: &Finding) -> Result<(), AllocError>
     text.push_str("\n")
 }
 
-fn push_cell(text: &mut String, cell: &str) -> Result<(), AllocError>
-    ensures { OnOk result (string_bytes text.new ≡ string_bytes text.old ++ column cell.now) }
-{
+fn push_cell(text: &mut String, cell: &str) -> Result<(), AllocError> {
     text.push_str(" | ")?;
     push_escaped(text, cell, Format::Line)
 }
 
-fn push_keys(text: &mut String, keys: &[String]) -> Result<(), AllocError>
-    ensures { OnOk result (string_bytes text.new ≡
-        string_bytes text.old ++ (codes " | " ++ (keys_text keys.now ++ 10 ∷ []))) }
-{
+fn push_keys(text: &mut String, keys: &[String]) -> Result<(), AllocError> {
     if keys.is_empty() {
         return text.push_str(" | -\n");
     }
@@ -96,14 +140,9 @@ fn push_keys(text: &mut String, keys: &[String]) -> Result<(), AllocError>
 }
 
 /// The same as a line of JSON, an object of two lists: `findings` and `members`.
-pub fn json(alloc: Global, audit: &Audit) -> Result<String, AllocError>
-    ensures report { IfOk result (λ text. IsReportOf audit.now.members.items
-        (keys audit.now.findings) (string_bytes text)) }
-    ensures in_order { OnOk result
-        (IsStrictlySortedBy oddity_cmp (map oddity_of (keys audit.now.findings))) }
-{
-    let members = member_values(alloc, audit.members.as_slice())?;
-    let findings = finding_values(alloc, &audit.findings)?;
+pub fn json(alloc: Global, audit: &Audit) -> Result<String, AllocError> {
+    let members = member_values(alloc, &shown_members(alloc, audit)?)?;
+    let findings = finding_values(alloc, &shown_findings(alloc, audit)?)?;
     let mut report = Map::new(alloc);
     put(&mut report, alloc, "members", Value::from(members))?;
     put(&mut report, alloc, "findings", Value::from(findings))?;
@@ -112,23 +151,18 @@ pub fn json(alloc: Global, audit: &Audit) -> Result<String, AllocError>
     Ok(text)
 }
 
-fn member_values(alloc: Global, members: &[Member]) -> Result<Vec<Value>, AllocError>
-    ensures { IfOk result (λ values.
-        map view values.items ≡ map (λ m. object_of_rows (member_rows m)) members.now) }
-{
+fn member_values(
+    alloc: Global,
+    members: &BTreeMap<String, &Member>,
+) -> Result<Vec<Value>, AllocError> {
     let mut values = Vec::new(alloc);
-    for member in members {
-        push(&mut values, member_value(alloc, member)?)?;
+    for (folder, member) in members {
+        push(&mut values, member_value(alloc, folder.as_str(), member)?)?;
     }
     Ok(values)
 }
 
-fn finding_values(alloc: Global, findings: &BTreeSet<Finding>) -> Result<Vec<Value>, AllocError>
-    ensures values { IfOk result (λ values.
-        map view values.items ≡ map (λ f. object_of_rows (finding_rows f)) (keys findings.now)) }
-    ensures in_order { OnOk result
-        (IsStrictlySortedBy oddity_cmp (map oddity_of (keys findings.now))) }
-{
+fn finding_values(alloc: Global, findings: &BTreeSet<Finding>) -> Result<Vec<Value>, AllocError> {
     let mut values = Vec::new(alloc);
     for finding in findings {
         push(&mut values, finding_value(alloc, finding)?)?;
@@ -136,11 +170,9 @@ fn finding_values(alloc: Global, findings: &BTreeSet<Finding>) -> Result<Vec<Val
     Ok(values)
 }
 
-fn member_value(alloc: Global, member: &Member) -> Result<Value, AllocError>
-    ensures { IfOk result (λ value. view value ≡ object_of_rows (member_rows member.now)) }
-{
+fn member_value(alloc: Global, folder: &str, member: &Member) -> Result<Value, AllocError> {
     let mut object = Map::new(alloc);
-    put_text(alloc, &mut object, "folder", Some(member.folder.as_str()))?;
+    put_text(alloc, &mut object, "folder", Some(folder))?;
     put_text(alloc, &mut object, "name", Some(member.name.as_str()))?;
     put_text(alloc, &mut object, "version", Some(member.version.as_str()))?;
     put_text(alloc, &mut object, "edition", Some(member.edition.as_str()))?;
@@ -156,9 +188,7 @@ fn member_value(alloc: Global, member: &Member) -> Result<Value, AllocError>
     Ok(Value::from(object))
 }
 
-fn finding_value(alloc: Global, finding: &Finding) -> Result<Value, AllocError>
-    ensures { IfOk result (λ value. view value ≡ object_of_rows (finding_rows finding.now)) }
-{
+fn finding_value(alloc: Global, finding: &Finding) -> Result<Value, AllocError> {
     let mut object = Map::new(alloc);
     put_text(alloc, &mut object, "code", Some(finding.code.word()))?;
     put_text(

@@ -1,37 +1,44 @@
 //! What the report tells of a member that completes.
-ghost use Rattle.std.specs.Prelude.{◌≡◌, ◌↔◌, IfErr, IfOk, IsErrAnd, None, Some, map, option_map};
-ghost use Rattle.std.specs.Prelude.{string_bytes};
+ghost use Rattle.std.specs.Prelude.{◌≡◌, None, IfOk, IfSome, IsTrue, Some, false, map};
+ghost use Rattle.std.specs.Prelude.{option_map, string_bytes};
 ghost use Rattle.cargo_toml.specs.InheritableValues.{value_of};
 ghost use Rattle.cargo_toml.specs.InheritedPackages.{field_is_left, is_left_there};
 ghost use Rattle.cargo_toml.specs.Inherits.{inheritable_map};
 ghost use Rattle.cargo_toml.specs.Manifests.{held};
 ghost use Rattle.cargo_toml.specs.Packages.{held_package};
 ghost use Rattle.cargo_toml.specs.Settings.{publish_meaning};
-ghost use Rattle.cargo_toml_audit.specs.Audited.{IsMemberOf, IsNoPackage, IsToldOf, IsUnknown};
-ghost use Rattle.cargo_toml_audit.specs.Audited.{IsUntold, leaves_told, names_text, publish_text};
-ghost use Rattle.cargo_toml_audit.specs.Audited.{stated};
+ghost use Rattle.cargo_toml_audit.specs.Audited.{IsMemberOf, IsToldOf, is_untold, leaves_told};
+ghost use Rattle.cargo_toml_audit.specs.Audited.{names_text, publish_text, stated};
 
 use super::Member;
-use cargo_toml::{Error, Inheritable, Manifest, Package, Publish};
+use super::inherited::is_inherited;
+use cargo_toml::{Inheritable, Manifest, Package, Publish};
 use std::alloc::{AllocError, Global};
 
-/// What is told of a member. What is left to the workspace was filled in.
+/// What is told of a member with this manifest, which was completed. None where nothing can be.
 pub fn summarize<M>(
     alloc: Global,
     folder: &str,
     manifest: &Manifest<M>,
     inherits: Vec<String>,
-) -> Result<Member, Error>
-    ensures folder { IfOk result (λ m. string_bytes m.folder ≡ folder.now) }
-    ensures inherits { IfOk result (λ m. m.inherits ≡ inherits) }
-    ensures told { IfOk result (IsMemberOf (held manifest.now)) }
-    ensures no_package { IsErrAnd result IsNoPackage ↔ (manifest.now.«package» ≡ None) }
-    ensures refused { IfErr result (IsUntold (held manifest.now)) }
+) -> Result<Option<Member>, AllocError>
+    ensures told { IfOk result (λ o. IfSome o
+        (IsMemberOf folder.now (map string_bytes inherits.items) (held manifest.now))) }
+    ensures untold { IfOk result (λ o. o ≡ None → IsTrue (is_untold (held manifest.now))) }
 {
-    let Some(package) = &manifest.package else {
-        return Err(Error::Other("there is no package"));
-    };
-    member_of(alloc, folder, package, inherits)
+    match &manifest.package {
+        Some(package) => member_of(alloc, folder, package, inherits),
+        None => Ok(None),
+    }
+}
+
+/// Why nothing is told of it.
+pub fn untold_words<M>(manifest: &Manifest<M>) -> &'static str {
+    if manifest.package.is_none() {
+        "there is no package"
+    } else {
+        "a value is left to the workspace, which has none"
+    }
 }
 
 /// What is told of the member with this package.
@@ -40,23 +47,32 @@ fn member_of<M>(
     folder: &str,
     package: &Package<M>,
     inherits: Vec<String>,
-) -> Result<Member, Error>
-    ensures folder { IfOk result (λ m. string_bytes m.folder ≡ folder.now) }
-    ensures inherits { IfOk result (λ m. m.inherits ≡ inherits) }
-    ensures told { IfOk result (IsToldOf (held_package «package».now)) }
-    ensures refused { IfErr result (IsUnknown (leaves_told (held_package «package».now))) }
+) -> Result<Option<Member>, AllocError>
+    ensures told { IfOk result (λ o. IfSome o
+        (IsToldOf folder.now (map string_bytes inherits.items) (held_package «package».now))) }
+    ensures untold { IfOk result
+        (λ o. o ≡ None → IsTrue (leaves_told (held_package «package».now))) }
 {
-    let version = known(&package.version)?;
-    let edition = known(&package.edition)?;
-    let publish = known(&package.publish)?;
-    let rust_version = text(&package.rust_version)?;
-    let license = text(&package.license)?;
+    let Some(version) = known(&package.version) else {
+        return Ok(None);
+    };
+    let Some(edition) = known(&package.edition) else {
+        return Ok(None);
+    };
+    let Some(publish) = known(&package.publish) else {
+        return Ok(None);
+    };
+    if is_inherited(&package.rust_version) || is_inherited(&package.license) {
+        return Ok(None);
+    }
     let version = format!(in alloc; "{version}")?;
     let edition = format!(in alloc; "{edition}")?;
     let publish = place(alloc, publish)?;
+    let rust_version = text(&package.rust_version)?;
+    let license = text(&package.license)?;
     let folder = String::from_str(alloc, folder)?;
     let name = package.name.clone()?;
-    Ok(Member {
+    Ok(Some(Member {
         folder,
         name,
         version,
@@ -65,31 +81,29 @@ fn member_of<M>(
         license,
         publish,
         inherits,
-    })
+    }))
 }
 
 /// A value that isn't left to the workspace.
-fn known<T>(value: &Inheritable<T>) -> Result<&T, Error>
-    ensures known { IfOk result (λ x. value_of value.now ≡ Some x.now) }
-    ensures refused { IfErr result (IsUnknown (field_is_left value.now)) }
+fn known<T>(value: &Inheritable<T>) -> Option<&T>
+    ensures known { IfSome result (λ x. value_of value.now ≡ Some x.now) }
+    ensures left { result ≡ None → IsTrue (field_is_left value.now) }
 {
     match value {
-        Inheritable::Set(x) => Ok(x),
-        Inheritable::Inherited => Err(Error::InheritedUnknownValue),
+        Inheritable::Set(x) => Some(x),
+        Inheritable::Inherited => None,
     }
 }
 
-/// A text that may be missing.
-fn text(text: &Option<Inheritable<String>>) -> Result<Option<String>, Error>
-    ensures told { IfOk result
+/// A text that may be missing, and isn't left.
+fn text(text: &Option<Inheritable<String>>) -> Result<Option<String>, AllocError>
+    requires { is_left_there text.now ≡ false }
+    ensures { IfOk result
         (λ copy. option_map (inheritable_map string_bytes) text.now ≡ stated copy) }
-    ensures refused { IfErr result
-        (IsUnknown (is_left_there (option_map (inheritable_map string_bytes) text.now))) }
 {
     match text {
         Some(Inheritable::Set(text)) => Ok(Some(text.clone()?)),
-        Some(Inheritable::Inherited) => Err(Error::InheritedUnknownValue),
-        None => Ok(None),
+        _ => Ok(None),
     }
 }
 

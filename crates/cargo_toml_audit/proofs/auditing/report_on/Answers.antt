@@ -1,57 +1,64 @@
-use Rattle.std.proofs.Common.{◌≤◌, ℕ, List, inl, inr, String, Global, ap, arith, length, subst}
-use Rattle.std.proofs.lemmas.Map.Iter.{rest_all, rest_more}
-use Rattle.std.specs.Map.Iter.{deref}
-use Rattle.std.proofs.lemmas.Result.{err_from_is_err_and}
+use Rattle.std.proofs.Common.{◌≡◌, ◌++◌, ◌∙◌, [], List, Bool, ap, append-nil, append_assoc, map, string_bytes, subst}
+use Rattle.std.specs.BTreeSet.{contains_text}
+use Rattle.std.specs.Prelude.{Vec}
+use Rattle.std.specs.declared.alloc.Global.{Global}
 use Rattle.cargo_toml.specs.Action.{Text}
-use Rattle.cargo_toml_discovery.proofs.Faults.{from_input}
-use Rattle.cargo_toml_audit.specs.AuditSteps.{AddsFolder, NotesOnly}
-use Rattle.cargo_toml_audit.specs.AuditedMembers.{IsAskedThere, IsInheritedThere}
-use Rattle.cargo_toml_audit.proofs.Going.{auditing_begins, auditing_ends, auditing_on}
+use Rattle.cargo_toml.specs.Dependencies.{dependency_meaning}
+use Rattle.cargo_toml.specs.Reads.{map_meaning}
+use Rattle.cargo_toml_audit.specs.AuditSteps.{AreListed}
+use Rattle.cargo_toml_audit.specs.AuditedFiles.{AreRead, Base, IsReport, Takes, base_of, found_beside, gain_of_all, held_in}
+use Rattle.cargo_toml_audit.specs.MemberFolders.{disk_of}
+use Rattle.cargo_toml_audit.specs.Oddities.{Gain, oddities_of, only_found, overall_oddities}
+use Rattle.cargo_toml_audit.specs.Walks.{Walks}
+use Rattle.cargo_toml_audit.specs.declared.audit.Audit.{Audit}
+use Rattle.cargo_toml_audit.specs.declared.audit.Finding.{Finding}
+use Rattle.cargo_toml_audit.specs.declared.auditing.Lists.{Lists}
+use Rattle.cargo_toml_audit.specs.declared.members.walk.Looks.{Looks}
+use Rattle.cargo_toml_audit.proofs.Walked.{disk_agrees}
 use Rattle.cargo_toml_audit.proofs.auditing.report_on.Goals as goal
 
-pub loop-i-init : goal.loop-i-init
-loop-i-init g c = record {
-  count = omega (arith, ap (λ (ks : List (String Global)). length ks) c.iter-member-items.ensures.rest);
-  going = auditing_begins c.args.root.manifest.now c.args.root.path.now c.args.root.workspace.now c.args.root.folder.now c.args.found.now
-      c.iter-member-items.result c.new-audit.result c.add_listing.new.self
-      c.iter-member-items.ensures.rest c.in_ok-add_listing.ensures.rest c.new-audit.ensures.members
-      c.new-audit.ensures.findings c.new-audit.ensures.uses c.new-audit.ensures.inherited
-      c.iter-member-items.ensures.ordered
-      c.in_ok-add_listing.ensures.findings c.in_ok-add_listing.ensures.found;
-}
+-- four pieces, one behind the other
+four : {X : Type 0} (z a b c d p q r s : List X) → z ≡ [] → a ≡ z ++ p → b ≡ a ++ q → c ≡ b ++ r → d ≡ c ++ s → d ≡ p ++ (q ++ (r ++ s))
+four z a b c d p q r s none one two three last =
+    last ∙ ap (λ x. x ++ s) (three ∙ ap (λ x. x ++ r) (two ∙ ap (λ x. x ++ q) (one ∙ ap (λ x. x ++ p) none)))
+    ∙ append_assoc (p ++ q) r s ∙ append_assoc p q (r ++ s)
 
-pub overflow_step-i : goal.overflow_step-i
-overflow_step-i g c =
-    let one = rest_more deref _ _ _ c.in-Some.member c.in-Some.is c.next.ensures.steps in
-    omega (arith, ap (λ (ks : List (String Global)). length ks) one, c.iter-member-items.ensures.fits, c.loop-i.invariant.count)
-
-pub loop-i-preserved : goal.loop-i-preserved
-loop-i-preserved g c =
-    let one = rest_more deref _ _ _ c.in-Some.member c.in-Some.is c.next.ensures.steps in
-    let root = c.args.root.manifest.now in
-    let path = c.args.root.path.now in
-    let workspace = c.args.root.workspace.now in
-    let old = c.loop-i.audit in
-    let new = c.add_folder.new.audit in record {
-      count = omega (arith, ap (λ (ks : List (String Global)). length ks) one, c.loop-i.invariant.count);
-      going = auditing_on root path workspace c.args.root.folder.now c.args.found.now c.in-Some.member.now c.next.new.self c.loop-i.member-iterator
-          old new one c.loop-i.invariant.going
-          (subst (λ (f : Text). NotesOnly IsInheritedThere (IsAskedThere root path f) old new) c.as_str.ensures.value c.in_ok-add_folder.ensures.noted)
-          (subst (λ (f : Text). AddsFolder root path workspace f c.args.root.folder.now old new) c.as_str.ensures.value c.in_ok-add_folder.ensures.added);
+-- a report is begun, lists are read, places walked over, the lists looked at once more, and it is ended
+reported : (base : Base) (asked : Text) (looks : Looks) (lists : Lists) (members : Text → Bool) (begun walked ended : Audit) (listed beside : Vec Finding Global)
+    → held_in begun ≡ only_found [] → AreListed base (disk_of looks) lists begun.findings listed
+    → Walks base (map string_bytes lists.first.items) members (record begun { findings = listed }) walked
+    → oddities_of beside ≡ oddities_of walked.findings
+    ++ found_beside base looks (disk_of looks) (record { listed = contains_text lists.listed; entered = contains_text lists.entered; members = members }) asked
+    → Takes (only_found (overall_oddities (map_meaning dependency_meaning base.workspace.dependencies) (held_in (record walked { findings = beside }))))
+    (record walked { findings = beside }) ended
+    → IsReport base asked ended
+reported base asked looks lists members begun walked ended listed beside empty are walk more end =
+    let gain = gain_of_all base walk.readings in
+    let told = walk.takes.members ∙ ap (λ (x : Gain). x.members ++ gain.members) empty in
+    let inherited = walk.takes.inherited ∙ ap (λ (x : Gain). x.inherited ++ gain.inherited) empty in
+    let wanted = walk.takes.asked ∙ ap (λ (x : Gain). x.asked ++ gain.asked) empty in
+    record {
+      looks = looks;
+      readings = walk.readings;
+      read = subst (λ (ps : List Text). AreRead base ps walk.readings) are.first walk.read;
+      members = end.members ∙ append-nil walked.members.items ∙ told;
+      found = four (oddities_of begun.findings) (oddities_of listed) (oddities_of walked.findings) (oddities_of beside) (oddities_of ended.findings) _ _ _ _
+          (ap (λ (x : Gain). x.found) empty) are.found walk.takes.found
+          (more ∙ (λ i. oddities_of walked.findings ++ found_beside base looks (disk_of looks)
+          (record { listed = λ t. are.listed t i; entered = λ t. are.entered t i; members = λ t. walk.are t i }) asked))
+          (end.found
+          ∙ (λ i. oddities_of beside ++ overall_oddities (map_meaning dependency_meaning base.workspace.dependencies)
+          (record { members = told i; found = []; inherited = inherited i; asked = wanted i })));
     }
-
-pub returns-in_err-show_progress-clause-refused : goal.returns-in_err-show_progress-clause-refused
-returns-in_err-show_progress-clause-refused g c =
-    let left = c.from_residual-in_err-show_progress in
-    let p = err_from_is_err_and left.result left.ensures.1 in
-    rw p.1 (elim (from_input _ p.0 p.2) [
-      | inl memory ↦ inl memory
-      | inr input ↦ inr ((c.in_err-show_progress.ensures.0, subst (λ (n : ℕ). 20 ≤ n) c.len.ensures.len c.in_err-show_progress.ensures.1), input)
-    ])
 
 pub returns-clause-report : goal.returns-clause-report
 returns-clause-report g c =
-    auditing_ends c.args.root.manifest.now c.args.root.path.now c.args.root.workspace.now c.args.root.folder.now c.args.found.now c.loop-i.member-iterator
-    c.loop-i.audit c.finish.new.self
-    (rest_all deref _ _ _ c.in-None.is c.next.ensures.steps) c.in_ok-finish.ensures.rest
-    c.requires c.in_ok-finish.ensures.ordered c.in_ok-finish.ensures.findings c.in_ok-finish.ensures.found c.loop-i.invariant.going
+    let looks = c.find_beside.new.looks in
+    let beside = c.in_ok-find_beside.ensures (disk_of looks) (disk_agrees looks) in
+    reported (base_of c.args.root) c.args.asked.now looks c.in_ok-lists.lists _ c.new-audit.result c.add_members.new.audit c.finish.new.self
+    c.read_lists.new.findings c.find_beside.new.findings c.new-audit.ensures.empty (c.in_ok-lists.ensures (disk_of looks) beside.0).1
+    c.in_ok-members.ensures.walked beside.1 c.in_ok-finish.ensures
+
+pub returns-clause-place : goal.returns-clause-place
+returns-clause-place g c =
+    ap string_bytes (c.in_ok-finish.ensures.root ∙ c.in_ok-members.ensures.walked.takes.root ∙ c.new-audit.ensures.root) ∙ c.in_ok-from_str.ensures.ok

@@ -1,9 +1,5 @@
-use Rattle.std.proofs.Common.{refl}
 use Rattle.std.specs.List.Sorted.{IsStrictlySortedBy}
-use Rattle.toml.specs.Data.{no_members}
-use Rattle.cargo_toml_write.specs.Examples.{path_detail, path_dependency_members}
-use Rattle.cargo_toml_write.specs.WrittenDependencies.{detail_rows}
-use Rattle.cargo_toml_write.proofs.Told.{Told, nothing, one, texts, finished}
+use Rattle.cargo_toml_write.proofs.Writers.{Told, detail_rows, finished, no_members, nothing, one, path_dependency_members, path_detail, refl, texts}
 use Rattle.cargo_toml_write.proofs.examples.a_dependency_is_written.Goals as goal
 
 pub returns : goal.returns

@@ -1,8 +1,4 @@
-use Rattle.std.proofs.Common.{refl}
-use Rattle.toml.specs.Data.{no_members}
-use Rattle.cargo_toml_write.specs.Examples.{untested_binary, untested_binary_members}
-use Rattle.cargo_toml_write.specs.WrittenTables.{product_rows}
-use Rattle.cargo_toml_write.proofs.Told.{Told, nothing, one, texts, finished}
+use Rattle.cargo_toml_write.proofs.Writers.{Told, finished, no_members, nothing, one, product_rows, refl, texts, untested_binary, untested_binary_members}
 use Rattle.cargo_toml_write.proofs.examples.a_product_is_written.Goals as goal
 
 pub returns : goal.returns

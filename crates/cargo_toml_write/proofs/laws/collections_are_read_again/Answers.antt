@@ -1,5 +1,4 @@
-use Rattle.cargo_toml_write.proofs.ReadAgain.{again, list_again, map_any}
-use Rattle.cargo_toml_write.proofs.ReadAgainTypes.{entries_again, groups_again}
+use Rattle.cargo_toml_write.proofs.Writers.{again, entries_again, groups_again, list_again, map_any}
 use Rattle.cargo_toml_write.proofs.laws.collections_are_read_again.Goals as goal
 
 pub returns : goal.returns

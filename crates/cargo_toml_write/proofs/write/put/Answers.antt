@@ -1,7 +1,5 @@
-use Rattle.std.proofs.Common.{ap, ◌∙◌}
-use Rattle.toml.specs.View.{view, members_view}
-use Rattle.cargo_toml_write.specs.Writes.{put_member}
-use Rattle.cargo_toml_write.proofs.Tables.{members_view-insert}
+use Rattle.cargo_toml_write.proofs.ReadAgain.{members_view-insert}
+use Rattle.cargo_toml_write.proofs.Writers.{◌∙◌, ap, members_view, put_member, view}
 use Rattle.cargo_toml_write.proofs.write.put.Goals as goal
 
 pub returns-clause-ok : goal.returns-clause-ok

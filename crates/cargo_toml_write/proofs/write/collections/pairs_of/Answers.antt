@@ -1,6 +1,4 @@
-use Rattle.std.proofs.Common.{◌≡◌, rules, subst, string_bytes}
-use Rattle.std.proofs.lemmas.Result.{err_from_is_err_and}
-use Rattle.cargo_toml_write.proofs.Gathered.{Gathers, gather_start, gather_step, gather_end, gather_err}
+use Rattle.cargo_toml_write.proofs.Writers.{◌≡◌, Gathers, err_from_is_err_and, gather_end, gather_err, gather_start, gather_step, rules, string_bytes, subst}
 use Rattle.cargo_toml_write.proofs.write.collections.pairs_of.Goals as goal
 
 pub loop-key-init : goal.loop-key-init
@@ -20,9 +18,6 @@ returns-in_err-to_value-clause-rows g c =
     let so_far = subst (λ rest. Gathers g.T.ToValue.way g.T.ToValue.meaning c.args.map.now.entries rest c.loop-key.pairs.items) c.in-Some.ensures.steps c.loop-key.invariant in
     let p = err_from_is_err_and c.from_residual-in_err-to_value.result c.from_residual-in_err-to_value.ensures.1 in
     rw (p.1, p.2) (gather_err g.T.ToValue.way g.T.ToValue.meaning _ _ c.loop-key.pairs.items (c.in-Some.key.now, c.in-Some.x.now) _ so_far c.in_err-to_value.ensures)
-
-pub returns-clause-ascend : goal.returns-clause-ascend
-returns-clause-ascend g c = c.loop-key.invariant.ascend
 
 pub returns-clause-rows : goal.returns-clause-rows
 returns-clause-rows g c = gather_end g.T.ToValue.way g.T.ToValue.meaning _ _ c.loop-key.pairs.items c.loop-key.invariant c.in-None.ensures.steps.0

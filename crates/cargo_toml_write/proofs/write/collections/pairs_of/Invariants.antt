@@ -1,4 +1,4 @@
-use Rattle.cargo_toml_write.proofs.Gathered.{Gathers}
+use Rattle.cargo_toml_write.proofs.Rows.{Gathers}
 use Rattle.cargo_toml_write.proofs.write.collections.pairs_of.Given as goal
 
 abbrev pub invariant-loop-key : goal.invariant-loop-key

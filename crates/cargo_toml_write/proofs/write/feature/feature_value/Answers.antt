@@ -1,5 +1,4 @@
-use Rattle.std.proofs.Common.{map, string_bytes}
-use Rattle.cargo_toml_write.proofs.Gathered.{as_list}
+use Rattle.cargo_toml_write.proofs.Writers.{as_list, map, string_bytes}
 use Rattle.cargo_toml_write.proofs.write.feature.feature_value.Goals as goal
 
 pub returns-in-None : goal.returns-in-None

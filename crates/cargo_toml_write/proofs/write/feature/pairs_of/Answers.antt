@@ -1,15 +1,6 @@
-use Rattle.std.proofs.Common.{◌≡◌, ◌∙◌, ap, sym, rules, subst, ℕ, List, map, Option, Err, option_copied, option_map, string_bytes, String, Global}
-use Rattle.std.proofs.lemmas.Result.{err_from_is_err_and}
 use Rattle.std.specs.List.Sorted.{IsStrictlySortedBy}
-use Rattle.std.specs.Map.{keys_of}
 use Rattle.std.specs.String.{string_cmp}
-use Rattle.toml.specs.View.{view}
-use Rattle.cargo_toml_dependencies.specs.Details.{Detail, detail_of}
-use Rattle.cargo_toml_parts.specs.Reads.{map_meaning}
-use Rattle.cargo_toml_write.specs.Lawful.{feature_lawful}
-use Rattle.cargo_toml_write.specs.Writes.{IsWriting}
-use Rattle.cargo_toml_write.specs.WrittenDependencies.{detail_under, feature_way}
-use Rattle.cargo_toml_write.proofs.Gathered.{Gathers, gather_start, gather_step, gather_end, gather_err, by_name, detail_at-map, told-by_name, with_detail, names-by_name}
+use Rattle.cargo_toml_write.proofs.Writers.{◌∙◌, ◌≡◌, Detail, Err, Gathers, Global, IsWriting, List, Option, String, ap, by_name, detail_at-map, detail_of, detail_under, err_from_is_err_and, feature_lawful, feature_way, gather_end, gather_err, gather_start, gather_step, keys_of, map, map_meaning, names-by_name, option_copied, option_map, rules, string_bytes, subst, sym, told-by_name, view, with_detail, ℕ}
 use Rattle.cargo_toml_write.proofs.write.feature.pairs_of.Goals as goal
 
 pub loop-name-init : goal.loop-name-init
@@ -46,9 +37,6 @@ returns-in_err-feature_value-clause-rows c =
     let p = err_from_is_err_and c.from_residual-in_err-feature_value.result c.from_residual-in_err-feature_value.ensures.1 in
     let refused = subst (λ (o : Option Detail). IsWriting feature_way (map string_bytes c.in-Some.enables.now.items, o) (Err c.in_err-feature_value.field-0.0)) said c.in_err-feature_value.ensures in
     rw (p.1, p.2, ← told-by_name details c.args.lists.now.entries) (gather_err feature_way (with_detail details) _ _ c.loop-name.pairs.items (c.in-Some.name.now, (c.in-Some.name.now, c.in-Some.enables.now)) _ so_far refused)
-
-pub returns-clause-ascend : goal.returns-clause-ascend
-returns-clause-ascend c = c.loop-name.invariant.ascend
 
 pub returns-clause-rows : goal.returns-clause-rows
 returns-clause-rows c =

@@ -1,7 +1,7 @@
 use Rattle.cargo_toml_dependencies.specs.Details.{detail_of}
 use Rattle.cargo_toml_parts.specs.Reads.{map_meaning}
 use Rattle.cargo_toml_write.specs.WrittenDependencies.{feature_way}
-use Rattle.cargo_toml_write.proofs.Gathered.{Gathers, by_name, with_detail}
+use Rattle.cargo_toml_write.proofs.Rows.{Gathers, by_name, with_detail}
 use Rattle.cargo_toml_write.proofs.write.feature.pairs_of.Given as goal
 
 abbrev pub invariant-loop-name : goal.invariant-loop-name

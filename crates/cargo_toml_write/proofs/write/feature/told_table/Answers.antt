@@ -1,7 +1,4 @@
-use Rattle.std.proofs.Common.{ℕ, List, map, string_bytes}
-use Rattle.cargo_toml_dependencies.specs.Details.{Detail, detail_of}
-use Rattle.cargo_toml_write.specs.WrittenDependencies.{told_rows}
-use Rattle.cargo_toml_write.proofs.Rows.{◌then◌, done, ends}
+use Rattle.cargo_toml_write.proofs.Writers.{◌then◌, Detail, List, detail_of, done, ends, map, string_bytes, told_rows, ℕ}
 use Rattle.cargo_toml_write.proofs.write.feature.told_table.Goals as goal
 
 pub returns : goal.returns

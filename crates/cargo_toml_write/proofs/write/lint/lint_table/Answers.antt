@@ -1,11 +1,4 @@
-use Rattle.std.specs.Map.{keys_of}
-use Rattle.toml.specs.View.{view}
-use Rattle.cargo_toml_dependencies.proofs.Apart.{ascend-bytes}
-use Rattle.cargo_toml_tables.specs.Lints.{LintMeaning, lint_meaning}
-use Rattle.cargo_toml_write.specs.Ways.{Ascend}
-use Rattle.cargo_toml_write.specs.Writes.{table_way}
-use Rattle.cargo_toml_write.specs.WrittenTables.{lint_rows}
-use Rattle.cargo_toml_write.proofs.Rows.{◌then◌, also_told, done, ends, entries_then}
+use Rattle.cargo_toml_write.proofs.Writers.{◌then◌, Ascend, LintMeaning, also_told, ascend-bytes, done, ends, entries_then, keys_of, lint_meaning, lint_rows, table_way, view}
 use Rattle.cargo_toml_write.proofs.write.lint.lint_table.Goals as goal
 
 pub returns : goal.returns

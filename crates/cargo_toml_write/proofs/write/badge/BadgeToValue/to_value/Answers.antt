@@ -1,9 +1,4 @@
-use Rattle.cargo_toml_tables.specs.Badges.{badge_meaning}
-use Rattle.cargo_toml_write.specs.Lawful.{badge_lawful}
-use Rattle.cargo_toml_write.specs.WrittenTables.{badge_rows}
-use Rattle.cargo_toml_write.proofs.ReadAgain.{alone, reads_again}
-use Rattle.cargo_toml_write.proofs.ReadAgainTypes.{badge_again}
-use Rattle.cargo_toml_write.proofs.Rows.{◌then◌, done, ends}
+use Rattle.cargo_toml_write.proofs.Writers.{◌then◌, alone, badge_again, badge_lawful, badge_meaning, badge_rows, done, ends, reads_again}
 use Rattle.cargo_toml_write.proofs.write.badge.BadgeToValue.to_value.Goals as goal
 
 pub returns : goal.returns

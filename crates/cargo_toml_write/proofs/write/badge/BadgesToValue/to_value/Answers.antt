@@ -1,9 +1,4 @@
-use Rattle.cargo_toml_tables.specs.Badges.{badges_meaning}
-use Rattle.cargo_toml_write.specs.Lawful.{badges_lawful}
-use Rattle.cargo_toml_write.specs.WrittenTables.{badges_rows}
-use Rattle.cargo_toml_write.proofs.ReadAgain.{alone, reads_again}
-use Rattle.cargo_toml_write.proofs.ReadAgainTypes.{badges_again}
-use Rattle.cargo_toml_write.proofs.Rows.{◌then◌, done, ends}
+use Rattle.cargo_toml_write.proofs.Writers.{◌then◌, alone, badges_again, badges_lawful, badges_meaning, badges_rows, done, ends, reads_again}
 use Rattle.cargo_toml_write.proofs.write.badge.BadgesToValue.to_value.Goals as goal
 
 pub returns : goal.returns

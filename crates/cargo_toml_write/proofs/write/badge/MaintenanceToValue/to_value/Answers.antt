@@ -1,8 +1,4 @@
-use Rattle.cargo_toml_write.specs.Lawful.{maintenance_lawful}
-use Rattle.cargo_toml_write.specs.WrittenTables.{maintenance_rows}
-use Rattle.cargo_toml_write.proofs.ReadAgain.{alone, reads_again}
-use Rattle.cargo_toml_write.proofs.ReadAgainTypes.{maintenance_again}
-use Rattle.cargo_toml_write.proofs.Rows.{◌then◌, done, ends}
+use Rattle.cargo_toml_write.proofs.Writers.{◌then◌, alone, done, ends, maintenance_again, maintenance_lawful, maintenance_rows, reads_again}
 use Rattle.cargo_toml_write.proofs.write.badge.MaintenanceToValue.to_value.Goals as goal
 
 pub returns : goal.returns

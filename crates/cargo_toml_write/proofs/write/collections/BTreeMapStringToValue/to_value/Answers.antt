@@ -1,11 +1,4 @@
-use Rattle.std.proofs.Common.{◌∙◌, ap}
-use Rattle.std.proofs.lemmas.Result.{err_from_is_err_and}
-use Rattle.toml.specs.Data.{table}
-use Rattle.toml.specs.View.{members_view}
-use Rattle.toml.proofs.Views.{view-Table}
-use Rattle.cargo_toml_dependencies.proofs.Apart.{ascend-bytes}
-use Rattle.cargo_toml_parts.specs.Reads.{map_meaning}
-use Rattle.cargo_toml_write.proofs.Gathered.{map_err, same_members}
+use Rattle.cargo_toml_write.proofs.Writers.{◌∙◌, ap, ascend-bytes, err_from_is_err_and, map_err, map_meaning, members_view, same_members, table, view-Table}
 use Rattle.cargo_toml_write.proofs.write.collections.BTreeMapStringToValue.to_value.Goals as goal
 
 pub returns-in_err-pairs : goal.returns-in_err-pairs

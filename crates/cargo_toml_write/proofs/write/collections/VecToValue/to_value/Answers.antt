@@ -1,15 +1,5 @@
-use Rattle.std.proofs.Common.{arith}
-use Rattle.std.proofs.lemmas.Result.{err_from_is_err_and}
-use Rattle.toml.proofs.Views.{view-Array}
-use Rattle.cargo_toml_write.proofs.Gathered.{items_start, items_step, items_end, items_err}
+use Rattle.cargo_toml_write.proofs.Writers.{arith, err_from_is_err_and, items_end, items_err, view-Array}
 use Rattle.cargo_toml_write.proofs.write.collections.VecToValue.to_value.Goals as goal
-
-pub loop-x-init : goal.loop-x-init
-loop-x-init g c = rw c.in_ok-values.ensures.items (items_start g.T.ToValue.way g.T.ToValue.meaning _)
-
-pub loop-x-preserved : goal.loop-x-preserved
-loop-x-preserved g c = items_step g.T.ToValue.way g.T.ToValue.meaning _ _ c.loop-x.values.items _ c.x-item.result c.in_ok-to_value.field-0
-    c.loop-x.invariant (omega arith) c.x-item.is c.in_ok-to_value.ensures c.in_ok-push.ensures.items
 
 pub returns-in_err-to_value : goal.returns-in_err-to_value
 returns-in_err-to_value g c =

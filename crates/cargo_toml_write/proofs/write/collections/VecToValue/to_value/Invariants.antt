@@ -1,4 +1,4 @@
-use Rattle.cargo_toml_write.proofs.Gathered.{ItemsWritten}
+use Rattle.cargo_toml_write.proofs.Rows.{ItemsWritten}
 use Rattle.cargo_toml_write.proofs.write.collections.VecToValue.to_value.Given as goal
 
 abbrev pub invariant-loop-x : goal.invariant-loop-x

@@ -1,14 +1,4 @@
-use Rattle.std.specs.Map.{keys_of}
-use Rattle.toml.specs.View.{view}
-use Rattle.cargo_toml_dependencies.proofs.Apart.{ascend-bytes}
-use Rattle.cargo_toml_dependencies.specs.Dependencies.{DetailMeaning, detail_meaning}
-use Rattle.cargo_toml_write.specs.Lawful.{detail_lawful}
-use Rattle.cargo_toml_write.specs.Ways.{Ascend}
-use Rattle.cargo_toml_write.specs.Writes.{table_way}
-use Rattle.cargo_toml_write.specs.WrittenDependencies.{detail_rows}
-use Rattle.cargo_toml_write.proofs.ReadAgain.{reads_again, alone}
-use Rattle.cargo_toml_write.proofs.ReadAgainTypes.{detail_again}
-use Rattle.cargo_toml_write.proofs.Rows.{◌then◌, also_told, done, ends, entries_then}
+use Rattle.cargo_toml_write.proofs.Writers.{◌then◌, Ascend, DetailMeaning, alone, also_told, ascend-bytes, detail_again, detail_lawful, detail_meaning, detail_rows, done, ends, entries_then, keys_of, reads_again, table_way, view}
 use Rattle.cargo_toml_write.proofs.write.dependency.DependencyDetailToValue.to_value.Goals as goal
 
 pub returns : goal.returns

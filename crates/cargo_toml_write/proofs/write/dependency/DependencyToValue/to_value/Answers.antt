@@ -1,7 +1,4 @@
-use Rattle.cargo_toml_dependencies.specs.Dependencies.{dependency_of, detail_meaning, detailed, inherited, simple}
-use Rattle.cargo_toml_write.specs.Lawful.{detail_lawful, inherited_lawful, requirement_lawful}
-use Rattle.cargo_toml_write.proofs.ReadAgain.{tree_again}
-use Rattle.cargo_toml_write.proofs.ReadAgainTypes.{dependency_again}
+use Rattle.cargo_toml_write.proofs.Writers.{dependency_again, dependency_of, detail_lawful, detail_meaning, detailed, inherited, inherited_lawful, requirement_lawful, simple, tree_again}
 use Rattle.cargo_toml_write.proofs.write.dependency.DependencyToValue.to_value.Goals as goal
 
 pub returns-in-Simple-clause-read_again : goal.returns-in-Simple-clause-read_again

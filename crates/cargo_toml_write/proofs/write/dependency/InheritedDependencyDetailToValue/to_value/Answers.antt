@@ -1,9 +1,4 @@
-use Rattle.cargo_toml_dependencies.specs.Dependencies.{inherited_meaning}
-use Rattle.cargo_toml_write.specs.Lawful.{inherited_lawful}
-use Rattle.cargo_toml_write.specs.WrittenDependencies.{inherited_rows}
-use Rattle.cargo_toml_write.proofs.ReadAgain.{alone, reads_again}
-use Rattle.cargo_toml_write.proofs.ReadAgainTypes.{inherited_again}
-use Rattle.cargo_toml_write.proofs.Rows.{◌then◌, done, ends}
+use Rattle.cargo_toml_write.proofs.Writers.{◌then◌, alone, done, ends, inherited_again, inherited_lawful, inherited_meaning, inherited_rows, reads_again}
 use Rattle.cargo_toml_write.proofs.write.dependency.InheritedDependencyDetailToValue.to_value.Goals as goal
 
 pub returns : goal.returns

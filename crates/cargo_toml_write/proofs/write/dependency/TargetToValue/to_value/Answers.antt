@@ -1,9 +1,5 @@
 use Rattle.cargo_toml_dependencies.specs.Targets.{target_meaning}
-use Rattle.cargo_toml_write.specs.Lawful.{target_lawful}
-use Rattle.cargo_toml_write.specs.WrittenDependencies.{target_rows}
-use Rattle.cargo_toml_write.proofs.ReadAgain.{alone, reads_again}
-use Rattle.cargo_toml_write.proofs.ReadAgainTypes.{target_again}
-use Rattle.cargo_toml_write.proofs.Rows.{◌then◌, done, ends}
+use Rattle.cargo_toml_write.proofs.Writers.{◌then◌, alone, done, ends, reads_again, target_again, target_lawful, target_rows}
 use Rattle.cargo_toml_write.proofs.write.dependency.TargetToValue.to_value.Goals as goal
 
 pub returns : goal.returns

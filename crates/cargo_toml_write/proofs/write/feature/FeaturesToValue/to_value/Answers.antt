@@ -1,15 +1,4 @@
-use Rattle.std.proofs.Common.{◌∙◌, ap, map, string_bytes, subst}
-use Rattle.std.proofs.lemmas.Result.{err_from_is_err_and}
-use Rattle.toml.specs.Data.{table}
-use Rattle.toml.specs.View.{members_view}
-use Rattle.toml.proofs.Views.{view-Table}
-use Rattle.cargo_toml_dependencies.proofs.Apart.{ascend-bytes}
-use Rattle.cargo_toml_dependencies.specs.Details.{detail_of}
-use Rattle.cargo_toml_dependencies.specs.Features.{features_meaning}
-use Rattle.cargo_toml_write.specs.Ways.{Ascend}
-use Rattle.cargo_toml_write.specs.WrittenDependencies.{feature_way, told_features}
-use Rattle.cargo_toml_write.proofs.Gathered.{map_err, features_err, same_members}
-use Rattle.cargo_toml_write.proofs.ReadAgainTypes.{same_names}
+use Rattle.cargo_toml_write.proofs.Writers.{◌∙◌, Ascend, ap, ascend-bytes, detail_of, err_from_is_err_and, feature_way, features_err, features_meaning, map, map_err, members_view, same_members, same_names, string_bytes, subst, table, told_features, view-Table}
 use Rattle.cargo_toml_write.proofs.write.feature.FeaturesToValue.to_value.Goals as goal
 
 pub returns-in_err-pairs : goal.returns-in_err-pairs

@@ -1,13 +1,6 @@
-use Rattle.std.proofs.Common.{◌≡◌, codes, refl}
-use Rattle.cargo_toml_dependencies.specs.Features.{FeaturesMeaning, features_meaning}
 use Rattle.cargo_toml_manifest.specs.Manifests.{manifest_meaning, manifest_reads}
-use Rattle.cargo_toml_write.specs.Lawful.{manifest_lawful}
-use Rattle.cargo_toml_write.specs.Reread.{reread}
-use Rattle.cargo_toml_write.specs.WrittenDependencies.{features_in, features_way}
 use Rattle.cargo_toml_write.specs.WrittenManifests.{all_features, manifest_rows}
-use Rattle.cargo_toml_write.proofs.ReadAgain.{alone, tree_again}
-use Rattle.cargo_toml_write.proofs.ReadAgainTypes.{manifest_features, manifest_again}
-use Rattle.cargo_toml_write.proofs.Rows.{◌then◌, done, ends, given_as}
+use Rattle.cargo_toml_write.proofs.Writers.{◌then◌, ◌≡◌, FeaturesMeaning, alone, codes, done, ends, features_in, features_meaning, features_way, given_as, manifest_again, manifest_features, manifest_lawful, refl, reread, tree_again}
 use Rattle.cargo_toml_write.proofs.write.manifest.ManifestToValue.to_value.Goals as goal
 
 pub returns : goal.returns

@@ -1,9 +1,5 @@
 use Rattle.cargo_toml_package.specs.Templates.{template_meaning}
-use Rattle.cargo_toml_write.specs.Lawful.{template_lawful}
-use Rattle.cargo_toml_write.specs.WrittenPackages.{template_rows}
-use Rattle.cargo_toml_write.proofs.ReadAgain.{alone, reads_again}
-use Rattle.cargo_toml_write.proofs.ReadAgainTypes.{template_again}
-use Rattle.cargo_toml_write.proofs.Rows.{◌then◌, done, ends}
+use Rattle.cargo_toml_write.proofs.Writers.{◌then◌, alone, done, ends, reads_again, template_again, template_lawful, template_rows}
 use Rattle.cargo_toml_write.proofs.write.package.PackageTemplateToValue.to_value.Goals as goal
 
 pub returns : goal.returns

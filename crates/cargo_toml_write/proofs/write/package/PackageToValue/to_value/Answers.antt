@@ -1,9 +1,5 @@
 use Rattle.cargo_toml_package.specs.Packages.{package_meaning, package_reads}
-use Rattle.cargo_toml_write.specs.Lawful.{package_lawful}
-use Rattle.cargo_toml_write.specs.WrittenPackages.{package_rows}
-use Rattle.cargo_toml_write.proofs.ReadAgain.{alone, tree_again}
-use Rattle.cargo_toml_write.proofs.ReadAgainTypes.{package_again}
-use Rattle.cargo_toml_write.proofs.Rows.{◌then◌, done, ends}
+use Rattle.cargo_toml_write.proofs.Writers.{◌then◌, alone, done, ends, package_again, package_lawful, package_rows, tree_again}
 use Rattle.cargo_toml_write.proofs.write.package.PackageToValue.to_value.Goals as goal
 
 pub returns : goal.returns

@@ -1,13 +1,6 @@
-use Rattle.std.proofs.Common.{ap, ◌∙◌}
-use Rattle.toml.specs.Data.{string}
-use Rattle.toml.specs.View.{view}
 use Rattle.toml.specs.declared.value.Value.{String}
-use Rattle.toml.proofs.Views.{view-String}
 use Rattle.cargo_toml_parts.specs.Versions.{requirement_meaning, requirement_of}
-use Rattle.cargo_toml_write.specs.Lawful.{requirement_lawful}
-use Rattle.cargo_toml_write.specs.Ways.{requirement_way}
-use Rattle.cargo_toml_write.proofs.ReadAgain.{floatless_again}
-use Rattle.cargo_toml_write.proofs.ReadAgainTypes.{requirement_again}
+use Rattle.cargo_toml_write.proofs.Writers.{◌∙◌, ap, floatless_again, requirement_again, requirement_lawful, requirement_way, string, view, view-String}
 use Rattle.cargo_toml_write.proofs.write.plain.VersionReqToValue.to_value.Goals as goal
 
 pub returns-clause-read_again : goal.returns-clause-read_again

@@ -1,9 +1,5 @@
 use Rattle.cargo_toml_tables.specs.Products.{product_meaning}
-use Rattle.cargo_toml_write.specs.Lawful.{product_lawful}
-use Rattle.cargo_toml_write.specs.WrittenTables.{product_rows}
-use Rattle.cargo_toml_write.proofs.ReadAgain.{alone, reads_again}
-use Rattle.cargo_toml_write.proofs.ReadAgainTypes.{product_again}
-use Rattle.cargo_toml_write.proofs.Rows.{◌then◌, ◌then_same◌, done, ends}
+use Rattle.cargo_toml_write.proofs.Writers.{◌then_same◌, ◌then◌, alone, done, ends, product_again, product_lawful, product_rows, reads_again}
 use Rattle.cargo_toml_write.proofs.write.product.ProductToValue.to_value.Goals as goal
 
 pub returns : goal.returns

@@ -1,9 +1,4 @@
-use Rattle.cargo_toml_tables.specs.Profiles.{profile_meaning}
-use Rattle.cargo_toml_write.specs.Lawful.{profile_lawful}
-use Rattle.cargo_toml_write.specs.WrittenTables.{profile_rows}
-use Rattle.cargo_toml_write.proofs.ReadAgain.{alone, reads_again}
-use Rattle.cargo_toml_write.proofs.ReadAgainTypes.{profile_again}
-use Rattle.cargo_toml_write.proofs.Rows.{◌then◌, ◌then_same◌, done, ends}
+use Rattle.cargo_toml_write.proofs.Writers.{◌then_same◌, ◌then◌, alone, done, ends, profile_again, profile_lawful, profile_meaning, profile_rows, reads_again}
 use Rattle.cargo_toml_write.proofs.write.profile.ProfileToValue.to_value.Goals as goal
 
 pub returns : goal.returns

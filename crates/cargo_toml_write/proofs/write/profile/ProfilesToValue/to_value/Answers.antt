@@ -1,13 +1,4 @@
-use Rattle.std.specs.Map.{keys_of}
-use Rattle.cargo_toml_dependencies.proofs.Apart.{ascend-bytes}
-use Rattle.cargo_toml_tables.specs.Profiles.{ProfilesMeaning, profile_meaning, profiles_meaning}
-use Rattle.cargo_toml_write.specs.Lawful.{profiles_lawful}
-use Rattle.cargo_toml_write.specs.Ways.{Ascend}
-use Rattle.cargo_toml_write.specs.Writes.{table_way}
-use Rattle.cargo_toml_write.specs.WrittenTables.{profiles_rows}
-use Rattle.cargo_toml_write.proofs.ReadAgain.{reads_again, alone}
-use Rattle.cargo_toml_write.proofs.ReadAgainTypes.{profiles_again}
-use Rattle.cargo_toml_write.proofs.Rows.{◌then◌, also_told, done, ends, entries_then}
+use Rattle.cargo_toml_write.proofs.Writers.{◌then◌, Ascend, ProfilesMeaning, alone, also_told, ascend-bytes, done, ends, entries_then, keys_of, profile_meaning, profiles_again, profiles_lawful, profiles_meaning, profiles_rows, reads_again, table_way}
 use Rattle.cargo_toml_write.proofs.write.profile.ProfilesToValue.to_value.Goals as goal
 
 pub returns : goal.returns

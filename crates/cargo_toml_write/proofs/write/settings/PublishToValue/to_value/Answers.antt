@@ -1,8 +1,5 @@
-use Rattle.std.proofs.Common.{refl}
 use Rattle.cargo_toml_tables.specs.Settings.{among, publish_of}
-use Rattle.cargo_toml_write.specs.Lawful.{texts_lawful}
-use Rattle.cargo_toml_write.proofs.ReadAgain.{tree_again, alone}
-use Rattle.cargo_toml_write.proofs.ReadAgainTypes.{publish_again}
+use Rattle.cargo_toml_write.proofs.Writers.{alone, publish_again, refl, texts_lawful, tree_again}
 use Rattle.cargo_toml_write.proofs.write.settings.PublishToValue.to_value.Goals as goal
 
 pub returns-in-Registry-clause-written : goal.returns-in-Registry-clause-written

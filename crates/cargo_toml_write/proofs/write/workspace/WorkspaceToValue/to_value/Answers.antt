@@ -1,10 +1,5 @@
 use Rattle.cargo_toml_package.specs.Workspaces.{workspace_meaning, workspace_reads}
-use Rattle.cargo_toml_write.specs.Lawful.{workspace_lawful}
-use Rattle.cargo_toml_write.specs.Reread.{reread_workspace}
-use Rattle.cargo_toml_write.specs.WrittenPackages.{workspace_rows}
-use Rattle.cargo_toml_write.proofs.ReadAgain.{alone, tree_again}
-use Rattle.cargo_toml_write.proofs.ReadAgainTypes.{workspace_again}
-use Rattle.cargo_toml_write.proofs.Rows.{◌then◌, done, ends}
+use Rattle.cargo_toml_write.proofs.Writers.{◌then◌, alone, done, ends, reread_workspace, tree_again, workspace_again, workspace_lawful, workspace_rows}
 use Rattle.cargo_toml_write.proofs.write.workspace.WorkspaceToValue.to_value.Goals as goal
 
 pub returns : goal.returns

@@ -1,5 +1,5 @@
 use Rattle.toml.specs.View.{table_view}
-use Rattle.cargo_toml_write.proofs.Gathered.{RestWrites}
+use Rattle.cargo_toml_write.proofs.Rows.{RestWrites}
 use Rattle.cargo_toml_write.proofs.write.writing.Writing.entries.Given as goal
 
 abbrev pub invariant-loop-key : goal.invariant-loop-key

@@ -1,6 +1,4 @@
-use Rattle.std.proofs.Common.{◌≡◌, rules, is_some, false}
-use Rattle.toml.specs.View.{view}
-use Rattle.cargo_toml_write.proofs.Rows.{is_put}
+use Rattle.cargo_toml_write.proofs.Writers.{◌≡◌, false, is_put, is_some, rules, view}
 use Rattle.cargo_toml_write.proofs.write.writing.Writing.required.Goals as goal
 
 pub returns-in_default : goal.returns-in_default

@@ -1,0 +1,33 @@
+-- Texts that stand in a list, with one more.
+use Rattle.std.proofs.Common.{◌≡◌, ◌+◌, ◌++◌, ◌||◌, ◌∙◌, ◌<◌, ℕ, Bool, true, false, List, [], ◌∷◌, ap, cond, drop, get_or, if◌then◌else◌, length, map, refl, sym, take}
+use Rattle.std.proofs.Math.Bool.{or-false}
+use Rattle.std.proofs.lemmas.List.{map-append, take_more}
+use Rattle.std.proofs.lemmas.List.Folds.{list_any-append}
+use Rattle.std.specs.Prelude.{bytes_eq}
+use Rattle.cargo_toml.specs.Action.{Text}
+use Rattle.cargo_toml_graph.proofs.Texts.{bytes_eq_sym}
+use Rattle.cargo_toml_tools.proofs.Grown.{left_next}
+use Rattle.cargo_toml_audit.specs.MemberFolders.{repeats_of}
+use Rattle.cargo_toml_audit.specs.Places.{is_in}
+
+pub cond_or : (b c : Bool) → cond b true c ≡ (c || b)
+cond_or true true = refl
+cond_or true false = refl
+cond_or false true = refl
+cond_or false false = refl
+
+pub one_more_in : (ts : List Text) (x t : Text) → is_in (ts ++ x ∷ []) t ≡ (is_in ts t || bytes_eq x t)
+one_more_in ts x t = list_any-append (bytes_eq t) ts (x ∷ []) ∙ ap (λ b. is_in ts t || b) (or-false (bytes_eq t x) ∙ bytes_eq_sym t x)
+
+module _ {X : Type 0} (f : X → Text) (xs : List X) (i : ℕ) (x : X) (within : i < length xs) (is : x ≡ get_or xs i x) where
+  next_taken : map f (take (i + 1) xs) ≡ map f (take i xs) ++ f x ∷ []
+  next_taken = ap (map f) (take_more xs i x within) ∙ map-append f (take i xs) (get_or xs i x ∷ []) ∙ ap (λ y. map f (take i xs) ++ f y ∷ []) (sym is)
+
+  pub in_next : (t : Text) → is_in (map f (take (i + 1) xs)) t ≡ (is_in (map f (take i xs)) t || bytes_eq (f x) t)
+  in_next t = ap (λ ts. is_in ts t) next_taken ∙ one_more_in (map f (take i xs)) (f x) t
+
+  pub repeats_next : repeats_of (map f (take i xs)) (map f (drop i xs))
+      ≡ (if is_in (map f (take i xs)) (f x) then f x ∷ [] else []) ++ repeats_of (map f (take (i + 1) xs)) (map f (drop (i + 1) xs))
+  repeats_next =
+      ap (repeats_of (map f (take i xs))) (left_next f xs i x within is)
+      ∙ ap (λ ts. (if is_in (map f (take i xs)) (f x) then f x ∷ [] else []) ++ repeats_of ts (map f (drop (i + 1) xs))) (sym next_taken)

@@ -1,0 +1,96 @@
+-- The places that are looked at, while some are waiting.
+use Rattle.std.proofs.Common.{ℕ, ◌+◌, ◌-◌, None, Option, Some, String, Global, refl, take, ◌≡◌, ◌++◌, ◌||◌, ◌&&◌, ◌∙◌, Bool, true, false, List, [], ◌∷◌, ap, inl, inr, append-nil, cond, map, string_bytes, subst, sym}
+use Rattle.std.proofs.Math.Bool.{or-false}
+use Rattle.std.proofs.lemmas.List.{map-append}
+use Rattle.std.proofs.lemmas.List.Elements.{filter-append}
+use Rattle.std.specs.BTreeSet.{contains_text}
+use Rattle.std.specs.Prelude.{MatchOption, Vec, bytes_eq, filter, option_to_list}
+use Rattle.cargo_toml.specs.Action.{Text}
+use Rattle.cargo_toml_audit.specs.AuditedFiles.{Base, Reading, Reads, Takes, ended, gain_of_all, is_excluded, is_member, looked, member_places, passed, places_read}
+use Rattle.cargo_toml_audit.specs.Places.{is_in}
+use Rattle.cargo_toml_audit.specs.Walks.{Visits, Walks}
+use Rattle.cargo_toml_audit.specs.declared.audit.Audit.{Audit}
+use Rattle.cargo_toml_audit.specs.declared.auditing.walk.Walk.{Walk}
+use Rattle.cargo_toml_audit.proofs.Sets.{one_more_in}
+use Rattle.cargo_toml_audit.proofs.Taking.{one_more_gain, takes_both, takes_nothing, takes_these}
+
+-- one place more
+one_more_place : (rs : List Reading) (r : Reading) (t : Text) → is_in (places_read (rs ++ r ∷ [])) t ≡ (is_in (places_read rs) t || bytes_eq r.place t)
+one_more_place rs r t = ap (λ ts. is_in ts t) (map-append (λ (q : Reading). q.place) rs (r ∷ [])) ∙ one_more_in (places_read rs) r.place t
+
+one_more_member : (rs : List Reading) (r : Reading) (t : Text) → is_in (member_places (rs ++ r ∷ [])) t ≡ (is_in (member_places rs) t || (is_member r.content && bytes_eq r.place t))
+one_more_member rs r t = ap (λ qs. is_in (places_read qs) t) (filter-append (λ (q : Reading). is_member q.content) rs (r ∷ [])) ∙ go (is_member r.content)
+  where
+    go : (b : Bool) → is_in (places_read (filter (λ (q : Reading). is_member q.content) rs ++ cond b (r ∷ []) [])) t ≡ (is_in (member_places rs) t || (b && bytes_eq r.place t))
+    go true = one_more_place (filter (λ (q : Reading). is_member q.content) rs) r t
+    go false = ap (λ qs. is_in (places_read qs) t) (append-nil _) ∙ sym (or-false _)
+
+module _ (base : Base) (first : List Text) where
+  -- so far: what was read and taken in, and what is read of the places that wait
+  pub record Walking (walk : Walk) (old now : Audit) : Type 0 where
+    pub readings : List Reading
+    pub takes : Takes (gain_of_all base readings) old now
+    pub seen : (t : Text) → contains_text walk.seen t ≡ is_in (places_read readings) t
+    pub members : (t : Text) → contains_text walk.members t ≡ is_in (member_places readings) t
+    pub goes : (all : List Reading) → Reads base first (map string_bytes walk.waiting.items) readings all → Reads base first first [] all
+
+  pub walking_begun : (walk : Walk) (a : Audit) → map string_bytes walk.waiting.items ≡ first → ((t : Text) → contains_text walk.seen t ≡ false)
+      → ((t : Text) → contains_text walk.members t ≡ false) → Walking walk a a
+  walking_begun walk a waiting seen members = record {
+    readings = [];
+    takes = takes_nothing a;
+    seen = seen;
+    members = members;
+    goes = λ all r. subst (λ (ws : List Text). Reads base first ws [] all) waiting r;
+  }
+
+  -- the next place was visited
+  pub walking_next : (place : Text) (walk mid after : Walk) (old now new : Audit) → map string_bytes walk.waiting.items ≡ map string_bytes mid.waiting.items ++ place ∷ []
+      → mid.seen ≡ walk.seen → mid.members ≡ walk.members → Visits base (is_in first place) place mid after now new → Walking walk old now → Walking after old new
+  walking_next place walk mid after old now new popped seen members (inl past) w =
+      subst (λ (x : Walk). Walking x old new) (sym past.1.0) (subst (λ (x : Audit). Walking mid old x) (sym past.1.1) (record {
+        readings = w.readings;
+        takes = w.takes;
+        seen = λ t. ap (λ s. contains_text s t) seen ∙ w.seen t;
+        members = λ t. ap (λ s. contains_text s t) members ∙ w.members t;
+        goes = λ all r. w.goes all (subst (λ (ws : List Text). Reads base first ws w.readings all) (sym popped)
+            (passed place (map string_bytes mid.waiting.items) w.readings all
+            (ap (λ b. b || is_excluded base place) (sym (ap (λ s. contains_text s place) seen ∙ w.seen place)) ∙ past.0) r));
+      }))
+  walking_next place walk mid after old now new popped seen members (inr at) w =
+      let r : Reading = record { place = place; content = at.content } in
+      let had : (t : Text) → contains_text mid.seen t ≡ is_in (places_read w.readings) t = λ t. ap (λ s. contains_text s t) seen ∙ w.seen t in
+      record {
+        readings = w.readings ++ r ∷ [];
+        takes = takes_these _ _ old new (one_more_gain base w.readings r) (takes_both _ _ old now new w.takes at.takes);
+        seen = λ t. at.seen t ∙ ap (λ b. b || bytes_eq place t) (had t) ∙ sym (one_more_place w.readings r t);
+        members = λ t. at.members t ∙ ap (λ b. b || (is_member at.content && bytes_eq place t)) (ap (λ s. contains_text s t) members ∙ w.members t)
+            ∙ sym (one_more_member w.readings r t);
+        goes = λ all rest. w.goes all (subst (λ (ws : List Text). Reads base first ws w.readings all) (sym popped)
+            (looked place at.content (map string_bytes mid.waiting.items) w.readings all (ap (λ b. b || is_excluded base place) (sym (had place)) ∙ at.fresh) at.is
+            (subst (λ (ws : List Text). Reads base first ws (w.readings ++ r ∷ []) all) at.waiting rest)));
+      }
+
+  -- nothing is waiting
+  pub walking_ends : (walk : Walk) (old now : Audit) → map string_bytes walk.waiting.items ≡ [] → Walking walk old now → Walks base first (contains_text walk.members) old now
+  walking_ends walk old now none w = record {
+    readings = w.readings;
+    read = w.goes w.readings (subst (λ (ws : List Text). Reads base first ws w.readings w.readings) (sym none) (ended w.readings));
+    takes = w.takes;
+    are = w.members;
+  }
+
+  -- the same of what was popped and asked
+  pub walking_on : (x : String Global) (listed : Bool) (asked : Text) (left : Vec (String Global) Global) (walk after : Walk) (old now new : Audit)
+      → walk.waiting.items ≡ left.items ++ x ∷ [] → listed ≡ is_in first (string_bytes x) → asked ≡ string_bytes x
+      → Visits base listed asked (record walk { waiting = left }) after now new → Walking walk old now → Walking after old new
+  walking_on x listed asked left walk after old now new popped flag same visits w =
+      walking_next (string_bytes x) walk (record walk { waiting = left }) after old now new (ap (map string_bytes) popped ∙ map-append string_bytes left.items (x ∷ [])) refl refl
+      (subst (λ (b : Bool). Visits base b (string_bytes x) (record walk { waiting = left }) after now new) flag
+      (subst (λ (t : Text). Visits base listed t (record walk { waiting = left }) after now new) same visits)) w
+
+-- nothing was there to be popped
+pub none_left : (items left : List (String Global)) (o : Option (String Global)) (n m : ℕ) → items ≡ left ++ option_to_list o → left ≡ take (n - 1) items
+    → MatchOption o ((n ≡ 0) × (m ≡ 0)) (λ _. m + 1 ≡ n) → ((x : String Global) → o ≡ Some x → ⊥) → map string_bytes items ≡ []
+none_left items left None n m whole rest h never = ap (map string_bytes) (whole ∙ ap (λ xs. xs ++ []) (rest ∙ ap (λ k. take (k - 1) items) h.0))
+none_left items left (Some x) n m whole rest h never = absurd (never x refl)

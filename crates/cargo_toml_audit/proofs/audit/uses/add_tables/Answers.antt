@@ -1,7 +1,0 @@
-use Rattle.std.proofs.lemmas.Result.{on_ok_weaker}
-use Rattle.cargo_toml_audit.proofs.Exactly.{gains_three}
-use Rattle.cargo_toml_audit.proofs.audit.uses.add_tables.Goals as goal
-
-pub returns : goal.returns
-returns c = on_ok_weaker c.add_table-3.result
-    (λ last. gains_three _ _ _ _ _ _ _ c.in_ok-add_table.ensures c.in_ok-add_table-2.ensures last) c.add_table-3.ensures

@@ -1,0 +1,10 @@
+use Rattle.std.proofs.Common.{◌≡◌, ◌++◌, drop, false, map}
+use Rattle.std.specs.BTreeSet.{contains_text}
+use Rattle.cargo_toml_audit.specs.Entries.{asking_of}
+use Rattle.cargo_toml_audit.specs.Oddities.{further_from, oddity_of}
+use Rattle.cargo_toml_audit.proofs.audit.uses.further.Given as goal
+
+abbrev pub invariant-loop-one : goal.invariant-loop-one
+invariant-loop-one l =
+    map oddity_of l.all.items ++ further_from (contains_text l.asked.names) (contains_text l.asked.keys) (map asking_of (drop l.one-index l.uses))
+    ≡ further_from (λ t. false) (λ t. false) (map asking_of l.uses)

@@ -1,0 +1,9 @@
+use Rattle.std.proofs.Common.{◌≡◌, drop, map, string_bytes}
+use Rattle.std.specs.List.{list_any}
+use Rattle.cargo_toml_audit.specs.AuditSteps.{known_of}
+use Rattle.cargo_toml_audit.specs.AuditedFiles.{is_astray}
+use Rattle.cargo_toml_audit.proofs.auditing.any_astray.Given as goal
+
+abbrev pub invariant-loop-place : goal.invariant-loop-place
+invariant-loop-place l =
+    list_any (is_astray (known_of l.known)) (map string_bytes (drop l.place-index l.places)) ≡ list_any (is_astray (known_of l.known)) (map string_bytes l.places)

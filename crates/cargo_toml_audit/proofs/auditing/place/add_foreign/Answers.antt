@@ -1,0 +1,10 @@
+use Rattle.std.proofs.Common.{None, Some, ◌∙◌, ap, append-nil, sym}
+use Rattle.cargo_toml_audit.specs.Oddities.{oddities_of}
+use Rattle.cargo_toml_audit.proofs.auditing.place.add_foreign.Goals.{in-Err+in_ok-refuse, in_default}
+use Rattle.cargo_toml_audit.proofs.auditing.place.add_foreign.Goals as goal
+
+pub returns-clause-found : goal.returns-clause-found
+returns-clause-found g c = elim c.match-complete_from_path.branch [
+  | in-Err+in_ok-refuse w ↦ (Some w.in-Err.fault, ap oddities_of w.findings-is ∙ w.in_ok-refuse.ensures.found)
+  | in_default w ↦ (None, ap oddities_of w.findings-is ∙ sym (append-nil _))
+]

@@ -1,0 +1,47 @@
+use Rattle.std.proofs.Common.{◌++◌, ◌∙◌, Option, String, Global, List, ap, inl, inr, map, refl, string_bytes}
+use Rattle.std.proofs.lemmas.Result.{err_from_is_err_and}
+use Rattle.std.specs.BTreeMap.{is_at}
+use Rattle.std.specs.BTreeSet.{contains_text}
+use Rattle.std.specs.Cmp.Lexicographic.{slice_cmp}
+use Rattle.std.specs.List.{list_any}
+use Rattle.std.specs.Ordering.{nat_cmp}
+use Rattle.std.specs.Prelude.{option_to_list}
+use Rattle.cargo_toml_discovery.proofs.Faults.{from_input}
+use Rattle.cargo_toml_audit.specs.AuditedFiles.{base_of}
+use Rattle.cargo_toml_audit.specs.Places.{is_in}
+use Rattle.cargo_toml_audit.proofs.Walking.{none_left, walking_begun, walking_ends, walking_on}
+use Rattle.cargo_toml_audit.proofs.auditing.walk.add_members.Goals as goal
+
+pub loop-done-init : goal.loop-done-init
+loop-done-init g c =
+    walking_begun (base_of c.args.root) (map string_bytes c.args.first.items) _ _ refl
+    (λ t. ap (list_any (is_at (λ k. slice_cmp nat_cmp t (string_bytes k)))) c.new-seen.ensures.empty)
+    (λ t. ap (list_any (is_at (λ k. slice_cmp nat_cmp t (string_bytes k)))) c.new-members.ensures.empty)
+
+pub loop-done-preserved : goal.loop-done-preserved
+loop-done-preserved g c =
+    let place = string_bytes c.in-Some.place in
+    walking_on (base_of c.args.root) (map string_bytes c.args.first.items) c.in-Some.place c.contains-is_listed.result c.as_str-in-loop-done.result.now c.pop-next.new.self
+    c.loop-done.walk c.visit.new.walk c.args.audit.now c.loop-done.audit c.visit.new.audit
+    (c.pop-next.ensures.items ∙ ap (λ (o : Option (String Global)). c.pop-next.new.self.items ++ option_to_list o) c.in-Some.is)
+    (c.contains-is_listed.ensures ∙ ap (contains_text c.in_ok-listed.listed) c.as_str.ensures.value ∙ c.in_ok-listed.ensures place
+    ∙ ap (λ (xs : List (String Global)). is_in (map string_bytes xs) place) c.as_slice.ensures.value)
+    c.as_str-in-loop-done.ensures.value c.in_ok-visit.ensures.visited c.loop-done.invariant
+
+pub returns-in_err-show_progress-clause-refused : goal.returns-in_err-show_progress-clause-refused
+returns-in_err-show_progress-clause-refused g c =
+    let left = c.from_residual-in_err-show_progress in
+    let p = err_from_is_err_and left.result left.ensures.1 in
+    rw p.1 (elim (from_input _ p.0 p.2) [ inl memory ↦ inl (inl memory) | inr input ↦ inl (inr (inl input)) ])
+
+pub returns-in_default-clause-walked : goal.returns-in_default-clause-walked
+returns-in_default-clause-walked g c =
+    walking_ends (base_of c.args.root) (map string_bytes c.args.first.items) c.loop-done.walk c.args.audit.now c.loop-done.audit
+    (none_left c.loop-done.walk.waiting.items c.pop-next.new.self.items c.pop-next.result _ _ c.pop-next.ensures.items c.pop-next.ensures.rest c.pop-next.ensures.cases c.in_default.not-Some)
+    c.loop-done.invariant
+
+pub returns-in_err-visit-clause-refused : goal.returns-in_err-visit-clause-refused
+returns-in_err-visit-clause-refused g c =
+    let left = c.from_residual-in_err-visit in
+    let p = err_from_is_err_and left.result left.ensures.1 in
+    rw (p.1, p.2) (inl c.in_err-visit.ensures.refused)

@@ -1,0 +1,9 @@
+use Rattle.std.proofs.Common.{◌≡◌, [], drop, map}
+use Rattle.std.specs.Prelude.{fold}
+use Rattle.cargo_toml_audit.specs.Places.{one_further, pieces}
+use Rattle.cargo_toml_audit.proofs.members.places.normalized.Given as goal
+
+abbrev pub invariant-loop-name : goal.invariant-loop-name
+invariant-loop-name l =
+    fold one_further (map (λ t. t.now) l.names.items) (map (λ t. t.now) (drop l.name-index l.name-items))
+    ≡ fold one_further [] (pieces l.path)

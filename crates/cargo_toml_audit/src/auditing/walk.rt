@@ -1,0 +1,102 @@
+//! The places of a workspace, one after the other: those that its lists lead to, its own, and what
+//! members depend on by paths.
+ghost use Rattle.std.specs.Prelude.{IfErr, IfOk, OnOk, map, string_bytes};
+ghost use Rattle.std.specs.BTreeSet.{contains_text};
+ghost use Rattle.cargo_toml_audit.specs.AuditedFiles.{IsAuditFault, base_of};
+ghost use Rattle.cargo_toml_audit.specs.Walks.{Visits, Walks};
+ghost use Rattle.cargo_toml_tools.specs.FromFiles.{IsUnreadable};
+
+use super::place::add_place;
+use crate::audit::{Audit, Root};
+use crate::members::{excludes, note, set_of};
+use cargo_toml::Error;
+use std::alloc::{AllocError, Global};
+use std::collections::BTreeSet;
+use std::io;
+use std::random::RandomSource;
+use std::rt::Files;
+
+/// How far places were followed.
+#[derive(Drop)]
+pub struct Walk {
+    /// Those that are still to be looked at, some of them twice.
+    pub waiting: Vec<String>,
+    /// Those that were looked at.
+    pub seen: BTreeSet<String>,
+    /// Those of members.
+    pub members: BTreeSet<String>,
+}
+
+/// Adds to a report all that lies at these places, and at those to which members lead. It answers
+/// the places of members.
+pub fn add_members<R: Files + Eprint + RandomSource + AllocGlobal>(
+    rt: &R,
+    root: Root<'_>,
+    first: Vec<String>,
+    audit: &mut Audit,
+    shows: bool,
+) -> Result<BTreeSet<String>, Error>
+    ensures walked { IfOk result (λ members. Walks (base_of root.entry)
+        (map string_bytes first.items) (contains_text members) audit.old audit.new) }
+    ensures refused { IfErr result IsAuditFault }
+{
+    let alloc = rt.alloc();
+    let listed = set_of(alloc, first.as_slice())?;
+    let seen = BTreeSet::new(alloc);
+    let members = BTreeSet::new(alloc);
+    let mut walk = Walk {
+        waiting: first,
+        seen,
+        members,
+    };
+    for done in 0..usize::MAX {
+        let next = walk.waiting.pop();
+        show_progress(rt, shows, done, next.is_none())?;
+        let Some(place) = next else {
+            return Ok(walk.members);
+        };
+        let is_listed = listed.contains(place.as_str());
+        visit(rt, root, (place.as_str(), is_listed), &mut walk, audit)?;
+    }
+    Err(Error::Other("there are too many places"))
+}
+
+/// Looks at a place, to which a list leads or not, unless that was done or it is excluded.
+fn visit<R: Files + RandomSource + AllocGlobal>(
+    rt: &R,
+    root: Root<'_>,
+    at: (&str, bool),
+    walk: &mut Walk,
+    audit: &mut Audit,
+) -> Result<(), Error>
+    ensures visited { OnOk result (Visits (base_of root.entry) at.entry.1 at.entry.0.now
+        walk.old walk.new audit.old audit.new) }
+    ensures refused { IfErr result IsUnreadable }
+{
+    let alloc = rt.alloc();
+    let (place, is_listed) = at;
+    if walk.seen.contains(place) {
+        return Ok(());
+    }
+    if excludes(alloc, root.limits(), place)? {
+        return Ok(());
+    }
+    let mut found = add_place(rt, root, place, is_listed, audit)?;
+    note(alloc, &mut walk.members, place, found.is_member)?;
+    note(alloc, &mut walk.seen, place, true)?;
+    walk.waiting.append(&mut found.needs)?;
+    Ok(())
+}
+
+/// Tells a terminal how far a long report is.
+fn show_progress<R: Eprint>(rt: &R, shows: bool, done: usize, is_end: bool) -> io::Result<()> {
+    if !shows || done < 20 {
+        return Ok(());
+    }
+    if is_end {
+        eprint!(rt; "\r\u{1b}[K")?;
+    } else if done % 10 == 0 {
+        eprint!(rt; "\r{done} places")?;
+    }
+    Ok(())
+}

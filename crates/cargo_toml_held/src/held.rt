@@ -3,16 +3,19 @@ ghost use Rattle.std.specs.Path.{path_parent};
 ghost use Rattle.std.specs.Prelude.{◌≡◌, false, IfErr, IfOk, IfSome, IsSome, OnOk};
 ghost use Rattle.toml.specs.View.{view};
 ghost use Rattle.cargo_toml.specs.Error.{Memory};
+ghost use Rattle.cargo_toml.specs.Floats.{FloatsOr, without_floats};
 ghost use Rattle.cargo_toml.specs.InheritedManifests.{needs};
 ghost use Rattle.cargo_toml.specs.InheritedPackages.{IsFilled};
 ghost use Rattle.cargo_toml.specs.Manifests.{held, manifest_meaning, manifest_reads};
 ghost use Rattle.cargo_toml.specs.Manifests.{ManifestRefuses};
 ghost use Rattle.cargo_toml.specs.RealFiles.{IsPathFault, IsReadAndCompleted};
+ghost use Rattle.cargo_toml.specs.Reads.{IsReading};
 ghost use Rattle.cargo_toml.specs.Texts.{AnyRefuses, IsFromBytes, IsFromText, any_tree};
 
-use cargo_toml::{Error, Manifest};
+use cargo_toml::{Error, FromValue, Manifest};
 use std::alloc::Global;
 use std::rt::Files;
+use toml::Value;
 
 /// A manifest on the heap. Who owns it doesn't look at what is in it when it is dropped.
 pub struct HeldManifest {
@@ -56,6 +59,19 @@ impl HeldManifest {
             (manifest_reads any_tree) (ManifestRefuses any_tree AnyRefuses) text.now result }
     {
         match Manifest::from_str(alloc, text) {
+            Ok(manifest) => HeldManifest::new(alloc, manifest),
+            Err(fault) => Err(fault),
+        }
+    }
+
+    /// Holds the manifest that this tree gives. Refuses as [`FromValue::from_value`] does, with
+    /// [`Error::Memory`] where there was no room.
+    pub fn from_value(alloc: Global, value: Value) -> Result<HeldManifest, Error>
+        ensures { IsReading (λ h. manifest_meaning view h.manifest.value)
+            (without_floats (manifest_reads any_tree) (view value))
+            (FloatsOr (ManifestRefuses any_tree AnyRefuses) (view value)) result }
+    {
+        match Manifest::from_value(alloc, value) {
             Ok(manifest) => HeldManifest::new(alloc, manifest),
             Err(fault) => Err(fault),
         }

@@ -5,7 +5,7 @@ mod indexing;
 mod linting;
 mod reading;
 
-pub use documenting::{document, document_text};
+pub use documenting::{document, document_text, resolved};
 pub use indexing::{Fault, index_line};
 pub use linting::{findings_of, lint, lint_lines};
-pub use reading::manifest_in;
+pub use reading::{completed_of, manifest_in, text_in};

@@ -1,49 +1,16 @@
-//! `cargo-toml-tools index [OPTION..] FILE..` prints the line that a registry's index has of
-//! each crate, `lint FILE..` what is amiss with features, `audit [--json] FOLDER` reports on a
-//! workspace, and `document [--dot] FILE..` prints what is documented of features.
+//! `cargo-toml-tools`: tools over the manifests of Cargo. `--help` tells which there are.
 #![tactic(auto)]
 
-use cargo_toml_audit::auditing::audit_text;
-use cargo_toml_tools::escape::fault_line;
-use cargo_toml_tools::files::{document_text, index_line, lint_lines};
-use cargo_toml_tools_words::{Outcome, Request, USAGE, read_request};
+mod running;
+
+use cargo_toml_tools_words::{Outcome, Request, read_request};
+use running::answer_each;
 use std::env::FillError;
-use std::fmt::Display;
-use std::io::{IsTerminal, Write};
+use std::io::IsTerminal;
 use std::process::ExitCode;
 use std::random::RandomSource;
 use std::rt::{Env, Files};
 use std::{env, io};
-
-/// Writes what came of a file, and whether that is odd; or tells why the file is refused.
-fn put<R: Print + Eprint + AllocGlobal, F: Display + Drop>(
-    rt: &R,
-    file: &str,
-    made: Result<(String, bool), F>,
-) -> io::Result<Outcome> {
-    match made {
-        Ok((text, odd)) => {
-            let mut output = io::writer(rt);
-            output.write_all(text.as_bytes())?;
-            output.flush()?;
-            Ok(if odd { Outcome::Odd } else { Outcome::Done })
-        }
-        Err(fault) => {
-            let words = format!(in rt.alloc(); "{fault}")?;
-            let line = fault_line(rt.alloc(), file, words.as_str())?;
-            eprint!(rt; "{line}")?;
-            Ok(Outcome::Refused)
-        }
-    }
-}
-
-/// What came of a file, where nothing in it is odd.
-fn as_due<F: Drop>(made: Result<String, F>) -> Result<(String, bool), F> {
-    match made {
-        Ok(text) => Ok((text, false)),
-        Err(fault) => Err(fault),
-    }
-}
 
 /// Does what is asked.
 fn answer<R: Files + Print + Eprint + RandomSource + AllocGlobal>(
@@ -51,32 +18,23 @@ fn answer<R: Files + Print + Eprint + RandomSource + AllocGlobal>(
     request: &Request<'_>,
     shows: bool,
 ) -> io::Result<Outcome> {
-    let mut outcome = Outcome::Done;
     match request {
-        Request::Index(files, wanted) => {
-            for file in files {
-                let made = as_due(index_line(rt, *file, wanted.options()));
-                outcome = put(rt, *file, made)?.max(outcome);
-            }
+        Request::Check(inputs)
+        | Request::Show(inputs, _)
+        | Request::Features(inputs)
+        | Request::Index(inputs, _)
+        | Request::Lint(inputs, _)
+        | Request::Document(inputs, _) => answer_each(rt, request, inputs),
+        Request::Audit(folder, as_json) => running::audit(rt, *folder, *as_json, shows),
+        Request::Text(text) => {
+            print!(rt; "{text}")?;
+            Ok(Outcome::Done)
         }
-        Request::Lint(files) => {
-            for file in files {
-                let made = lint_lines(rt, *file, files.len() > 1);
-                outcome = put(rt, *file, made)?.max(outcome);
-            }
-        }
-        Request::Document(files, dot) => {
-            for file in files {
-                let made = as_due(document_text(rt, *file, *dot));
-                outcome = put(rt, *file, made)?.max(outcome);
-            }
-        }
-        Request::Audit(folder, as_json) => {
-            let made = audit_text(rt, *folder, *as_json, shows);
-            outcome = put(rt, *folder, made)?;
+        Request::NoCommand(text) => {
+            eprint!(rt; "{text}")?;
+            Ok(Outcome::NoCommand)
         }
     }
-    Ok(outcome)
 }
 
 /// The environment, where the program's own name is empty. That is no word, and need not be text.
@@ -110,13 +68,13 @@ fn run<R: Env + Files + Print + Eprint + RandomSource + AllocGlobal>(
     rt: &R,
     shows: bool,
 ) -> io::Result<Outcome> {
-    if let Some(words) = arguments(rt)? {
-        if let Some(request) = read_request(rt.alloc(), words.as_slice())? {
-            return answer(rt, &request, shows);
+    match arguments(rt)? {
+        Some(words) => answer(rt, &read_request(rt.alloc(), words.as_slice())?, shows),
+        None => {
+            eprintln!(rt; "error: a word is no text")?;
+            Ok(Outcome::NoCommand)
         }
     }
-    eprint!(rt; "{USAGE}")?;
-    Ok(Outcome::NoCommand)
 }
 
 fn main(rt: HostRuntime) -> ExitCode {

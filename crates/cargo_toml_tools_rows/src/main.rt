@@ -4,18 +4,22 @@
 //! The words of the command line are the rows' folders, which end with KIND/NAME. A line for each
 //! says that all is as expected, or what came instead. The file `like` of a row leads to the folder
 //! of another, whose manifest or workspace it has too. The lines of a file `tree` make those of
-//! its row. A row of `words` has neither.
+//! its row. Rows of `cases` and of `words` have neither.
 #![tactic(auto)]
 
+mod cases;
 mod findings;
 mod words;
 
 use cargo_toml::Error;
 use cargo_toml_audit::auditing::audit_text;
+use cargo_toml_check::check::check_lines;
+use cargo_toml_check::files::{features_in, json_in, toml_in};
+use cargo_toml_check::lint::{Judging, lint_lines};
 use cargo_toml_row_files::templates::text_in;
 use cargo_toml_row_files::tree::{fresh_folder, make_tree, remove_tree};
 use cargo_toml_tools::escape::fault_line;
-use cargo_toml_tools::files::{document_text, index_line, lint_lines};
+use cargo_toml_tools::files::{document_text, index_line};
 use cargo_toml_tools::index::{CRATES_IO, Options};
 use cargo_toml_tools_words::Outcome;
 use std::alloc::Global;
@@ -81,6 +85,25 @@ fn told_of_index<R: Files + RandomSource + AllocGlobal>(
     told(alloc, "FILE", index_line(rt, file, options))
 }
 
+/// What came of a row of `lint`, with the options that stand beside its manifest.
+fn told_of_lint<R: Files + RandomSource + AllocGlobal>(
+    rt: &R,
+    row: &str,
+    file: &str,
+) -> Result<(String, bool), Error> {
+    let listed = text_in(rt, row, "allow")?.unwrap_or(String::new(rt.alloc()));
+    let mut allowed = Vec::new(rt.alloc());
+    for line in listed.lines() {
+        allowed.push(line)?;
+    }
+    let judging = Judging {
+        allowed: allowed.as_slice(),
+        denies_hints: text_in(rt, row, "deny-hints")?.is_some(),
+        json: text_in(rt, row, "json")?.is_some(),
+    };
+    lint_lines(rt, file, judging)
+}
+
 /// The same of a row whose manifest or workspace lies in `folder`.
 fn answer<R: Files + RandomSource + Eprint + AllocGlobal>(
     rt: &R,
@@ -97,7 +120,18 @@ fn answer<R: Files + RandomSource + Eprint + AllocGlobal>(
             let limit = limit.as_ref().map(|text| text.as_str().trim_end());
             findings::lines(rt, file.as_str(), limit)
         }
-        "lint" => reported(alloc, "FILE", lint_lines(rt, file.as_str(), false)),
+        "check" => Ok(reported(alloc, "FILE", check_lines(rt, file.as_str()))?.replace(
+            alloc,
+            file.as_str(),
+            "FILE",
+        )?),
+        "show" => told(alloc, "FILE", toml_in(rt, file.as_str())),
+        "json" => told(alloc, "FILE", json_in(rt, file.as_str())),
+        "features" => told(alloc, "FILE", features_in(rt, file.as_str())),
+        "lint" => {
+            let report = reported(alloc, "FILE", told_of_lint(rt, row, file.as_str()))?;
+            Ok(report.replace(alloc, file.as_str(), "FILE")?)
+        }
         "document" => told(alloc, "FILE", document_text(rt, file.as_str(), false)),
         "graph" => told(alloc, "FILE", document_text(rt, file.as_str(), true)),
         "audit" => reported(alloc, "FOLDER", audit_text(rt, folder, false, false)),
@@ -149,6 +183,7 @@ fn line<R: Files + RandomSource + Eprint + AllocGlobal>(
     let path = format!(in alloc; "{row}/expected")?;
     let expected = fs::read_to_string(rt, path.as_str())?;
     let made = match kind {
+        "cases" => cases::lines(alloc, expected.as_str())?,
         "words" => words::lines(alloc, expected.as_str())?,
         _ => answer_of(rt, kind, row)?,
     };

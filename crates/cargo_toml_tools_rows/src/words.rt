@@ -1,6 +1,6 @@
 //! What words of the command line of `cargo-toml-tools` ask for, as text.
 use cargo_toml::Error;
-use cargo_toml_tools_words::{Outcome, USAGE, read_request};
+use cargo_toml_tools_words::{Request, read_request};
 use std::alloc::Global;
 
 /// The lines again, each with what comes of it: WORDS, with a space between two of them, and what
@@ -29,7 +29,14 @@ fn answer(alloc: Global, text: &str) -> Result<String, Error> {
         words.push(String::from_str(alloc, word)?)?;
     }
     match read_request(alloc, words.as_slice())? {
-        Some(request) => Ok(format!(in alloc; "{request:?}")?),
-        None => Ok(format!(in alloc; "status {}, {USAGE}", Outcome::NoCommand.status())?),
+        Request::Text(text) => Ok(format!(in alloc; "status 0, {}", first_line(text.as_str()))?),
+        Request::NoCommand(text) => {
+            Ok(format!(in alloc; "status 2, {}", first_line(text.as_str()))?)
+        }
+        request => Ok(format!(in alloc; "{request:?}")?),
     }
+}
+
+fn first_line(text: &str) -> &str {
+    text.lines().next().unwrap_or("")
 }

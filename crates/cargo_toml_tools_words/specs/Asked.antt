@@ -1,11 +1,10 @@
 -- What the words of the command line ask for, and how a run ends.
-use Rattle.std.specs.Prelude.{◌≡◌, ℕ, IfSome, vec_len, ⊤}
+use Rattle.std.specs.Prelude.{◌≡◌, ℕ, IfSome, None, vec_len, ⊤}
 use Rattle.cargo_toml_tools_words.specs.declared.outcome.Outcome.{Outcome}
 use Rattle.cargo_toml_tools_words.specs.declared.outcome.Outcome.TheVariants.{Done, Odd}
 use Rattle.cargo_toml_tools_words.specs.declared.outcome.Outcome.TheVariants.{Refused, NoCommand}
 use Rattle.cargo_toml_tools_words.specs.declared.words.Request.{Request}
-use Rattle.cargo_toml_tools_words.specs.declared.words.Request.TheVariants.{Index, Lint}
-use Rattle.cargo_toml_tools_words.specs.declared.words.Request.TheVariants.{Audit, Document}
+use Rattle.cargo_toml_tools_words.specs.declared.words.Request.TheVariants.{Index}
 
 -- the status of the program
 abbrev pub exit_status : Outcome → ℕ
@@ -16,7 +15,6 @@ exit_status NoCommand = 2
 
 -- a checksum is that of the only file
 abbrev pub IsOfOneFile : Request → Type 0
-IsOfOneFile (Index files wanted) = IfSome wanted.checksum (λ _. vec_len files ≡ 1)
-IsOfOneFile (Lint files) = ⊤
-IsOfOneFile (Audit folder json) = ⊤
-IsOfOneFile (Document files dot) = ⊤
+IsOfOneFile (Index inputs wanted) =
+    IfSome wanted.checksum (λ _. (vec_len inputs.files ≡ 1) × (inputs.from ≡ None))
+IsOfOneFile other = ⊤

@@ -1,37 +1,57 @@
 //! What the words of the command line ask for.
-ghost use Rattle.std.specs.Prelude.{IfOk, IfSome};
+ghost use Rattle.std.specs.Prelude.{IfOk};
 ghost use Rattle.cargo_toml_tools_words.specs.Asked.{IsOfOneFile};
 
+use crate::command::command;
 use cargo_toml_tools::index::{CRATES_IO, Named, Options};
+use clap::ArgMatches;
 use clap::error::ErrorKind;
-use clap::{Arg, ArgAction, ArgMatches, Command};
 use std::alloc::{AllocError, Global};
-
-/// How the program is called.
-pub const USAGE: &str = "usage: cargo-toml-tools index [--registry URL] [--registry-name NAME=URL] \
-    [--checksum HEX] [--force] FILE.. | lint FILE.. | audit [--json] FOLDER | \
-    document [--dot] FILE..\n";
 
 /// What the program is asked to do.
 #[derive(Debug, Drop)]
 pub enum Request<'a> {
+    /// What keeps these manifests from being read and completed.
+    Check(Inputs<'a>),
+    /// These manifests once they are completed, as JSON or as TOML.
+    Show(Inputs<'a>, bool),
+    /// The features of these manifests.
+    Features(Inputs<'a>),
     /// The lines that an index has of these crates. A checksum is that of the only one.
-    Index(Vec<&'a str>, Wanted<'a>),
+    Index(Inputs<'a>, Wanted<'a>),
     /// What is amiss with these crates' features.
-    Lint(Vec<&'a str>),
+    Lint(Inputs<'a>, Judging<'a>),
     /// The report on the workspace in this folder, as JSON or as lines.
     Audit(&'a str, bool),
     /// What is documented of these crates' features, as a graph or as a page.
-    Document(Vec<&'a str>, bool),
+    Document(Inputs<'a>, bool),
+    /// A text that is asked for, as the help.
+    Text(String),
+    /// Nothing, since the words are no command; why, and how the program is called.
+    NoCommand(String),
 }
 
-/// Which lines of an index are asked for.
+/// The files that a request is about.
+#[derive(Debug, Drop)]
+pub struct Inputs<'a> {
+    /// Those that are named.
+    pub files: Vec<&'a str>,
+    /// The file that names others.
+    pub from: Option<&'a str>,
+}
+
+/// Which lines of an index are asked for, and where to.
 #[derive(Debug, Drop)]
 pub struct Wanted<'a> {
     pub registry: &'a str,
     pub names: Vec<Named<'a>>,
     pub checksum: Option<&'a str>,
+    /// The file of checksums.
+    pub checksums: Option<&'a str>,
     pub force: bool,
+    pub with_names: bool,
+    /// The folder of the index.
+    pub layout: Option<&'a str>,
 }
 
 impl Wanted<'_> {
@@ -46,110 +66,108 @@ impl Wanted<'_> {
     }
 }
 
-/// What these words ask for, of which the first is the program's own name, or none where they are
-/// no command. A checksum is that of the only file.
-pub fn read_request<'a>(
-    alloc: Global,
-    words: &'a [String],
-) -> Result<Option<Request<'a>>, AllocError>
-    ensures { IfOk result (λ r. IfSome r IsOfOneFile) }
+/// How findings are judged and told.
+#[derive(Debug, Drop)]
+pub struct Judging<'a> {
+    /// Whether an object of JSON a line is wanted.
+    pub json: bool,
+    /// What is passed over: `CODE` or `CODE=FEATURE` each.
+    pub allowed: Vec<&'a str>,
+    /// Whether hints count, too.
+    pub denies_hints: bool,
+}
+
+/// What these words ask for, of which the first is the program's own name. Behind it may stand the
+/// word that Cargo hands on, `toml-tools`. A checksum is that of the only file.
+pub fn read_request<'a>(alloc: Global, words: &'a [String]) -> Result<Request<'a>, AllocError>
+    ensures { IfOk result IsOfOneFile }
 {
-    match command(alloc)?.try_get_matches_from(words) {
+    match command(alloc)?.try_get_matches_from(own_words(words)) {
         Ok(matches) => request_of(alloc, &matches),
-        Err(fault) if fault.kind() == ErrorKind::OutOfMemory => Err(AllocError),
-        Err(_) => Ok(None),
+        Err(fault) => match fault.kind() {
+            ErrorKind::OutOfMemory => Err(AllocError),
+            ErrorKind::DisplayHelp | ErrorKind::DisplayVersion => {
+                Ok(Request::Text(format!(in alloc; "{fault}")?))
+            }
+            _ => Ok(Request::NoCommand(format!(in alloc; "{fault}")?)),
+        },
     }
 }
 
-fn command<'a>(alloc: Global) -> Result<Command<'a>, AllocError> {
-    let index = Command::new(alloc, "index")
-        .arg(Arg::new(alloc, "registry").long("registry"))?
-        .arg(
-            Arg::new(alloc, "registry-name")
-                .long("registry-name")
-                .action(ArgAction::Append),
-        )?
-        .arg(Arg::new(alloc, "checksum").long("checksum"))?
-        .arg(flag(alloc, "force"))?
-        .arg(files(alloc))?;
-    let lint = Command::new(alloc, "lint").arg(files(alloc))?;
-    let audit = Command::new(alloc, "audit")
-        .arg(flag(alloc, "json"))?
-        .arg(Arg::new(alloc, "folder").required(true))?;
-    let document = Command::new(alloc, "document")
-        .arg(flag(alloc, "dot"))?
-        .arg(files(alloc))?;
-    Command::new(alloc, "cargo-toml-tools")
-        .disable_help_subcommand(true)
-        .subcommand(index)?
-        .subcommand(lint)?
-        .subcommand(audit)?
-        .subcommand(document)
+/// The words without the one that Cargo hands on.
+fn own_words(words: &[String]) -> &[String] {
+    match words {
+        [_, first, ..] if first.as_str() == "toml-tools" => &words[1..],
+        _ => words,
+    }
 }
 
-fn flag<'a>(alloc: Global, name: &'a str) -> Arg<'a> {
-    Arg::new(alloc, name).long(name).action(ArgAction::SetTrue)
-}
-
-fn files<'a>(alloc: Global) -> Arg<'a> {
-    Arg::new(alloc, "files")
-        .required(true)
-        .action(ArgAction::Append)
-        .num_args(1..)
-}
-
-fn request_of<'a>(
-    alloc: Global,
-    matches: &ArgMatches<'a>,
-) -> Result<Option<Request<'a>>, AllocError>
-    ensures { IfOk result (λ r. IfSome r IsOfOneFile) }
+fn request_of<'a>(alloc: Global, matches: &ArgMatches<'a>) -> Result<Request<'a>, AllocError>
+    ensures { IfOk result IsOfOneFile }
 {
     let Some((name, matches)) = matches.subcommand() else {
-        return Ok(None);
+        return no_command(alloc);
     };
     match name {
+        "check" => Ok(Request::Check(files_of(alloc, matches)?)),
+        "show" => Ok(Request::Show(files_of(alloc, matches)?, matches.get_flag("json"))),
+        "features" => Ok(Request::Features(files_of(alloc, matches)?)),
         "index" => index(alloc, matches),
-        "lint" => Ok(Some(Request::Lint(strings(alloc, matches, "files")?))),
-        "audit" => Ok(audit(matches)),
-        "document" => Ok(Some(Request::Document(
-            strings(alloc, matches, "files")?,
-            matches.get_flag("dot"),
-        ))),
-        _ => Ok(None),
+        "lint" => lint(alloc, matches),
+        "audit" => audit(alloc, matches),
+        "document" => Ok(Request::Document(files_of(alloc, matches)?, matches.get_flag("dot"))),
+        _ => no_command(alloc),
     }
+}
+
+fn no_command<'a>(alloc: Global) -> Result<Request<'a>, AllocError>
+    ensures { IfOk result IsOfOneFile }
+{
+    let words = "error: no command; `--help` tells which there are\n";
+    Ok(Request::NoCommand(String::from_str(alloc, words)?))
+}
+
+fn files_of<'a>(alloc: Global, matches: &ArgMatches<'a>) -> Result<Inputs<'a>, AllocError> {
+    Ok(Inputs {
+        files: strings(alloc, matches, "files")?,
+        from: matches.get_str("files-from"),
+    })
 }
 
 /// One checksum is asked of one file.
-fn index<'a>(alloc: Global, matches: &ArgMatches<'a>) -> Result<Option<Request<'a>>, AllocError>
-    ensures { IfOk result (λ r. IfSome r IsOfOneFile) }
+fn index<'a>(alloc: Global, matches: &ArgMatches<'a>) -> Result<Request<'a>, AllocError>
+    ensures { IfOk result IsOfOneFile }
 {
-    let files = strings(alloc, matches, "files")?;
+    let inputs = files_of(alloc, matches)?;
     let Some(names) = names(alloc, matches)? else {
-        return Ok(None);
+        return refused(alloc, "a name of a registry is NAME=URL");
     };
-    let registry = matches.get_str("registry").unwrap_or(CRATES_IO);
-    let force = matches.get_flag("force");
+    let mut wanted = Wanted {
+        registry: matches.get_str("registry").unwrap_or(CRATES_IO),
+        names,
+        checksum: None,
+        checksums: matches.get_str("checksums"),
+        force: matches.get_flag("force"),
+        with_names: matches.get_flag("with-names"),
+        layout: matches.get_str("layout"),
+    };
     match matches.get_str("checksum") {
-        Some(text) if files.len() == 1 && is_checksum(text) => {
-            let wanted = Wanted {
-                registry,
-                names,
-                checksum: Some(text),
-                force,
-            };
-            Ok(Some(Request::Index(files, wanted)))
+        Some(text) if inputs.files.len() == 1 && inputs.from.is_none() && is_checksum(text) => {
+            wanted.checksum = Some(text);
+            Ok(Request::Index(inputs, wanted))
         }
-        Some(_) => Ok(None),
-        None => {
-            let wanted = Wanted {
-                registry,
-                names,
-                checksum: None,
-                force,
-            };
-            Ok(Some(Request::Index(files, wanted)))
-        }
+        Some(_) => refused(
+            alloc,
+            "a checksum is 64 hex digits in lower case, of one FILE",
+        ),
+        None => Ok(Request::Index(inputs, wanted)),
     }
+}
+
+fn refused<'a>(alloc: Global, words: &str) -> Result<Request<'a>, AllocError>
+    ensures { IfOk result IsOfOneFile }
+{
+    Ok(Request::NoCommand(format!(in alloc; "error: {words}\n")?))
 }
 
 /// What registries are called, or nothing where one has no address.
@@ -167,11 +185,24 @@ fn names<'a>(
     Ok(Some(names))
 }
 
-fn audit<'a>(matches: &ArgMatches<'a>) -> Option<Request<'a>>
-    ensures { IfSome result IsOfOneFile }
+fn lint<'a>(alloc: Global, matches: &ArgMatches<'a>) -> Result<Request<'a>, AllocError>
+    ensures { IfOk result IsOfOneFile }
 {
-    let folder = matches.get_str("folder")?;
-    Some(Request::Audit(folder, matches.get_flag("json")))
+    let judging = Judging {
+        json: matches.get_flag("json"),
+        allowed: strings(alloc, matches, "allow")?,
+        denies_hints: matches.get_str("deny").is_some(),
+    };
+    Ok(Request::Lint(files_of(alloc, matches)?, judging))
+}
+
+fn audit<'a>(alloc: Global, matches: &ArgMatches<'a>) -> Result<Request<'a>, AllocError>
+    ensures { IfOk result IsOfOneFile }
+{
+    match matches.get_str("folder") {
+        Some(folder) => Ok(Request::Audit(folder, matches.get_flag("json"))),
+        None => no_command(alloc),
+    }
 }
 
 fn strings<'a>(

@@ -93,7 +93,7 @@ fn keep_every(_name: &str) -> bool
 }
 
 /// The features of a manifest, hidden ones like others.
-fn resolved<'m, R: RandomSource + AllocGlobal>(
+pub fn resolved<'m, R: RandomSource + AllocGlobal>(
     rt: &R,
     manifest: &'m Manifest<Value>,
 ) -> Result<Features<'m, 'm, RandomState>, Error>

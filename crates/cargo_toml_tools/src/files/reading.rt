@@ -14,15 +14,16 @@ use cargo_toml_held::HeldManifest;
 use std::fs;
 use std::rt::Files;
 
-/// The text of a file.
-pub(crate) fn text_in<R: Files + AllocGlobal>(rt: &R, file: &str) -> Result<String, Error>
+/// The text of a file, or of standard input where the file is called `-`.
+pub fn text_in<R: Files + AllocGlobal>(rt: &R, file: &str) -> Result<String, Error>
     ensures { IfErr result IsOfInput }
 {
-    Ok(fs::read_to_string(rt, file)?)
+    let path = if file == "-" { "/dev/stdin" } else { file };
+    Ok(fs::read_to_string(rt, path)?)
 }
 
 /// The manifest in the text of this file, completed from what is around it.
-pub(crate) fn completed_of<R: Files + AllocGlobal>(
+pub fn completed_of<R: Files + AllocGlobal>(
     rt: &R,
     file: &str,
     text: &str,

@@ -1,0 +1,2 @@
+pub mod Blaming
+pub mod Silent

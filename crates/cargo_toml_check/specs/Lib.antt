@@ -1,0 +1,7 @@
+pub mod Alone
+pub mod Blamed
+pub mod Listed
+pub mod Shown
+pub mod FromFiles
+pub mod Registries
+pub mod Judged

@@ -1,0 +1,45 @@
+-- How a manifest is shown.
+use Rattle.std.specs.Prelude.{◌≡◌, ℕ, List, Some, false}
+use Rattle.toml_datetime.specs.Text.{datetime_text}
+use Rattle.serde_json.specs.Data as json
+use Rattle.serde_json.specs.Find.{of_integer}
+use Rattle.serde_json.specs.Written.{IsInOrder}
+use Rattle.toml.specs.Data.{Data, Items, Members, array, boolean, datetime, float, integer, item}
+use Rattle.toml.specs.Data.{member, no_items, no_members, string, table}
+use Rattle.toml.specs.Text.{IsDocumentText}
+use Rattle.cargo_toml.specs.Manifests.{ManifestMeaning}
+use Rattle.cargo_toml.specs.Reread.{IsTold, reread}
+use Rattle.cargo_toml_check.specs.Blamed.{reads}
+
+-- a tree as a value of JSON: a date is its text. A manifest's tree holds no float
+abbrev mutual
+  pub json_of : Data → json.Data
+  json_of (string s) = json.string s
+  json_of (integer z) = json.number (of_integer z)
+  json_of (float x) = json.null
+  json_of (boolean b) = json.boolean b
+  json_of (datetime dt) = json.string (datetime_text dt)
+  json_of (array ds) = json.array (json_items ds)
+  json_of (table ms) = json.object (with_json ms json.no_members)
+
+  pub json_items : Items → json.Items
+  json_items no_items = json.no_items
+  json_items (item d ds) = json.item (json_of d) (json_items ds)
+
+  -- an object with each of these members put in its place
+  pub with_json : Members → json.Members → json.Members
+  with_json no_members js = js
+  with_json (member k d ms) js = with_json ms (json.put k (json_of d) js)
+
+-- the text is printed of a tree that reads as the manifest again: as it was, but for the mark of
+-- what was inherited, for `workspace = false`, and for the rule of version 0.0.0
+pub record IsShown (m : ManifestMeaning Data) (text : List ℕ) : Type 0 where
+  pub tree : Members
+  pub printed : IsDocumentText false tree text
+  pub again : IsTold m → reads (table tree) ≡ Some (reread m)
+
+-- the same as JSON
+pub record IsShownAsJson (m : ManifestMeaning Data) (text : List ℕ) : Type 0 where
+  pub tree : Members
+  pub printed : IsInOrder text (json_of (table tree))
+  pub again : IsTold m → reads (table tree) ≡ Some (reread m)

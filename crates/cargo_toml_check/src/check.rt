@@ -1,0 +1,123 @@
+//! What is at fault in a manifest, and where.
+ghost use Rattle.std.specs.Prelude.{◌≡◌, ◌↔◌, [], IfErr, IfOk, IsSome, length, map};
+ghost use Rattle.toml.specs.Parse.{parse_document};
+ghost use Rattle.cargo_toml.specs.Manifests.{manifest_reads};
+ghost use Rattle.cargo_toml.specs.Texts.{any_tree, document_reads};
+
+use crate::places::{Place, path_text, place_in, places};
+use crate::search::{Fault, faults};
+use cargo_toml::Error;
+use cargo_toml_tools::escape::{Format, push_escaped};
+use cargo_toml_tools::files::{completed_of, text_in};
+use std::alloc::{AllocError, Global};
+use std::collections::BTreeSet;
+use std::fmt::Write;
+use std::rt::Files;
+use toml::Value;
+
+/// Something at fault in a text.
+#[derive(Debug, Drop)]
+pub struct Told {
+    /// Where the key stands, or what isn't TOML.
+    pub place: Place,
+    /// The path of the key, or nothing.
+    pub key: String,
+    /// What is wrong with it.
+    pub words: String,
+}
+
+/// What is at fault in a text: why it isn't TOML, or else each part that doesn't read. There is
+/// nothing just where the text reads as a manifest.
+pub fn faults_in(alloc: Global, text: &str) -> Result<Vec<Told>, Error>
+    ensures silent { IfOk result (λ v. v.items ≡ []
+        ↔ IsSome (document_reads (manifest_reads any_tree) (parse_document text.now))) }
+{
+    let table = match toml::table_from_str(alloc, text) {
+        Ok(table) => table,
+        Err(fault) if fault.is_memory() => return Err(Error::Memory),
+        Err(fault) => return not_toml(alloc, text, &fault),
+    };
+    let tree = Value::Table(table);
+    let faults = faults(alloc, &tree)?;
+    placed(alloc, text, faults.as_slice())
+}
+
+/// The lines `FILE:LINE:COLUMN: KEY: words` of what keeps the manifest in this file from being read
+/// and completed.
+pub fn check_lines<R: Files + AllocGlobal>(rt: &R, file: &str) -> Result<(String, bool), Error> {
+    let alloc = rt.alloc();
+    let text = text_in(rt, file)?;
+    let fault = match completed_of(rt, file, text.as_str()) {
+        Ok(held) => {
+            drop(held);
+            return Ok((String::new(alloc), false));
+        }
+        Err(Error::Memory) => return Err(Error::Memory),
+        Err(fault) => fault,
+    };
+    let mut all = faults_in(alloc, text.as_str())?;
+    if all.is_empty() {
+        all.push(Told {
+            place: (1, 1),
+            key: String::new(alloc),
+            words: format!(in alloc; "{fault}")?,
+        })?;
+    }
+    let mut lines = String::new(alloc);
+    for told in &all {
+        push_place(&mut lines, file, told.place)?;
+        if !told.key.is_empty() {
+            lines.push_str(told.key.as_str())?;
+            lines.push_str(": ")?;
+        }
+        push_escaped(&mut lines, told.words.as_str().trim_end(), Format::Line)?;
+        lines.push_str("\n")?;
+    }
+    Ok((lines, true))
+}
+
+/// Writes what a line begins with: a file, and a place in it.
+pub fn push_place(line: &mut String, file: &str, place: Place) -> Result<(), AllocError> {
+    push_escaped(line, file, Format::Line)?;
+    write!(line, ":{}:{}: ", place.0, place.1)
+}
+
+/// Where a text isn't TOML.
+fn not_toml(alloc: Global, text: &str, fault: &toml::de::Error) -> Result<Vec<Told>, Error>
+    ensures { IfOk result (λ v. length v.items ≡ 1) }
+{
+    let start = match fault.span() {
+        Some(span) => span.start,
+        None => 0,
+    };
+    let told = Told {
+        place: place_in(text, start),
+        key: String::new(alloc),
+        words: String::from_str(alloc, fault.message())?,
+    };
+    let mut all = Vec::new(alloc);
+    all.push(told)?;
+    Ok(all)
+}
+
+/// These faults, each with its place.
+fn placed(alloc: Global, text: &str, faults: &[Fault<'_>]) -> Result<Vec<Told>, Error>
+    ensures { IfOk result (λ v. length v.items ≡ length faults.now) }
+{
+    let mut wanted = BTreeSet::new(alloc);
+    for fault in faults {
+        wanted.insert(path_text(alloc, fault.path.as_slice())?)?;
+    }
+    let found = places(alloc, text, &wanted)?;
+    let mut all = Vec::new(alloc);
+    for fault in faults {
+        let key = path_text(alloc, fault.path.as_slice())?;
+        all.push(Told {
+            place: found.get(key.as_str()).copied().unwrap_or((1, 1)),
+            key,
+            words: format!(in alloc; "{}", fault.fault)?,
+        })?;
+    }
+    all.sort_by_key(|told| told.place)?;
+    Ok(all)
+}

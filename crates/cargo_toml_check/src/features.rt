@@ -1,0 +1,261 @@
+//! Resolved features as JSON.
+ghost use Rattle.std.specs.Prelude.{◌≡◌, IfOk, OnOk};
+ghost use Rattle.serde_json.specs.View.{members_view, view};
+ghost use Rattle.cargo_toml.specs.Dependencies.{dependency_meaning};
+ghost use Rattle.cargo_toml.specs.Manifests.{held};
+ghost use Rattle.cargo_toml.specs.Reads.{map_meaning};
+ghost use Rattle.cargo_toml.specs.Targets.{target_meaning};
+ghost use Rattle.cargo_toml_tools.specs.Checked.{lists_meaning};
+ghost use Rattle.cargo_toml_check.specs.Listed.{AreMembers, IsListing, action_json, actions_json};
+ghost use Rattle.cargo_toml_check.specs.Listed.{are_cut_targets, has_long};
+ghost use Rattle.cargo_toml_check.specs.Listed.{feature_json, is_cut, is_cut_list, is_cut_table};
+ghost use Rattle.cargo_toml_check.specs.Listed.{is_cut_target, is_over};
+ghost use Rattle.cargo_toml_check.specs.Listed.{row_at, stands_for_json, texts_json};
+ghost use Rattle.cargo_toml_tools.specs.IndexRows.{with_rows};
+
+use cargo_toml::features::{DepAction, Feature, Features};
+use cargo_toml::{DepsSet, FeatureSet, Manifest, Target, TargetDepsSet};
+use cargo_toml_features::admit::MAX_ITEMS;
+use cargo_toml_features::texts::keys_in_order;
+use cargo_toml_tools::json::put_text;
+use serde_json::{Map, Value, push, put};
+use std::alloc::{AllocError, Global};
+use std::collections::{BTreeMap, BTreeSet, HashMap};
+use std::hash::BuildHasher;
+
+/// The features that a manifest resolves to, as an object of JSON: `features` has each by its name,
+/// `hidden` has what stands for each that was removed, and `cut` says whether the manifest has more
+/// than counts.
+pub fn features_json<M, S: BuildHasher>(
+    alloc: Global,
+    manifest: &Manifest<M>,
+    features: &Features<'_, '_, S>,
+) -> Result<Value, AllocError>
+    ensures { IfOk result (λ v. IsListing (is_cut (held manifest.now)) features.now (view v)) }
+{
+    let mut members = Map::new(alloc);
+    put(&mut members, alloc, "cut", Value::from(is_cut(manifest)))?;
+    put(
+        &mut members,
+        alloc,
+        "features",
+        all_features(alloc, &features.features)?,
+    )?;
+    put(
+        &mut members,
+        alloc,
+        "hidden",
+        all_hidden(alloc, &features.hidden_features)?,
+    )?;
+    Ok(Value::from(members))
+}
+
+fn all_features<S: BuildHasher>(
+    alloc: Global,
+    features: &HashMap<&str, Feature<'_>, S>,
+) -> Result<Value, AllocError>
+    ensures { IfOk result (λ v. AreMembers feature_json features.now (view v)) }
+{
+    let names = keys_in_order(alloc, features)?;
+    let mut members = Map::new(alloc);
+    for name in &names {
+        put_feature(alloc, &mut members, features, *name)?;
+    }
+    Ok(Value::from(members))
+}
+
+fn put_feature<S: BuildHasher>(
+    alloc: Global,
+    members: &mut Map<String, Value>,
+    features: &HashMap<&str, Feature<'_>, S>,
+    name: &str,
+) -> Result<(), AllocError>
+    ensures { OnOk result (members_view members.new.entries
+        ≡ with_rows (row_at feature_json features.now name.now)
+        (members_view members.old.entries)) }
+{
+    match features.get(name) {
+        Some(feature) => put(members, alloc, name, feature_json(alloc, feature)?),
+        None => Ok(()),
+    }
+}
+
+fn all_hidden<S: BuildHasher>(
+    alloc: Global,
+    hidden: &HashMap<&str, BTreeSet<&str>, S>,
+) -> Result<Value, AllocError>
+    ensures { IfOk result (λ v. AreMembers stands_for_json hidden.now (view v)) }
+{
+    let names = keys_in_order(alloc, hidden)?;
+    let mut members = Map::new(alloc);
+    for name in &names {
+        put_hidden(alloc, &mut members, hidden, *name)?;
+    }
+    Ok(Value::from(members))
+}
+
+fn put_hidden<S: BuildHasher>(
+    alloc: Global,
+    members: &mut Map<String, Value>,
+    hidden: &HashMap<&str, BTreeSet<&str>, S>,
+    name: &str,
+) -> Result<(), AllocError>
+    ensures { OnOk result (members_view members.new.entries
+        ≡ with_rows (row_at stands_for_json hidden.now name.now)
+        (members_view members.old.entries)) }
+{
+    match hidden.get(name) {
+        Some(stands_for) => put(members, alloc, name, set_json(alloc, stands_for)?),
+        None => Ok(()),
+    }
+}
+
+fn feature_json(alloc: Global, feature: &Feature<'_>) -> Result<Value, AllocError>
+    ensures { IfOk result (λ v. view v ≡ feature_json feature.now) }
+{
+    let mut members = Map::new(alloc);
+    put(&mut members, alloc, "listed", Value::from(feature.explicit))?;
+    put(&mut members, alloc, "public", Value::from(feature.public))?;
+    put_text(alloc, &mut members, "text", feature.doc)?;
+    put(
+        &mut members,
+        alloc,
+        "names",
+        set_json(alloc, &feature.enables_features)?,
+    )?;
+    put(
+        &mut members,
+        alloc,
+        "dependencies",
+        actions_json(alloc, &feature.enables_deps)?,
+    )?;
+    put(
+        &mut members,
+        alloc,
+        "enabled_by",
+        set_json(alloc, &feature.enabled_by)?,
+    )?;
+    put(
+        &mut members,
+        alloc,
+        "binaries",
+        list_json(alloc, feature.required_by_bins.as_slice())?,
+    )?;
+    Ok(Value::from(members))
+}
+
+/// What a feature does to dependencies, by their keys.
+fn actions_json(alloc: Global, actions: &BTreeMap<&str, DepAction<'_>>) -> Result<Value, AllocError>
+    ensures { IfOk result (λ v. view v ≡ actions_json actions.now) }
+{
+    let mut members = Map::new(alloc);
+    for (key, action) in actions.iter() {
+        put(&mut members, alloc, *key, action_json(alloc, action)?)?;
+    }
+    Ok(Value::from(members))
+}
+
+fn action_json(alloc: Global, action: &DepAction<'_>) -> Result<Value, AllocError>
+    ensures { IfOk result (λ v. view v ≡ action_json action.now) }
+{
+    let mut members = Map::new(alloc);
+    put(
+        &mut members,
+        alloc,
+        "conditional",
+        Value::from(action.is_conditional),
+    )?;
+    put(
+        &mut members,
+        alloc,
+        "dep_only",
+        Value::from(action.is_dep_only),
+    )?;
+    put(
+        &mut members,
+        alloc,
+        "features",
+        set_json(alloc, &action.dep_features)?,
+    )?;
+    Ok(Value::from(members))
+}
+
+fn set_json(alloc: Global, texts: &BTreeSet<&str>) -> Result<Value, AllocError>
+    ensures { IfOk result (λ v. view v ≡ texts_json texts.now.keys) }
+{
+    let mut items = Vec::new(alloc);
+    for text in texts {
+        push(&mut items, Value::try_from_str(alloc, *text)?)?;
+    }
+    Ok(Value::from(items))
+}
+
+fn list_json(alloc: Global, texts: &[&str]) -> Result<Value, AllocError>
+    ensures { IfOk result (λ v. view v ≡ texts_json texts.now) }
+{
+    let mut items = Vec::new(alloc);
+    for text in texts {
+        push(&mut items, Value::try_from_str(alloc, *text)?)?;
+    }
+    Ok(Value::from(items))
+}
+
+/// Whether a manifest has more features, more texts of one, or more keys of a table of dependencies
+/// than count.
+fn is_cut<M>(manifest: &Manifest<M>) -> bool
+    ensures { result ≡ is_cut (held manifest.now) }
+{
+    is_cut_list(&manifest.features)
+        || is_cut_table(&manifest.dependencies)
+        || is_cut_table(&manifest.build_dependencies)
+        || is_cut_table(&manifest.dev_dependencies)
+        || are_cut_targets(&manifest.target)
+}
+
+fn is_cut_list(features: &FeatureSet) -> bool
+    ensures { result ≡ is_cut_list (lists_meaning features.now) }
+{
+    is_over(features.len()) || has_long(features)
+}
+
+fn has_long(features: &FeatureSet) -> bool
+    ensures { result ≡ has_long (lists_meaning features.now) }
+{
+    for (_name, texts) in features.iter() {
+        if is_over(texts.len()) {
+            return true;
+        }
+    }
+    false
+}
+
+fn are_cut_targets(targets: &TargetDepsSet) -> bool
+    ensures { result ≡ are_cut_targets (map_meaning target_meaning targets.now) }
+{
+    for (_name, target) in targets.iter() {
+        if is_cut_target(target) {
+            return true;
+        }
+    }
+    false
+}
+
+fn is_cut_target(target: &Target) -> bool
+    ensures { result ≡ is_cut_target (target_meaning target.now) }
+{
+    is_cut_table(&target.dependencies)
+        || is_cut_table(&target.build_dependencies)
+        || is_cut_table(&target.dev_dependencies)
+}
+
+fn is_cut_table(table: &DepsSet) -> bool
+    ensures { result ≡ is_cut_table (map_meaning dependency_meaning table.now) }
+{
+    is_over(table.len())
+}
+
+fn is_over(count: usize) -> bool
+    ensures { result ≡ is_over count }
+{
+    count > MAX_ITEMS
+}

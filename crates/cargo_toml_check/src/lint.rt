@@ -1,0 +1,371 @@
+//! What is amiss with the features of a manifest, with places.
+ghost use Rattle.std.specs.Prelude.{◌≡◌};
+ghost use Rattle.cargo_toml_check.specs.Judged.{counts, is_odd};
+
+use crate::check::{Told, faults_in, push_place};
+use crate::places::{Place, places, push_item, push_key};
+use cargo_toml::{DepsSet, Error, Manifest, Product, Target, Value};
+use cargo_toml_held::HeldManifest;
+use cargo_toml_lint::{Finding, Level};
+use cargo_toml_tools::escape::{Format, push_escaped};
+use cargo_toml_tools::files::{findings_of, text_in};
+use cargo_toml_tools::json::put_text;
+use serde_json::{Map, Value as Json, put};
+use std::alloc::{AllocError, Global};
+use std::collections::{BTreeMap, BTreeSet};
+use std::random::RandomSource;
+use std::rt::Files;
+
+/// How findings are told, and which count.
+#[derive(Clone, Copy, Debug)]
+pub struct Judging<'a> {
+    /// What is passed over: `CODE` or `CODE=FEATURE` each.
+    pub allowed: &'a [&'a str],
+    /// Whether hints count, too.
+    pub denies_hints: bool,
+    /// Whether each line is an object of JSON.
+    pub json: bool,
+}
+
+/// A finding as a line has it.
+#[derive(Clone, Copy, Debug)]
+struct Line<'a> {
+    file: &'a str,
+    place: Place,
+    level: &'a str,
+    code: &'a str,
+    feature: &'a str,
+    text: &'a str,
+    words: &'a str,
+}
+
+/// What is amiss with the features of the manifest in this file, a line each, and whether something
+/// counts. A manifest that doesn't read has the finding `unreadable` for each part at fault. The
+/// manifest's own `package.metadata.cargo-toml-tools.allow` is heeded as `allowed` is.
+pub fn lint_lines<R: Files + RandomSource + AllocGlobal>(
+    rt: &R,
+    file: &str,
+    judging: Judging<'_>,
+) -> Result<(String, bool), Error> {
+    let alloc = rt.alloc();
+    let text = text_in(rt, file)?;
+    let text = text.as_str();
+    match HeldManifest::from_str(alloc, text) {
+        Ok(held) => readable(rt, file, text, &*held.manifest, judging),
+        Err(Error::Memory) => Err(Error::Memory),
+        Err(_) => unreadable(alloc, file, text, judging),
+    }
+}
+
+fn readable<R: RandomSource + AllocGlobal>(
+    rt: &R,
+    file: &str,
+    text: &str,
+    manifest: &Manifest,
+    judging: Judging<'_>,
+) -> Result<(String, bool), Error> {
+    let alloc = rt.alloc();
+    let all = findings_of(rt, manifest)?;
+    let allowed = allowed_by(alloc, manifest)?;
+    let mut kept = Vec::new(alloc);
+    for finding in &all {
+        if !is_allowed(judging.allowed, finding) && !is_allowed(allowed.as_slice(), finding) {
+            kept.push(*finding)?;
+        }
+    }
+    let kept = kept.as_slice();
+    let odd = is_odd(kept, judging.denies_hints);
+    Ok((lines(alloc, file, text, manifest, kept, judging.json)?, odd))
+}
+
+/// Whether one of these findings is an error or a warning, or a hint where hints are denied. It is
+/// asked of just those that are told.
+pub fn is_odd(findings: &[Finding<'_>], denies_hints: bool) -> bool
+    ensures { result ≡ is_odd denies_hints findings.now }
+{
+    findings
+        .iter()
+        .any(|finding| counts(finding.code.level(), denies_hints))
+}
+
+fn counts(level: Level, denies_hints: bool) -> bool
+    ensures { result ≡ counts denies_hints level }
+{
+    match level {
+        Level::Error | Level::Warning => true,
+        Level::Hint => denies_hints,
+    }
+}
+
+/// What the manifest itself wants to have passed over.
+fn allowed_by<'m>(alloc: Global, manifest: &'m Manifest) -> Result<Vec<&'m str>, AllocError> {
+    let mut allowed = Vec::new(alloc);
+    let Some(package) = &manifest.package else {
+        return Ok(allowed);
+    };
+    let Some(Value::Table(metadata)) = &package.metadata else {
+        return Ok(allowed);
+    };
+    let Some(Value::Table(tools)) = metadata.get("cargo-toml-tools") else {
+        return Ok(allowed);
+    };
+    let Some(Value::Array(items)) = tools.get("allow") else {
+        return Ok(allowed);
+    };
+    for item in items {
+        if let Value::String(text) = item {
+            allowed.push(text.as_str())?;
+        }
+    }
+    Ok(allowed)
+}
+
+/// Whether one of the texts is the finding's code, or `CODE=FEATURE` of it.
+fn is_allowed(allowed: &[&str], finding: &Finding<'_>) -> bool {
+    for text in allowed {
+        if *text == finding.code.name() {
+            return true;
+        }
+        if let Some((code, feature)) = text.split_once('=') {
+            if code == finding.code.name() && feature == finding.feature {
+                return true;
+            }
+        }
+    }
+    false
+}
+
+fn lines(
+    alloc: Global,
+    file: &str,
+    text: &str,
+    manifest: &Manifest,
+    findings: &[Finding<'_>],
+    json: bool,
+) -> Result<String, AllocError> {
+    let mut keys = Vec::new(alloc);
+    let mut wanted = BTreeSet::new(alloc);
+    for finding in findings {
+        let paths = paths_of(alloc, manifest, finding)?;
+        for path in &paths {
+            wanted.insert(path.clone()?)?;
+        }
+        keys.push(paths)?;
+    }
+    let found = places(alloc, text, &wanted)?;
+    let mut lines = String::new(alloc);
+    for (finding, paths) in findings.iter().zip(keys.iter()) {
+        let line = Line {
+            file,
+            place: first_of(&found, paths.as_slice()),
+            level: finding.code.level().name(),
+            code: finding.code.name(),
+            feature: finding.feature,
+            text: finding.text,
+            words: finding.code.words(),
+        };
+        push_line(alloc, &mut lines, line, json)?;
+    }
+    Ok(lines)
+}
+
+/// The first of these paths that has a place.
+fn first_of(found: &BTreeMap<String, Place>, paths: &[String]) -> Place {
+    for path in paths {
+        if let Some(place) = found.get(path.as_str()) {
+            return *place;
+        }
+    }
+    (1, 1)
+}
+
+/// The paths of the keys that a finding may be of: the text in the feature's list, the feature, the
+/// dependency of the key, the target of the name.
+fn paths_of(
+    alloc: Global,
+    manifest: &Manifest,
+    finding: &Finding<'_>,
+) -> Result<Vec<String>, AllocError> {
+    let mut paths = Vec::new(alloc);
+    let feature = finding.feature;
+    let features = below(alloc, "", "features")?;
+    let path = below(alloc, features.as_str(), feature)?;
+    if let Some(texts) = manifest.features.get(feature) {
+        let list = below(alloc, path.as_str(), "enables")?;
+        push_text(&mut paths, path.as_str(), texts.as_slice(), finding.text)?;
+        push_text(&mut paths, list.as_str(), texts.as_slice(), finding.text)?;
+    }
+    paths.push(path)?;
+    let normal = &manifest.dependencies;
+    push_dependency(&mut paths, alloc, "", "dependencies", normal, finding)?;
+    let build = &manifest.build_dependencies;
+    push_dependency(&mut paths, alloc, "", "build-dependencies", build, finding)?;
+    let dev = &manifest.dev_dependencies;
+    push_dependency(&mut paths, alloc, "", "dev-dependencies", dev, finding)?;
+    for (name, target) in &manifest.target {
+        push_of_target(&mut paths, alloc, name.as_str(), target, finding)?;
+    }
+    push_products(&mut paths, alloc, "bin", manifest.bin.as_slice(), finding)?;
+    push_products(
+        &mut paths,
+        alloc,
+        "example",
+        manifest.example.as_slice(),
+        finding,
+    )?;
+    push_products(&mut paths, alloc, "test", manifest.test.as_slice(), finding)?;
+    push_products(
+        &mut paths,
+        alloc,
+        "bench",
+        manifest.bench.as_slice(),
+        finding,
+    )?;
+    Ok(paths)
+}
+
+/// The path of a key below another.
+fn below(alloc: Global, above: &str, key: &str) -> Result<String, AllocError> {
+    let mut path = String::from_str(alloc, above)?;
+    push_key(&mut path, key)?;
+    Ok(path)
+}
+
+/// Adds the path of a text of a list, if it is there.
+fn push_text(
+    paths: &mut Vec<String>,
+    list: &str,
+    texts: &[String],
+    text: &str,
+) -> Result<(), AllocError> {
+    if let Some(index) = texts.iter().position(|other| other.as_str() == text) {
+        let mut path = String::from_str(*paths.allocator(), list)?;
+        push_item(&mut path, index)?;
+        paths.push(path)?;
+    }
+    Ok(())
+}
+
+fn push_of_target(
+    paths: &mut Vec<String>,
+    alloc: Global,
+    name: &str,
+    target: &Target,
+    finding: &Finding<'_>,
+) -> Result<(), AllocError> {
+    let above = below(alloc, "target", name)?;
+    let above = above.as_str();
+    push_dependency(
+        paths,
+        alloc,
+        above,
+        "dependencies",
+        &target.dependencies,
+        finding,
+    )?;
+    let build = &target.build_dependencies;
+    push_dependency(paths, alloc, above, "build-dependencies", build, finding)?;
+    let dev = &target.dev_dependencies;
+    push_dependency(paths, alloc, above, "dev-dependencies", dev, finding)
+}
+
+fn push_dependency(
+    paths: &mut Vec<String>,
+    alloc: Global,
+    above: &str,
+    name: &str,
+    table: &DepsSet,
+    finding: &Finding<'_>,
+) -> Result<(), AllocError> {
+    let Some(dependency) = table.get(finding.feature) else {
+        return Ok(());
+    };
+    let path = below(alloc, below(alloc, above, name)?.as_str(), finding.feature)?;
+    let list = below(alloc, path.as_str(), "features")?;
+    push_text(
+        paths,
+        list.as_str(),
+        dependency.req_features(),
+        finding.text,
+    )?;
+    paths.push(path)?;
+    Ok(())
+}
+
+fn push_products(
+    paths: &mut Vec<String>,
+    alloc: Global,
+    kind: &str,
+    products: &[Product],
+    finding: &Finding<'_>,
+) -> Result<(), AllocError> {
+    for (index, product) in products.iter().enumerate() {
+        if product.name.as_deref() == Some(finding.feature) {
+            let mut path = below(alloc, "", kind)?;
+            push_item(&mut path, index)?;
+            let list = below(alloc, path.as_str(), "required-features")?;
+            let texts = product.required_features.as_slice();
+            push_text(paths, list.as_str(), texts, finding.text)?;
+            paths.push(path)?;
+        }
+    }
+    Ok(())
+}
+
+fn unreadable(
+    alloc: Global,
+    file: &str,
+    text: &str,
+    judging: Judging<'_>,
+) -> Result<(String, bool), Error> {
+    let mut lines = String::new(alloc);
+    for told in faults_in(alloc, text)? {
+        push_line(alloc, &mut lines, line_of(file, &told), judging.json)?;
+    }
+    Ok((lines, true))
+}
+
+fn line_of<'a>(file: &'a str, told: &'a Told) -> Line<'a> {
+    Line {
+        file,
+        place: told.place,
+        level: "error",
+        code: "unreadable",
+        feature: told.key.as_str(),
+        text: "",
+        words: told.words.as_str(),
+    }
+}
+
+/// Writes a line `FILE:LINE:COLUMN: LEVEL | CODE | FEATURE | TEXT | words`, or the same as JSON.
+fn push_line(
+    alloc: Global,
+    lines: &mut String,
+    line: Line<'_>,
+    json: bool,
+) -> Result<(), AllocError> {
+    if json {
+        lines.push_str(object_of(alloc, line)?.to_string(alloc)?.as_str())?;
+        return lines.push_str("\n");
+    }
+    push_place(lines, line.file, line.place)?;
+    lines.push_str(line.level)?;
+    for cell in &[line.code, line.feature, line.text, line.words.trim_end()] {
+        lines.push_str(" | ")?;
+        push_escaped(lines, *cell, Format::Line)?;
+    }
+    lines.push_str("\n")
+}
+
+fn object_of(alloc: Global, line: Line<'_>) -> Result<Json, AllocError> {
+    let mut object = Map::new(alloc);
+    put_text(alloc, &mut object, "file", Some(line.file))?;
+    put(&mut object, alloc, "line", Json::from(line.place.0))?;
+    put(&mut object, alloc, "column", Json::from(line.place.1))?;
+    put_text(alloc, &mut object, "level", Some(line.level))?;
+    put_text(alloc, &mut object, "code", Some(line.code))?;
+    put_text(alloc, &mut object, "feature", Some(line.feature))?;
+    put_text(alloc, &mut object, "text", Some(line.text))?;
+    put_text(alloc, &mut object, "words", Some(line.words.trim_end()))?;
+    Ok(Json::from(object))
+}

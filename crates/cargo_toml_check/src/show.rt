@@ -1,0 +1,89 @@
+//! A manifest as text: TOML, or the same as JSON.
+ghost use Rattle.std.specs.Prelude.{◌≡◌, IfOk, Some, string_bytes};
+ghost use Rattle.serde_json.specs.Data.{array, no_members, object};
+ghost use Rattle.serde_json.specs.View.{view as json_view};
+ghost use Rattle.toml.specs.Data.{table};
+ghost use Rattle.toml.specs.View.{view, array_view, table_view};
+ghost use Rattle.cargo_toml.specs.Manifests.{manifest_meaning};
+ghost use Rattle.cargo_toml.specs.Reread.{IsTold, reread};
+ghost use Rattle.cargo_toml_check.specs.Blamed.{reads};
+ghost use Rattle.cargo_toml_check.specs.Shown.{IsShown, IsShownAsJson, json_items, json_of};
+ghost use Rattle.cargo_toml_check.specs.Shown.{with_json};
+
+use cargo_toml::{Error, Manifest, ToValue};
+use cargo_toml_write::write::package::value_metadata;
+use serde_json::{Map, Value as Json, push, put};
+use std::alloc::{AllocError, Global};
+use toml::value::Array;
+use toml::{Table, Value};
+
+/// The text of a manifest.
+pub fn manifest_toml(alloc: Global, manifest: &Manifest) -> Result<String, Error>
+    ensures { IfOk result
+        (λ text. IsShown (manifest_meaning view manifest.now) (string_bytes text)) }
+{
+    let tree = tree_of(alloc, manifest)?;
+    match toml::table_to_string(alloc, &tree) {
+        Ok(text) => Ok(text),
+        Err(_) => Err(Error::Other("a manifest that can't be printed")),
+    }
+}
+
+/// The same as an object of JSON, in which a date is a text.
+pub fn manifest_json(alloc: Global, manifest: &Manifest) -> Result<String, Error>
+    ensures { IfOk result
+        (λ text. IsShownAsJson (manifest_meaning view manifest.now) (string_bytes text)) }
+{
+    let tree = tree_of(alloc, manifest)?;
+    let json = object_of(alloc, &tree)?;
+    Ok(json.to_string(alloc)?)
+}
+
+/// The tree that a manifest is written to.
+fn tree_of(alloc: Global, manifest: &Manifest) -> Result<Table, Error>
+    ensures { IsTold (manifest_meaning view manifest.now) → IfOk result
+        (λ t. reads (table (table_view t)) ≡ Some (reread (manifest_meaning view manifest.now))) }
+{
+    value_metadata(&None);
+    match manifest.to_value(alloc)? {
+        Value::Table(table) => Ok(table),
+        _ => Err(Error::Other("a manifest that is no table")),
+    }
+}
+
+#[cycle(json)]
+fn json_of(alloc: Global, value: &Value) -> Result<Json, AllocError>
+    ensures { IfOk result (λ j. json_view j ≡ json_of (view value.now)) }
+{
+    match value {
+        Value::String(text) => Json::try_from_str(alloc, text.as_str()),
+        Value::Integer(number) => Ok(Json::from(*number)),
+        Value::Float(_) => Ok(Json::from(())),
+        Value::Boolean(flag) => Ok(Json::from(*flag)),
+        Value::Datetime(date) => Ok(Json::from(format!(in alloc; "{date}")?)),
+        Value::Array(items) => array_of(alloc, items),
+        Value::Table(members) => object_of(alloc, members),
+    }
+}
+
+#[cycle(json)]
+fn array_of(alloc: Global, list: &Array) -> Result<Json, AllocError>
+    ensures { IfOk result (λ j. json_view j ≡ array (json_items (array_view list.now))) }
+{
+    let mut items = Vec::new(alloc);
+    'items: for item in list {
+        push(&mut items, json_of(alloc, item)?)?;
+    }
+    Ok(Json::from(items))
+}
+
+#[cycle(json)]
+fn object_of(alloc: Global, tree: &Table) -> Result<Json, AllocError>
+    ensures { IfOk result (λ j. json_view j ≡ object (with_json (table_view tree.now) no_members)) }
+{
+    let mut members = Map::new(alloc);
+    'members: for (key, member) in tree.iter() {
+        put(&mut members, alloc, key.as_str(), json_of(alloc, member)?)?;
+    }
+    Ok(Json::from(members))
+}

@@ -201,8 +201,8 @@ def findings(program, paths):
     done = subprocess.run([*program, "lint", *paths], capture_output=True, text=True)
     for line in done.stdout.splitlines():
         fields = [unescaped(field) for field in line.split(" | ")]
-        path, level = fields[0].split(": ", 1)
-        found[path].add((level, *fields[1:4]))
+        place, level = fields[0].rsplit(": ", 1)
+        found[place.rsplit(":", 2)[0]].add((level, *fields[1:4]))
     return found
 
 

@@ -750,7 +750,9 @@ def told(tool, path):
     words = [PROGRAM, *WORDS[tool], path]
     done = subprocess.run(words, capture_output=True, text=True, check=False)
     if tool in TELLING and not done.stderr:
-        return f"{done.stdout}status {done.returncode}\n"
+        # where a finding stands, the program alone says
+        text = re.sub(r"(?m)^.*?:\d+:\d+: ", "", done.stdout) if tool == "lint" else done.stdout
+        return f"{text}status {done.returncode}\n"
     return done.stdout or done.stderr
 
 

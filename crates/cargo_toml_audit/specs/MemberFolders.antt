@@ -1,5 +1,6 @@
 -- The folders that entries of `members` lead to, by what the system answers of paths.
-use Rattle.std.specs.Prelude.{◌≡◌, ◌++◌, ◌&&◌, ◌||◌, ◌==◌, ℕ, suc, zero, Bool, true, false, List, []}
+use Rattle.std.specs.Prelude.{◌≡◌, ◌++◌, ◌&&◌, ◌||◌, ◌==◌, ℕ, suc, zero, Bool, true, false}
+use Rattle.std.specs.Prelude.{List, []}
 use Rattle.std.specs.Prelude.{None, Option, Some}
 use Rattle.std.specs.Prelude.{◌∷◌, Err, Ok, Result, String, bytes_eq, codes, filter, if◌then◌else◌}
 use Rattle.std.specs.Prelude.{is_none, length, map, nat_eq, not, string_bytes, unwrap_or}

@@ -97,8 +97,9 @@ pub fn included(
     places: &[String],
 ) -> Result<Vec<String>, AllocError>
     ensures { IfOk result (λ all. map string_bytes all.items
-        ≡ filter (λ p. not (excludes limits.entry.root.now (map string_bytes limits.entry.exclude.now)
-        (map string_bytes limits.entry.members.now) p)) (map string_bytes places.now)) }
+        ≡ filter (λ p. not (excludes limits.entry.root.now
+        (map string_bytes limits.entry.exclude.now) (map string_bytes limits.entry.members.now) p))
+        (map string_bytes places.now)) }
 {
     let mut all = Vec::new(alloc);
     for place in places {

@@ -5,7 +5,8 @@ ghost use Rattle.std.specs.Prelude.{option_map};
 ghost use Rattle.std.specs.Str.{chars};
 ghost use Rattle.cargo_toml_audit.specs.Patterns.{accepts, is_among, is_deep, is_many};
 ghost use Rattle.cargo_toml_audit.specs.Patterns.{is_pattern, is_range, is_sign, matches, part_of};
-ghost use Rattle.cargo_toml_audit.specs.Patterns.{read_all, read_in_brackets, read_more, read_of, read_plain};
+ghost use Rattle.cargo_toml_audit.specs.Patterns.{read_all, read_in_brackets, read_more};
+ghost use Rattle.cargo_toml_audit.specs.Patterns.{read_of, read_plain};
 ghost use Rattle.cargo_toml_audit.specs.Patterns.{parts_of, whole_parts};
 ghost use Rattle.cargo_toml_audit.specs.Rows.{next, scan, shift};
 

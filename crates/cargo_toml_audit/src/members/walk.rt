@@ -1,15 +1,17 @@
 //! The folders that an entry of `members` leads to, as Cargo's globs find them.
 //!
-//! What the system answers is kept, and it is asked once of each path. So a clause speaks of any disk
-//! that answers so.
+//! What the system answers is kept, and it is asked once of each path. So a clause speaks of any
+//! disk that answers so.
 ghost use Rattle.std.specs.Prelude.{◌≡◌, ◌++◌, ◌&&◌, ◌∷◌, [], IfOk, OnOk, if◌then◌else◌, map};
 ghost use Rattle.std.specs.Prelude.{not, string_bytes};
 ghost use Rattle.std.specs.BTreeMap.{IsEmpty};
 ghost use Rattle.cargo_toml.specs.RealFiles.{is_absent};
 ghost use Rattle.cargo_toml_audit.specs.MemberFolders.{Adds, Tells, all_below, begins_at, below};
-ghost use Rattle.cargo_toml_audit.specs.MemberFolders.{by_found, by_link, ended, further, further_in};
+ghost use Rattle.cargo_toml_audit.specs.MemberFolders.{by_found, by_link, ended, further};
+ghost use Rattle.cargo_toml_audit.specs.MemberFolders.{further_in};
 ghost use Rattle.cargo_toml_audit.specs.MemberFolders.{is_plain, is_there, led, led_to, matched};
-ghost use Rattle.cargo_toml_audit.specs.MemberFolders.{named_so, own_if, path_if, place_if, places_of};
+ghost use Rattle.cargo_toml_audit.specs.MemberFolders.{named_so, own_if, path_if, place_if};
+ghost use Rattle.cargo_toml_audit.specs.MemberFolders.{places_of};
 ghost use Rattle.cargo_toml_audit.specs.MemberFolders.{skips, subfolders, with_dots};
 ghost use Rattle.cargo_toml_audit.specs.Patterns.{begins_with_dot, part_of};
 
@@ -98,7 +100,7 @@ fn of_found(found: &fs::Metadata) -> There
     }
 }
 
-/// The same where it can't follow the path, by why it can't, and by what it answers of a link there.
+/// The same where it can't follow the path: by why it can't, and by its answer of a link there.
 fn of_link(kind: io::ErrorKind, link: io::Result<fs::Metadata>) -> There
     ensures { result ≡ by_link (is_absent kind) link }
 {
@@ -403,7 +405,7 @@ fn with_dots(alloc: Global, names: Vec<String>, wants_dots: bool) -> Result<Vec<
     Ok(names)
 }
 
-/// Whether a pattern stands for `.` and `..` too: it begins with a dot, and isn't right behind `**`.
+/// Whether a pattern stands for `.` and `..` too: it begins with a dot, not right behind `**`.
 fn wants_dots(pattern: &[Token], is_behind: bool) -> bool
     ensures { result ≡ (not is_behind && begins_with_dot (map part_of pattern.now)) }
 {

@@ -19,14 +19,10 @@ impl Clone for Costly {
     }
 }
 
-fn is_memory<T: Drop>(answer: Result<T, Error>) -> bool {
-    matches!(answer, Err(Error::Memory))
-}
-
 #[test]
 fn refused_memory_of_a_copy(rt: HostRuntime) {
     let mut own: Inheritable<Costly> = Inheritable::Inherited;
-    assert!(rt; is_memory(own.inherit(&Costly)));
+    assert!(rt; matches!(own.inherit(&Costly), Err(Error::Memory)));
     assert!(rt; !own.is_set());
 }
 
@@ -67,6 +63,6 @@ fn refused_memory_of_a_state(rt: HostRuntime) -> Result<(), Fail> {
     };
     let resolver = Resolver::new_with_hasher_and_filter(state, &keep);
     let held = HeldManifest::from_str(alloc, "features = { a = [] }")?;
-    assert!(rt; is_memory(resolver.parse(alloc, &*held.manifest)));
+    assert!(rt; matches!(resolver.parse(alloc, &*held.manifest), Err(Error::Memory)));
     Ok(())
 }

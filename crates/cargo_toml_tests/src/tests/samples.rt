@@ -40,8 +40,6 @@ fn helpers_over_features_and_metadata(rt: HostRuntime) -> Result<(), Fail> {
     let held = HeldManifest::from_str(alloc, text)?;
     assert!(rt; documents_all(&held.manifest));
     let resolved = Resolver::new().parse(alloc, &held.manifest)?;
-    let count = count_enabled(alloc, &resolved);
-    drop(resolved);
-    assert_eq!(rt; count?, 4);
+    assert_eq!(rt; count_enabled(alloc, &resolved)?, 4);
     Ok(())
 }

@@ -31,9 +31,10 @@ class Program:
     def say(self, text):
         print(f"{self.name}: {text}", file=sys.stderr, flush=True)
 
-    def asked(self, script):
-        """Whether a script that is asked about this program says yes, and what it prints."""
-        words = [f"{self.root}/scripts/{script}", self.root, self.crate]
+    def asked(self, script, crate=None):
+        """Whether a script that is asked about the program's crate, or about another one, says yes,
+        and what it prints."""
+        words = [f"{self.root}/scripts/{script}", self.root, crate or self.crate]
         how = {"stdin": subprocess.DEVNULL, "stdout": subprocess.PIPE, "text": True}
         ran = subprocess.run(words, check=False, **how)
         return ran.returncode == 0, ran.stdout.strip()
@@ -107,20 +108,22 @@ def room(program, places):
             shutil.rmtree(made or "", ignore_errors=True)
 
 
-def copy_crates(program, to):
+def copy_crates(program, to, also=()):
     """Copies the crates that the program stands on and their lines of crates.txt, and returns what
-    each stands on.
+    each stands on. The same of other crates, where they are there.
 
     Wrong bodies are for the gate alone."""
     crates = program.asked("closure")[1].split()
     if not crates:
         raise OSError("scripts/closure finds no crate")
+    for crate in also:
+        crates += program.asked("closure", crate)[1].split()
 
     def left_out(at, _):
         return ["out", "must-fail"] if os.path.dirname(at) == f"{program.root}/crates" else []
 
     os.mkdir(to)
-    for name in crates:
+    for name in dict.fromkeys(crates):
         folder = f"{program.root}/crates/{name}"
         shutil.copytree(folder, f"{to}/crates/{name}", symlinks=True, ignore=left_out)
     shutil.copy(f"{program.root}/HANDLES", to)

@@ -14,25 +14,25 @@ pub use Rattle.cargo_toml_parts.specs.Inherits
 pub use Rattle.cargo_toml_parts.specs.Lending
 pub use Rattle.cargo_toml_parts.specs.Numbers
 pub use Rattle.cargo_toml_parts.specs.OwnWords
-pub use Rattle.cargo_toml_tables.specs.ProfileSettings
+pub use Rattle.cargo_toml_parts.specs.ProfileSettings
 pub use Rattle.cargo_toml_parts.specs.Readings
 pub use Rattle.cargo_toml_parts.specs.Reads
-pub use Rattle.cargo_toml_tables.specs.SettingAnswers
-pub use Rattle.cargo_toml_tables.specs.Settings
-pub use Rattle.cargo_toml_tables.specs.SettingsLaws
+pub use Rattle.cargo_toml_parts.specs.SettingAnswers
+pub use Rattle.cargo_toml_parts.specs.Settings
+pub use Rattle.cargo_toml_parts.specs.SettingsLaws
 pub use Rattle.cargo_toml_parts.specs.Versions
 pub use Rattle.cargo_toml_parts.specs.Wrapping
-pub use Rattle.cargo_toml_tables.specs.Badges
-pub use Rattle.cargo_toml_tables.specs.Lints
-pub use Rattle.cargo_toml_tables.specs.Products
-pub use Rattle.cargo_toml_tables.specs.Profiles
-pub use Rattle.cargo_toml_dependencies.specs.Dependencies
-pub use Rattle.cargo_toml_dependencies.specs.DependencyAnswers
-pub use Rattle.cargo_toml_dependencies.specs.DependencyLending
-pub use Rattle.cargo_toml_dependencies.specs.Details
-pub use Rattle.cargo_toml_dependencies.specs.Features
-pub use Rattle.cargo_toml_dependencies.specs.Inheriting as InheritedDependencies
-pub use Rattle.cargo_toml_dependencies.specs.Targets
+pub use Rattle.cargo_toml_parts.specs.Badges
+pub use Rattle.cargo_toml_parts.specs.Lints
+pub use Rattle.cargo_toml_parts.specs.Products
+pub use Rattle.cargo_toml_parts.specs.Profiles
+pub use Rattle.cargo_toml_package.specs.Dependencies
+pub use Rattle.cargo_toml_package.specs.DependencyAnswers
+pub use Rattle.cargo_toml_package.specs.DependencyLending
+pub use Rattle.cargo_toml_package.specs.Details
+pub use Rattle.cargo_toml_package.specs.Features
+pub use Rattle.cargo_toml_package.specs.InheritedDependencies
+pub use Rattle.cargo_toml_package.specs.Targets
 pub use Rattle.cargo_toml_parts.specs.Keys
 pub use Rattle.cargo_toml_package.specs.Inheriting as InheritedPackages
 pub use Rattle.cargo_toml_package.specs.PackageAnswers
@@ -63,13 +63,13 @@ pub use Rattle.cargo_toml_discovery.specs.Told as ToldFolders
 pub use Rattle.cargo_toml_package.specs.Sharing
 pub use Rattle.cargo_toml_package.specs.Workspaces
 pub use Rattle.cargo_toml_write.specs.Asked
+pub use Rattle.cargo_toml_write.specs.Lawful
 pub use Rattle.cargo_toml_write.specs.Requirements
 pub use Rattle.cargo_toml_write.specs.Reread
 pub use Rattle.cargo_toml_write.specs.Ways
 pub use Rattle.cargo_toml_write.specs.WrittenDependencies
 pub use Rattle.cargo_toml_write.specs.WrittenManifests
 pub use Rattle.cargo_toml_write.specs.WrittenPackages
-pub use Rattle.cargo_toml_write.specs.WrittenSettings
 pub use Rattle.cargo_toml_write.specs.WrittenTables
 pub use Rattle.cargo_toml_write.specs.Writes
 pub use Rattle.cargo_toml_graph.specs.Action
@@ -87,7 +87,7 @@ pub use Rattle.cargo_toml_resolve.specs.Removed
 pub use Rattle.cargo_toml_features.specs.Agreement
 pub use Rattle.cargo_toml_features.specs.Entries
 pub use Rattle.cargo_toml_features.specs.FirstTarget
-pub use Rattle.cargo_toml_full.specs.OwnBins
+pub use Rattle.cargo_toml_features.specs.OwnBins
 pub use Rattle.cargo_toml_features.specs.Hashed
 pub use Rattle.cargo_toml_features.specs.Marks
 pub use Rattle.cargo_toml_features.specs.Recorded
@@ -99,13 +99,13 @@ pub use Rattle.cargo_toml_features.specs.NonDefault
 -- what proofs alone use: nothing here has to be believed
 pub use Rattle.cargo_toml_parts.specs.Copies
 pub use Rattle.cargo_toml_features.specs.InOrder
-pub use Rattle.cargo_toml_full.specs.Reading
-pub use Rattle.cargo_toml_full.specs.Slots
+pub use Rattle.cargo_toml_features.specs.Reading
+pub use Rattle.cargo_toml_features.specs.Slots
 -- the same of the types that a caller's own definitions name, with their variants
 pub use Rattle.cargo_toml_parts.specs.declared.error.Error
 pub use Rattle.cargo_toml_parts.specs.declared.error.ParseFault
 pub use Rattle.cargo_toml_parts.specs.declared.inheritable.Inheritable
-pub use Rattle.cargo_toml_dependencies.specs.declared.dependency.Dependency
+pub use Rattle.cargo_toml_package.specs.declared.dependency.Dependency
 pub use Rattle.cargo_toml_package.specs.declared.package.Package
 pub use Rattle.cargo_toml_manifest.specs.declared.manifest.Manifest
 pub use Rattle.cargo_toml_package.specs.declared.workspace.Workspace

@@ -6,18 +6,16 @@
 
 pub mod features;
 
-pub use cargo_toml_dependencies::{
-    Dependency, DependencyDetail, DepsSet, FeatureDetail, FeatureDetails, FeatureSet,
-    InheritedDependencyDetail, PatchSet, Target, TargetDepsSet,
-};
 pub use cargo_toml_manifest::{
     AbstractFilesystem, Filesystem, Manifest, NoRoot, OwnRoot, ParsedRoot, Roots, Workspace,
 };
-pub use cargo_toml_package::{Package, PackageTemplate};
-pub use cargo_toml_parts::{Error, FromValue, Inheritable, ParseFault, SemVer, Value, VersionReq};
-pub use cargo_toml_tables::{
-    Badge, Badges, DebugSetting, Edition, Lint, LintGroups, LintLevel, LintSet, LtoSetting,
-    Maintenance, MaintenanceStatus, OptionalFile, Product, Profile, Profiles, Publish, Resolver,
-    StripSetting,
+pub use cargo_toml_package::{
+    Dependency, DependencyDetail, DepsSet, FeatureDetail, FeatureDetails, FeatureSet,
+    InheritedDependencyDetail, Package, PackageTemplate, PatchSet, Target, TargetDepsSet,
+};
+pub use cargo_toml_parts::{
+    Badge, Badges, DebugSetting, Edition, Error, FromValue, Inheritable, Lint, LintGroups,
+    LintLevel, LintSet, LtoSetting, Maintenance, MaintenanceStatus, OptionalFile, ParseFault,
+    Product, Profile, Profiles, Publish, Resolver, SemVer, StripSetting, Value, VersionReq,
 };
 pub use cargo_toml_write::ToValue;

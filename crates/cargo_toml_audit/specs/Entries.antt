@@ -13,7 +13,7 @@ use Rattle.cargo_toml.specs.Kind.TheVariants.{Build, Dev, Normal}
 use Rattle.cargo_toml.specs.Manifests.{ManifestMeaning}
 use Rattle.cargo_toml.specs.Requirements.{requirement_text}
 use Rattle.cargo_toml.specs.Targets.{TargetMeaning}
-use Rattle.cargo_toml_dependencies.specs.Replacing.{entries_meaning}
+use Rattle.cargo_toml_package.specs.Replacing.{entries_meaning}
 use Rattle.cargo_toml_tools.specs.IndexEntries.{required_version}
 use Rattle.cargo_toml_tools.specs.Indexed.{all_by_kind, target_by_kind, with_kinds}
 use Rattle.cargo_toml_audit.specs.declared.audit.Use.{Use}

@@ -1,15 +1,9 @@
 -- What a resolver answers, by its filter and at its limit.
 use Rattle.std.proofs.Common.{arith, ◌≡◌, ℕ, Bool, List, Option, None, false, is_some, Bor, refl, subst}
 use Rattle.cargo_toml_graph.proofs.Texts.{by_true}
-use Rattle.cargo_toml.specs.Action.{Text}
-use Rattle.cargo_toml.specs.Admitted.{Listed}
 use Rattle.cargo_toml.specs.Filter.{Asked, FilterTells}
-use Rattle.cargo_toml.specs.Manifests.{ManifestMeaning}
-use Rattle.cargo_toml.specs.Marks.{NamedDetails}
 use Rattle.cargo_toml.specs.Parsed.{AreBinsComplete, IsAnswerFor, IsParsed, parsed_table}
-use Rattle.cargo_toml.specs.Recorded.{Entry}
-use Rattle.cargo_toml.specs.Removal.{is_removed}
-use Rattle.cargo_toml.specs.Resolved.{Answer}
+use Rattle.cargo_toml.specs.{Action.Text, Admitted.Listed, Manifests.ManifestMeaning, Marks.NamedDetails, Recorded.Entry, Removal.is_removed, Resolved.Answer}
 
 -- without a filter no hidden name is kept
 pub tells_none : {F : Type 0} (g : Asked F) (filter : Option (Bor F)) (keep : Text → Bool) → filter ≡ None → ((n : Text) → keep n ≡ false) → FilterTells g filter keep

@@ -2,5 +2,6 @@ mod Asked
 mod Unreferenced
 mod ToldAt
 mod Taken
-mod Hiding
 mod Resolving
+pub mod Filtered
+pub mod Holding

@@ -1,36 +1,18 @@
 -- From an answer with nothing removed, and what taking hidden features out leaves of it, to the answer without them.
-use Rattle.std.proofs.Common.{arith, ◌≡◌, ◌⊎◌, ◌↔◌, ◌&&◌, ◌++◌, ◌==◌, length, not, Bool, true, List, [], ◌∷◌, append-nil, Bor, codes, nat_eq, Option, Some, None, IsTrue, IsSome, IfSome, is_some, option_map, refl, sym, ap, subst, inl, inr, ◌∙◌}
-use Rattle.std.proofs.lemmas.Bool.{cases_Bool, eqb-true, false≢true, false_from_ne_true, not_from_false}
-use Rattle.std.specs.HashMap.{HashMap}
-use Rattle.std.specs.BTreeSet.{BTreeSet}
-use Rattle.std.specs.List.{starts_with}
-use Rattle.std.specs.Option.{IsSomeAnd}
-use Rattle.cargo_toml_features.specs.declared.features.Feature.{Feature}
-use Rattle.cargo_toml_features.specs.declared.features.Features.{Features}
-use Rattle.cargo_toml_graph.specs.Ascending.{Ascend}
-use Rattle.cargo_toml_graph.specs.Action.{Text}
-use Rattle.cargo_toml_graph.specs.Admitted.{Listed, is_below}
-use Rattle.cargo_toml_graph.specs.Bins.{ArePassedOn, IsPassed}
-use Rattle.cargo_toml_graph.specs.Graph.{IsResolved, Table}
-use Rattle.cargo_toml_graph.specs.Reach.{Among}
-use Rattle.cargo_toml_graph.specs.Redirects.{RedirectsTo}
-use Rattle.cargo_toml_graph.specs.Removal.{SameKept, lists_text, is_removed, unremoved, without_all}
-use Rattle.cargo_toml_graph.proofs.BinLists.{among-true, is_among-true}
-use Rattle.cargo_toml_graph.proofs.Edges.{unremoved_is}
-use Rattle.cargo_toml_graph.proofs.Elimination.{all_taken_out}
-use Rattle.cargo_toml_graph.proofs.InByteOrder.{ascending_once, passed_has, removed_there}
-use Rattle.cargo_toml_graph.proofs.Members.{label_within, resolved_alike}
-use Rattle.cargo_toml_graph.proofs.RedirectsInOrder.{redirect_by_bytes}
-use Rattle.cargo_toml_graph.proofs.Settled.{resolution_settled}
-use Rattle.cargo_toml_graph.proofs.Unremoved.{resolved_unremoved}
-use Rattle.cargo_toml_features.specs.Marks.{NamedDetails}
-use Rattle.cargo_toml_features.specs.Recorded.{Entry}
-use Rattle.cargo_toml_features.specs.Resolved.{IsAnswer, table_of}
-use Rattle.cargo_toml_features.specs.Views.{answer_of, set_has, resolution_of, table_in, value_at}
+use Rattle.std.proofs.Common.{arith, ◌≡◌, ◌↔◌, ◌&&◌, ◌++◌, ◌==◌, length, not, Bool, true, List, [], ◌∷◌, append-nil, Bor, codes, nat_eq, Option, Some, None, IsTrue, IsSome, IfSome, is_some, option_map, refl, sym, ap, subst, inl, inr, ◌∙◌}
+use Rattle.std.proofs.Math.Bool.{and_assoc}
+use Rattle.std.proofs.lemmas.Bool.{and_parts, cases_Bool, eqb-true, false≢true, false_from_ne_true, not_from_false}
+use Rattle.std.specs.{BTreeSet.BTreeSet, HashMap.HashMap, List.starts_with, Option.IsSomeAnd, Prelude.filter}
+use Rattle.cargo_toml_features.specs.declared.features.{Feature.Feature, Features.Features}
+use Rattle.cargo_toml_graph.specs.{Ascending.Ascend, Action.Text, Admitted.Listed, Admitted.is_below, Bins.ArePassedOn, Bins.IsPassed, Graph.IsResolved, Graph.Resolution, Graph.Table, Reach.Among, Reach.IsOnce, Redirects.RedirectsTo}
+use Rattle.cargo_toml_graph.specs.Removal.{SameKept, lists_text, is_removed, unremoved, without_all, without_one}
+use Rattle.cargo_toml_graph.proofs.{BinLists.among-true, BinLists.is_among-true, Edges.unremoved_is, Elimination.all_taken_out, InByteOrder.ascending_once, InByteOrder.passed_has, InByteOrder.removed_there, RedirectsInOrder.redirect_by_bytes}
+use Rattle.cargo_toml_graph.proofs.{Settled.resolution_settled, Unremoved.resolved_unremoved}
+use Rattle.cargo_toml_features.specs.{Marks.NamedDetails, Recorded.Entry, Resolved.IsAnswer, Resolved.IsAnswerWithout, Resolved.table_of, Views.answer_of, Views.set_has, Views.resolution_of, Views.value_at}
 use Rattle.cargo_toml_resolve.specs.Texts.{texts_now}
-use Rattle.cargo_toml_resolve.proofs.AgainstAll.{resolved_same}
-use Rattle.cargo_toml_bench.specs.Removing.{AreTakenOut, Redirected, bins_at}
-use Rattle.cargo_toml_bench.proofs.Unreferenced.{nothing_removed}
+use Rattle.cargo_toml_resolve.proofs.{AgainstAll.resolved_same, ByFilter.answer_alike}
+use Rattle.cargo_toml_bench.specs.Removing.{AreNames, AreTakenOut, HasNames, HaveRedirects, Redirected, bins_at, is_hidden, key_at}
+use Rattle.cargo_toml_bench.proofs.{Filtered.those_among, Filtered.those_ascend, Unreferenced.nothing_removed}
 
 abbrev Below : Text → Text → Type 0
 Below a b = IsTrue (is_below a b)
@@ -43,16 +25,17 @@ some_is b (x ∷ xs) e = (λ y. (x.now, inl refl), λ s. not_from_false b (false
     long : length (x ∷ xs) ≡ 0 → ⊥
     long none = omega arith
 
--- where a text stands in a list
-record Stands (xs : List Text) (x : Text) : Type 0 where
+-- where a text stands in a list, and what is put aside of it
+record Stands {S : Type 0} (m : Resolution) (hidden : Redirected S) (xs : List Text) (x : Text) : Type 0 where
   before : List Text
   after : List Text
   whole : xs ≡ before ++ x ∷ after
+  names : HasNames hidden x ((without_all before m).table.names x)
 
-stands : (xs : List Text) (x : Text) → Among xs x → Stands xs x
-stands [] x i = absurd i
-stands (y ∷ ys) x (inl e) = record { before = []; after = ys; whole = ap (λ z. z ∷ ys) (sym e) }
-stands (y ∷ ys) x (inr i) = let s = stands ys x i in record { before = y ∷ s.before; after = s.after; whole = ap (λ zs. y ∷ zs) s.whole }
+stands : {S : Type 0} (m : Resolution) (hidden : Redirected S) (xs : List Text) (x : Text) → HaveRedirects xs m hidden → Among xs x → Stands m hidden xs x
+stands m hidden [] x h i = absurd i
+stands m hidden (y ∷ ys) x h (inl e) = record { before = []; after = ys; whole = ap (λ z. z ∷ ys) (sym e); names = subst (λ z. HasNames hidden z (m.table.names z)) (sym e) h.0 }
+stands m hidden (y ∷ ys) x h (inr i) = let s = stands (without_one y m) hidden ys x h.1 i in record { before = y ∷ s.before; after = s.after; whole = ap (λ zs. y ∷ zs) s.whole; names = s.names }
 
 module _ {S H : Type 0} (listed : Listed) (entries : List Entry) (details : NamedDetails) (own : Text → List Text) (old : Features S H)
     (whole : IsAnswer listed entries details own (λ _. true) (answer_of old)) where
@@ -60,100 +43,94 @@ module _ {S H : Type 0} (listed : Listed) (entries : List Entry) (details : Name
   t = table_of listed entries
 
   -- with nothing removed, the answer is the table, and has the binaries' own mentions
-  pub start : SameKept (unremoved t) (resolution_of old.features)
+  start : SameKept (unremoved t) (resolution_of old.features)
   start = resolution_settled t (λ f. IsTrue (is_removed t (λ _. true) f)) (unremoved t) (resolution_of old.features)
       (resolved_unremoved t (unremoved t) _ (nothing_removed t) (unremoved_is t)) whole.kept.resolved
 
-  pub own_bins : (f : Text) → IsSome (value_at old.features f) → bins_at old.features f ≡ own f
+  own_bins : (f : Text) → IsSome (value_at old.features f) → bins_at old.features f ≡ own f
   own_bins f there = let g = (whole.bins f there).lists in g.whole ∙ ap (λ xs. own f ++ xs) (go g.passed g.cause) ∙ append-nil (own f)
     where
       go : (xs : List Text) → ((x : Text) → Among xs x → IsPassed t (λ r. IsTrue (is_removed t (λ _. true) r)) own f x) → xs ≡ []
       go [] cause = refl
       go (x ∷ xs) cause = let c = cause x (inl refl) in absurd (nothing_removed t c.0 c.1)
 
-  module _ (keep : Text → Bool) (rs : List Text) (ascending : Ascend rs) (features : HashMap (Bor Text) Feature S) (before hidden : Redirected S) (none : (r : Text) → value_at before r ≡ None) (b : Bool)
-      (removed : (f : Text) → Among rs f ↔ IsTrue (is_removed (table_in old.features) keep f))
-      (taken : AreTakenOut (unremoved t) own rs old.features features before hidden)
-      (some : IsTrue b ↔ ((r : Text) × Among rs r)) where
-    abbrev R : Text → Type 0
-    R f = IsTrue (is_removed t keep f)
-
-    same_removed : (f : Text) → is_removed (table_in old.features) keep f ≡ is_removed t keep f
-    same_removed f = ap (λ h. (h && starts_with nat_eq f (codes "_")) && not (keep f)) (sym (start.has f))
-
-    into : (f : Text) → Among rs f → R f
-    into f i = sym (same_removed f) ∙ (removed f).0 i
-
-    back : (f : Text) → R f → Among rs f
-    back f r = (removed f).1 (same_removed f ∙ r)
+  -- the names that are hidden, of all names in order
+  module _ (keep : Text → Bool) (names rs : List Text) (all : (f : Text) → lists_text names f ≡ is_some (value_at old.features f)) (up : Ascend names) (are : rs ≡ filter (is_hidden keep) names) where
+    removed : (f : Text) → Among rs f ↔ IsTrue (is_removed t keep f)
+    removed f =
+        let by = those_among (is_hidden keep) names rs are f in
+        let same = and_assoc (t.has f) (starts_with nat_eq f (codes "_")) (not (keep f)) in (
+          λ i.
+              let p = by.0 i in
+              same ∙ ap (λ b. b && is_hidden keep f) (start.has f ∙ sym (all f) ∙ among-true names f p.0) ∙ p.1,
+          λ y.
+              let p = and_parts (t.has f) (is_hidden keep f) (sym same ∙ y) in
+              by.1 (is_among-true names f (all f ∙ sym (start.has f) ∙ p.0), p.1),
+        )
 
     there : (f : Text) → Among rs f → IsTrue (t.has f)
-    there f i = removed_there t keep f (into f i)
+    there f i = removed_there t keep f ((removed f).0 i)
 
-    among_resolved : IsResolved t (Among rs) (resolution_of features)
-    among_resolved = resolved_same t (Among rs) (without_all rs (unremoved t)) (resolution_of features) taken.left (all_taken_out t rs (unremoved t) (unremoved_is t) there (ascending_once rs ascending))
+    ascending : Ascend rs
+    ascending = those_ascend (is_hidden keep) names rs are up
 
-    resolved : IsResolved t R (resolution_of features)
-    resolved = resolved_alike t (Among rs) R into back (resolution_of features) among_resolved
+    module _ (features : HashMap (Bor Text) Feature S) (before hidden : Redirected S) (none : (r : Text) → value_at before r ≡ None) (b : Bool) (some : IsTrue b ↔ ((r : Text) × Among rs r))
+        (law : (m : Resolution) (own : Text → List Text) → SameKept m (resolution_of old.features) → ((f : Text) → IsSome (value_at old.features f) → bins_at old.features f ≡ own f)
+        → ((v : Text) → Among rs v → IsSome (value_at old.features v)) → IsOnce rs → AreNames old.features names → AreTakenOut m own rs old.features features before hidden) where
+      taken : AreTakenOut (unremoved t) own rs old.features features before hidden
+      taken = law (unremoved t) own start own_bins (λ v i. sym (start.has v) ∙ there v i) (ascending_once rs ascending)
+          (record { all = λ f y. is_among-true names f (all f ∙ y); once = ascending_once names up })
 
-    keyed_at : (f : Text) → IfSome (option_map (λ (v : Feature). v.key.now) (value_at features f)) (λ k. k ≡ f)
-    keyed_at f = grind (arith, there)
+      resolved : IsResolved t (Among rs) (resolution_of features)
+      resolved = resolved_same t (Among rs) (without_all rs (unremoved t)) (resolution_of features) taken.left (all_taken_out t rs (unremoved t) (unremoved_is t) there (ascending_once rs ascending))
 
-    passed_on : ArePassedOn t R own (λ f. bins_at features f)
-    passed_on = record {
-      order = rs;
-      in_order = record { ascending = ascending; members = λ r. (λ i. into r i, λ y. back r y) };
-      lists = λ f k. taken.bins f ((resolved.kept f).1 k);
-    }
+      keyed_at : (f : Text) → IfSome (option_map (λ (v : Feature). v.key.now) (value_at features f)) (λ k. k ≡ f)
+      keyed_at f = kept_key (value_at features f) (λ h. (taken.stays f h).1) (whole.kept.keyed f)
+        where
+          kept_key : (o : Option Feature) → (IsSome o → option_map (λ (v : Feature). v.key.now) o ≡ key_at old.features f) → IfSome (key_at old.features f) (λ k. k ≡ f)
+              → IfSome (option_map (λ (v : Feature). v.key.now) o) (λ k. k ≡ f)
+          kept_key None e h = tt
+          kept_key (Some v) e h = subst (λ p. IfSome p (λ k. k ≡ f)) (sym (e refl)) h
 
-    -- what is put aside of a removed feature, and nothing of another
-    put_aside : (r : Text) → (Among rs r × Stands rs r) ⊎ ((¬ Among rs r) × (value_at hidden r ≡ None))
-    put_aside r = elim (cases_Bool (lists_text rs r)) [
-      | inl y ↦ inl (is_among-true rs r y, stands rs r (is_among-true rs r y))
-      | inr n ↦ let out : ¬ Among rs r = λ i. false≢true (sym n ∙ among-true rs r i) in inr (out, taken.others r out ∙ none r)
-    ]
+      passed_on : ArePassedOn t (Among rs) own (λ f. bins_at features f)
+      passed_on = record {
+        order = rs;
+        in_order = record { ascending = ascending; members = λ r. (λ i. i, λ i. i) };
+        lists = λ f k. taken.bins f ((resolved.kept f).1 k);
+      }
 
-    redirected_as : (r : Text) → is_some (option_map set_has (value_at hidden r)) ≡ is_removed t keep r
-    redirected_as r = elim (put_aside r) [
-      | inl p ↦ some_there _ (value_at hidden r) (taken.redirects p.1.before p.1.after r p.1.whole) ∙ sym (into r p.0)
-      | inr p ↦ ap (λ o. is_some (option_map set_has o)) p.1 ∙ sym (false_from_ne_true _ (λ y. p.0 (back r y)))
-    ]
-      where
-        some_there : (P : BTreeSet (Bor Text) → Type 0) (o : Option (BTreeSet (Bor Text))) → IsSomeAnd o P → is_some (option_map set_has o) ≡ true
-        some_there P o h = grind arith
+      -- what stands for a text that may be removed
+      abbrev At : Text → Option (BTreeSet (Bor Text)) → Type 0
+      At r o = (IsSome (option_map set_has o) ↔ Among rs r) × IfSome (option_map set_has o) (λ names. (x : Text) → IsTrue (names x) ↔ RedirectsTo t (Among rs) Below r x)
 
-    redirected : (r : Text) → IsSome (option_map set_has (value_at hidden r)) ↔ R r
-    redirected r = (λ y. sym (redirected_as r) ∙ y, λ y. redirected_as r ∙ y)
+      at : (r : Text) → At r (value_at hidden r)
+      at r = elim (cases_Bool (lists_text rs r)) [
+        | inl y ↦ let i = is_among-true rs r y in let s = stands (unremoved t) hidden rs r taken.redirects i in go (value_at hidden r) i s s.names
+        | inr n ↦
+            let out : ¬ Among rs r = λ i. false≢true (sym n ∙ among-true rs r i) in
+            subst (At r) (sym (taken.others r out ∙ none r)) ((λ y. absurd (false≢true y), λ i. absurd (out i)), tt)
+      ]
+        where
+          go : (o : Option (BTreeSet (Bor Text))) → Among rs r → (s : Stands (unremoved t) hidden rs r) → IsSomeAnd o (λ names. (x : Text) → set_has names x ≡ (without_all s.before (unremoved t)).table.names r x) → At r o
+          go None i s h = absurd h
+          go (Some names) i s h = (
+            (λ y. i, λ i. refl),
+            λ x. subst (λ b. IsTrue b ↔ RedirectsTo t (Among rs) Below r x) (sym (h x))
+                (subst (λ xs. IsTrue ((without_all s.before (unremoved t)).table.names r x) ↔ RedirectsTo t (Among xs) Below r x) (sym s.whole)
+                (redirect_by_bytes t s.before r s.after (unremoved t) (unremoved_is t) (λ v i. there v (subst (λ xs. Among xs v) (sym s.whole) i)) (subst Ascend s.whole ascending) x)),
+          )
 
-    abbrev Earlier : Text → List Text → Text → Type 0
-    Earlier r xs v = Among xs v × Below v r
-
-    redirect_is : (r : Text) → IfSome (option_map set_has (value_at hidden r)) (λ names. (x : Text) → IsTrue (names x) ↔ RedirectsTo t R Below r x)
-    redirect_is r = elim (put_aside r) [
-      | inl p ↦ go (value_at hidden r) p.1 (taken.redirects p.1.before p.1.after r p.1.whole)
-      | inr p ↦ subst (λ o. IfSome (option_map set_has o) (λ names. (x : Text) → IsTrue (names x) ↔ RedirectsTo t R Below r x)) (sym p.1) tt
-    ]
-      where
-        go : (o : Option (BTreeSet (Bor Text))) (s : Stands rs r) → IsSomeAnd o (λ names. (x : Text) → set_has names x ≡ (without_all s.before (unremoved t)).table.names r x)
-            → IfSome (option_map set_has o) (λ names. (x : Text) → IsTrue (names x) ↔ RedirectsTo t R Below r x)
-        go None s h = absurd h
-        go (Some names) s h = λ x.
-            let exact = redirect_by_bytes t s.before r s.after (unremoved t) (unremoved_is t) (λ v i. there v (subst (λ xs. Among xs v) (sym s.whole) i)) (subst Ascend s.whole ascending) x in (
-              λ y. let n = exact.0 (sym (h x) ∙ y) in (label_within (λ b z. IsTrue (t.names b z)) (Earlier r (s.before ++ r ∷ s.after)) (λ v. R v × Below v r) (λ v p. (into v (subst (λ xs. Among xs v) (sym s.whole) p.0), p.1)) r x n.0, λ p. n.1 (subst (λ xs. Among xs x) s.whole (back x p.0), p.1)),
-              λ n. h x ∙ exact.1 (label_within (λ b z. IsTrue (t.names b z)) (λ v. R v × Below v r) (Earlier r (s.before ++ r ∷ s.after)) (λ v p. (subst (λ xs. Among xs v) s.whole (back v p.0), p.1)) r x n.0, λ p. n.1 (into x (subst (λ xs. Among xs x) (sym s.whole) p.0), p.1)),
-            )
-
-    pub answers : IsAnswer listed entries details own keep (answer_of (record old { features = features; removed_hidden_features = b; hidden_features = hidden }))
-    answers = record {
-      kept = record {
-        resolved = resolved;
-        keyed = keyed_at;
-        marks = λ f h. (taken.stays f h).2 ∙ whole.kept.marks f (sym (start.has f) ∙ ((resolved.kept f).0 h).0);
-        dependencies = whole.kept.dependencies;
-        some = (λ y. let s = some.0 y in (s.0, into s.0 s.1), λ s. some.1 (s.0, back s.0 s.1));
-      };
-      bins = λ f h. passed_has t R own (removed_there t keep) (λ f. bins_at features f) passed_on f ((resolved.kept f).0 h);
-      passed_on = passed_on;
-      redirected = redirected;
-      redirects = redirect_is;
-    }
+      pub answers : IsAnswer listed entries details own keep (answer_of (record old { features = features; removed_hidden_features = b; hidden_features = hidden }))
+      answers = answer_alike listed entries details own (Among rs) (λ r. IsTrue (is_removed t keep r)) _ (λ r. (removed r).0) (λ r. (removed r).1) (record {
+        kept = record {
+          resolved = resolved;
+          keyed = keyed_at;
+          marks = λ f h. (taken.stays f h).2 ∙ whole.kept.marks f (sym (start.has f) ∙ ((resolved.kept f).0 h).0);
+          dependencies = whole.kept.dependencies;
+          some = some;
+        };
+        bins = λ f h. passed_has t (Among rs) own there (λ f. bins_at features f) passed_on f ((resolved.kept f).0 h);
+        passed_on = passed_on;
+        redirected = λ r. (at r).0;
+        redirects = λ r. (at r).1;
+      })

@@ -1,8 +1,6 @@
 -- Two answers to one manifest that say the same, but for what is public and texts.
 use Rattle.std.specs.Prelude.{◌≡◌, IsTrue}
-use Rattle.cargo_toml.specs.Action.{Text}
-use Rattle.cargo_toml.specs.Agreement.{Agree}
-use Rattle.cargo_toml.specs.Resolved.{Answer}
+use Rattle.cargo_toml.specs.{Action.Text, Agreement.Agree, Resolved.Answer}
 
 pub record AreAlike (a b : Answer) : Type 0 where
   pub agree : Agree a b

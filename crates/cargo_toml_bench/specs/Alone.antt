@@ -1,13 +1,8 @@
 -- Features of a map that name no feature that enables them: words of a step of reporting, on which
 -- no public contract rests.
 use Rattle.std.specs.Prelude.{Bool, false, ◌&&◌, ◌==◌, not, bytes_eq, codes}
-use Rattle.std.specs.Borrow.{Bor}
-use Rattle.std.specs.BTreeSet.{btree_set_len}
-use Rattle.std.specs.HashMap.{HashMap}
-use Rattle.std.specs.Option.{option_map_or}
-use Rattle.cargo_toml.specs.Feature.{Feature}
-use Rattle.cargo_toml.specs.Action.{Text}
-use Rattle.cargo_toml.specs.Views.{value_at}
+use Rattle.std.specs.{Borrow.Bor, BTreeSet.btree_set_len, HashMap.HashMap, Option.option_map_or}
+use Rattle.cargo_toml.specs.{Feature.Feature, Action.Text, Views.value_at}
 
 -- a feature of the name f, other than `default`, without enablers
 abbrev pub is_alone : Text → Feature → Bool

@@ -1,21 +1,15 @@
 -- Which trees say who may rely on a package, and how that is written.
-use Rattle.std.specs.Prelude.{◌≡◌, ◌⊎◌, ℕ, List, codes, IsTrue, Option, Some}
-use Rattle.std.specs.Prelude.{None, Err, option_and_then, if◌then◌else◌, IsUtf8, refl}
+use Rattle.std.specs.Prelude.{◌≡◌, ◌⊎◌, ℕ, List, codes, IsTrue, Option, Some, None, Err}
+use Rattle.std.specs.Prelude.{option_and_then, if◌then◌else◌, refl}
+use Rattle.std.{specs.Str.bytes_eq, proofs.lemmas.Bool.false≢true}
 use Rattle.std.proofs.Common.{false, sym, subst}
-use Rattle.std.proofs.lemmas.Bool.{false≢true}
-use Rattle.std.specs.Str.{bytes_eq}
 use Rattle.toml.specs.Data.{Data, string, as_str}
-use Rattle.toml.specs.Parse.{parse_document}
-use Rattle.cargo_toml.specs.Error.{Error, Memory}
-use Rattle.cargo_toml.specs.Faults.{IsOther}
-use Rattle.cargo_toml.specs.Manifests.{ManifestMeaning, manifest_reads, ManifestRefuses}
-use Rattle.cargo_toml.specs.Texts.{document_reads, DocumentRefuses}
-use Rattle.cargo_toml.specs.Floats.{has_no_float}
-use Rattle.cargo_toml.specs.Writes.{Way, IsLawful, IsLawfulAt, IsWriting, never_left_out}
-use Rattle.cargo_toml.specs.WrittenManifests.{manifest_way}
+use Rattle.cargo_toml.specs.Writes.{Way, AreLawful, IsWriting, never_left_out}
+use Rattle.cargo_toml.specs.{Error.Error, Faults.IsOther, Manifests.ManifestMeaning}
+use Rattle.cargo_toml.specs.{Floats.has_no_float, WrittenManifests.manifest_way}
+use Rattle.cargo_toml_bench.specs.Printing.{IsTextOf, RefusesText}
 use Rattle.cargo_toml_bench.specs.declared.audience.Audience.{Audience}
-use Rattle.cargo_toml_bench.specs.declared.audience.Audience.TheVariants.{Everyone, Team}
-use Rattle.cargo_toml_bench.specs.declared.audience.Audience.TheVariants.{Undecided}
+use Rattle.cargo_toml_bench.specs.declared.audience.Audience.TheVariants.{Everyone, Team, Undecided}
 
 -- the audience that a text names, and that a tree does
 abbrev pub audience_named : List ℕ → Option Audience
@@ -36,44 +30,40 @@ IsAudienceTree Everyone d = d ≡ string (codes "everyone")
 IsAudienceTree Team d = d ≡ string (codes "team")
 IsAudienceTree Undecided d = ⊥
 
+abbrev pub IsUndecided : Audience → Error → Type 0
+IsUndecided x e = (x ≡ Undecided) × IsOther (codes "undecided audience") e
+
+-- none of these trees holds a float, and only what is settled has one
+floatless : (x : Audience) (d : Data) → IsAudienceTree x d → IsTrue (has_no_float d)
+floatless Everyone d is = subst (λ tree. IsTrue (has_no_float tree)) (sym is) refl
+floatless Team d is = subst (λ tree. IsTrue (has_no_float tree)) (sym is) refl
+floatless Undecided d is = absurd is
+
+pub settled : (x : Audience) → AreLawful (IsAudienceTree x) (¬ (x ≡ Undecided)) (IsUndecided x)
+settled x = record {
+  floatless = floatless x;
+  only = λ d is e. subst (λ y. IsAudienceTree y d) e is;
+  never = λ asked e refused. asked refused.0;
+}
+
 abbrev pub audience_way : Way Audience
 audience_way = record {
   trees = IsAudienceTree;
-  refuses = λ x e. (x ≡ Undecided) × IsOther (codes "undecided audience") e;
+  refuses = IsUndecided;
   left_out = never_left_out;
   asks = λ x. ¬ (x ≡ Undecided);
   asks_nothing = false;
+  lawful = settled;
+  nothing = λ is x. absurd (false≢true is);
 }
-
--- none of these trees holds a float, and only what is settled has one
-settled : (x : Audience) → IsLawfulAt audience_way x
-settled Everyone = record {
-  floatless = λ d is. subst (λ tree. IsTrue (has_no_float tree)) (sym is) refl;
-  only = λ d is x. absurd cc;
-  never = λ asked e refused. asked refused.0;
-}
-settled Team = record {
-  floatless = λ d is. subst (λ tree. IsTrue (has_no_float tree)) (sym is) refl;
-  only = λ d is x. absurd cc;
-  never = λ asked e refused. asked refused.0;
-}
-settled Undecided = record {
-  floatless = λ d tree. absurd tree;
-  only = λ d tree. absurd tree;
-  never = λ asked e refused. asked refl;
-}
-
-pub audience_lawful : IsLawful audience_way
-audience_lawful = record { each = settled; nothing = λ is x. absurd (false≢true is) }
 
 -- what the metadata of a manifest's package say
 abbrev pub audience_in : ManifestMeaning Audience → Option Audience
 audience_in m = option_and_then (λ p. p.metadata) m.«package»
 
 -- the bytes are the text of this manifest
-pub record IsOwnText (bytes : List ℕ) (m : ManifestMeaning Audience) : Type 0 where
-  pub text : IsUtf8 bytes
-  pub reads : document_reads (manifest_reads audience_reads) (parse_document bytes) ≡ Some m
+abbrev pub IsOwnText : List ℕ → ManifestMeaning Audience → Type 0
+IsOwnText bytes m = IsTextOf audience_reads bytes m
 
 -- the bytes are the text of a manifest whose package has this audience
 abbrev pub IsAudienceOf : List ℕ → Option Audience → Type 0
@@ -85,16 +75,9 @@ abbrev pub IsRewrittenOwn : List ℕ → Data → Type 0
 IsRewrittenOwn bytes tree =
     (m : ManifestMeaning Audience) × IsOwnText bytes m × (manifest_way audience_way).trees m tree
 
--- why there is no answer: there was no memory, the bytes are no text, or their document is refused
--- with this fault
+-- why there is no answer
 abbrev pub Refuses : List ℕ → Error → Type 0
-Refuses bytes e =
-    (e ≡ Memory)
-    ⊎ ((¬ IsUtf8 bytes) × IsOther (codes "utf8") e)
-    ⊎ (IsUtf8 bytes
-    × (document_reads (manifest_reads audience_reads) (parse_document bytes) ≡ None)
-    × DocumentRefuses (ManifestRefuses audience_reads AudienceRefuses) bytes
-    (parse_document bytes) e)
+Refuses bytes e = RefusesText audience_reads AudienceRefuses bytes e
 
 -- why no tree is written: the bytes are refused, or what they spell can't be written
 abbrev pub RefusesRewriting : List ℕ → Error → Type 0

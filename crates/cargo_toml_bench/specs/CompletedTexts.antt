@@ -1,15 +1,10 @@
 -- A member that is read, completed from its workspace, written, and read again.
 use Rattle.std.specs.Prelude.{ℕ, List, Some}
-use Rattle.toml.specs.View.{view}
-use Rattle.toml.specs.declared.value.Value.{Value}
+use Rattle.toml.specs.{View.view, declared.value.Value.Value}
 use Rattle.cargo_toml.specs.Choosing.{MayFind, RootsTold}
-use Rattle.cargo_toml.specs.Completed.{IsCompleted}
-use Rattle.cargo_toml.specs.Manifest.{Manifest}
-use Rattle.cargo_toml.specs.Manifests.{manifest_meaning}
-use Rattle.cargo_toml.specs.Sharing.{shared_of}
-use Rattle.cargo_toml.specs.ToldFolders.{Told}
-use Rattle.cargo_toml_bench.specs.Printing.{Spells}
-use Rattle.cargo_toml_bench.specs.Versioned.{IsPrinted}
+use Rattle.cargo_toml.specs.{Completed.IsCompleted, Manifest.Manifest, Manifests.manifest_meaning}
+use Rattle.cargo_toml.specs.{Sharing.shared_of, ToldFolders.Told}
+use Rattle.cargo_toml_bench.specs.{Printing.Spells, Versioned.IsPrinted}
 
 -- the text is printed of the member that the bytes spell, completed by the workspace that the
 -- root's bytes spell

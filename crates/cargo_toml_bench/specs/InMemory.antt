@@ -1,19 +1,14 @@
 -- What a file system in memory states.
 use Rattle.std.specs.Prelude.{ℕ, List, [], ◌∷◌, map, Bool, true, false, if◌then◌else◌, Option, Some}
 use Rattle.std.specs.Prelude.{None, option_map, is_some, Result, Ok, Err, String, string_bytes}
-use Rattle.std.specs.Str.{bytes_eq}
-use Rattle.std.specs.declared.alloc.Global.{Global}
-use Rattle.toml.specs.Data.{Data}
-use Rattle.toml.specs.Parse.{parse_document}
-use Rattle.cargo_toml.specs.Error.{Error}
-use Rattle.cargo_toml.specs.FaultValues.{fault_of}
-use Rattle.cargo_toml.specs.Manifests.{ManifestMeaning, manifest_reads}
-use Rattle.cargo_toml.specs.Texts.{any_tree, document_reads}
+use Rattle.std.specs.{Str.bytes_eq, declared.alloc.Global.Global}
+use Rattle.toml.specs.{Data.Data, Parse.parse_document}
 use Rattle.cargo_toml.specs.Told.{ToldRoot, root, no_root, open_root}
 use Rattle.cargo_toml.specs.ToldFolders.{Told, names, absent, denied, open_path}
-use Rattle.cargo_toml_bench.specs.declared.in_memory.Answer.{Answer}
+use Rattle.cargo_toml.specs.{Error.Error, FaultValues.fault_of, Manifests.ManifestMeaning}
+use Rattle.cargo_toml.specs.{Manifests.manifest_reads, Texts.any_tree, Texts.document_reads}
 use Rattle.cargo_toml_bench.specs.declared.in_memory.Answer.TheVariants.{Names, Denied, Open}
-use Rattle.cargo_toml_bench.specs.declared.in_memory.Root.{Root}
+use Rattle.cargo_toml_bench.specs.{declared.in_memory.Answer.Answer, declared.in_memory.Root.Root}
 
 abbrev pub told_of : Answer → Told
 told_of (Names texts) = names (map string_bytes texts.items)

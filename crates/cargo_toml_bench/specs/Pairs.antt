@@ -1,17 +1,11 @@
 -- What calls that are made one after another tell of a manifest.
 use Rattle.std.specs.Prelude.{◌≡◌, ◌↔◌, ℕ, Bool, false, IsTrue, List, Option, length}
-use Rattle.cargo_toml.specs.Action.{Text}
-use Rattle.cargo_toml.specs.Admitted.{Listed, admitted}
-use Rattle.cargo_toml.specs.Dependencies.{DependencyMeaning}
-use Rattle.cargo_toml.specs.Graph.{Table, IsKept, KeepsName}
-use Rattle.cargo_toml.specs.Limits.{MAX_ITEMS}
-use Rattle.cargo_toml.specs.Manifests.{ManifestMeaning}
-use Rattle.cargo_toml.specs.Parsed.{parsed_entries, parsed_table}
-use Rattle.cargo_toml.specs.Reach.{Among, IsOnce}
-use Rattle.cargo_toml.specs.Recorded.{Entry, entries_at, first_target}
-use Rattle.cargo_toml.specs.Recursive.{Enables}
-use Rattle.cargo_toml.specs.Removal.{is_removed}
-use Rattle.cargo_toml.specs.Resolved.{table_of}
+use Rattle.cargo_toml.specs.{Action.Text, Admitted.Listed, Admitted.admitted}
+use Rattle.cargo_toml.specs.{Dependencies.DependencyMeaning, Graph.Table, Graph.IsKept}
+use Rattle.cargo_toml.specs.{Graph.KeepsName, Limits.MAX_ITEMS, Manifests.ManifestMeaning}
+use Rattle.cargo_toml.specs.{Parsed.parsed_entries, Parsed.parsed_table, Reach.Among, Reach.IsOnce}
+use Rattle.cargo_toml.specs.{Recorded.Entry, Recorded.entries_at, Recorded.first_target}
+use Rattle.cargo_toml.specs.{Recursive.Enables, Removal.is_removed, Resolved.table_of}
 
 -- a hidden feature
 abbrev pub IsHidden : Table → Text → Type 0

@@ -1,38 +1,41 @@
 -- A report as text.
-use Rattle.std.specs.Prelude.{◌≡◌, ◌⊎◌, ℕ, List, [], ◌∷◌, ◌++◌, Some, None, IsUtf8, codes}
+use Rattle.std.specs.Prelude.{◌≡◌, ◌⊎◌, ℕ, List, [], ◌∷◌, ◌++◌, Option, Some, None, IsUtf8, codes}
 use Rattle.std.specs.List.{flat_map}
 use Rattle.std.specs.declared.io.Error.{Error as IoError}
-use Rattle.toml.specs.Data.{Data}
-use Rattle.toml.specs.Parse.{parse_document}
+use Rattle.toml.specs.{Data.Data, Parse.parse_document}
 use Rattle.cargo_toml.specs.Error.{Error, Io, Memory}
-use Rattle.cargo_toml.specs.Faults.{IsOther}
-use Rattle.cargo_toml.specs.Limits.{MAX_ITEMS}
 use Rattle.cargo_toml.specs.Manifests.{ManifestMeaning, manifest_reads, ManifestRefuses}
 use Rattle.cargo_toml.specs.Texts.{any_tree, AnyRefuses, document_reads, DocumentRefuses}
-use Rattle.cargo_toml.specs.Action.{Text}
-use Rattle.cargo_toml.specs.Parsed.{parsed_table}
+use Rattle.cargo_toml.specs.{Faults.IsOther, Limits.MAX_ITEMS, Action.Text, Parsed.parsed_table}
 use Rattle.cargo_toml_bench.specs.Reports.{optional_keys, AreUnreferenced}
 
--- the bytes are the text of a manifest that holds m
-pub record Spells (bytes : List ℕ) (m : ManifestMeaning Data) : Type 0 where
-  pub text : IsUtf8 bytes
-  pub reads : document_reads (manifest_reads any_tree) (parse_document bytes) ≡ Some m
+module _ {M : Type 0} (tree_reads : Data → Option M) where
+  -- the bytes are the text of a manifest that holds m, with metadata that are read so
+  pub record IsTextOf (bytes : List ℕ) (m : ManifestMeaning M) : Type 0 where
+    pub text : IsUtf8 bytes
+    pub reads : document_reads (manifest_reads tree_reads) (parse_document bytes) ≡ Some m
+
+  -- why bytes give none: there was no memory, they are no text, or their document is refused with
+  -- this fault
+  abbrev pub RefusesText : (Data → Error → Type 0) → List ℕ → Error → Type 0
+  RefusesText refuses bytes e =
+      (e ≡ Memory)
+      ⊎ ((¬ IsUtf8 bytes) × IsOther (codes "utf8") e)
+      ⊎ (IsUtf8 bytes
+      × (document_reads (manifest_reads tree_reads) (parse_document bytes) ≡ None)
+      × DocumentRefuses (ManifestRefuses tree_reads refuses) bytes (parse_document bytes) e)
+
+-- the same of any metadata
+abbrev pub Spells : List ℕ → ManifestMeaning Data → Type 0
+Spells bytes m = IsTextOf any_tree bytes m
 
 abbrev pub IsManifest : List ℕ → Type 0
 IsManifest bytes = (m : ManifestMeaning Data) × Spells bytes m
 
--- why bytes are no manifest: they are no text, or their document is refused with this fault
-abbrev pub IsFaultOf : List ℕ → Error → Type 0
-IsFaultOf bytes e =
-    ((¬ IsUtf8 bytes) × IsOther (codes "utf8") e)
-    ⊎ (IsUtf8 bytes × (document_reads (manifest_reads any_tree) (parse_document bytes) ≡ None)
-    × DocumentRefuses (ManifestRefuses any_tree AnyRefuses) bytes (parse_document bytes) e)
-
--- why nothing is reported: there was no memory, or the bytes are no manifest
 abbrev pub RefusesBytes : List ℕ → Error → Type 0
-RefusesBytes bytes e = (e ≡ Memory) ⊎ IsFaultOf bytes e
+RefusesBytes bytes e = RefusesText any_tree AnyRefuses bytes e
 
--- why nothing is printed: the same, or the output couldn't be written
+-- why nothing is printed: that, or the output couldn't be written
 abbrev pub RefusesToPrint : List ℕ → Error → Type 0
 RefusesToPrint bytes e = ((fault : IoError) × (e ≡ Io fault)) ⊎ RefusesBytes bytes e
 

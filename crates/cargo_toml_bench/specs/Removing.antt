@@ -1,21 +1,17 @@
 -- What features hold while some are taken out, one after another.
-use Rattle.std.specs.Prelude.{◌≡◌, ◌&&◌, ◌||◌, ◌∷◌, ◌++◌, not, if◌then◌else◌, Bool, false, List, []}
-use Rattle.std.specs.Prelude.{Option, IsFalse, IsSome, bytes_eq, codes, nat_eq, option_map, take}
-use Rattle.std.specs.List.{starts_with}
-use Rattle.std.specs.Option.{IsSomeAnd, option_map_or}
-use Rattle.std.specs.Borrow.{Bor}
-use Rattle.std.specs.BTreeSet.{BTreeSet}
-use Rattle.std.specs.HashMap.{HashMap}
-use Rattle.cargo_toml_dependencies.specs.Details.{plain_detail}
-use Rattle.cargo_toml_features.specs.declared.features.Feature.{Feature}
-use Rattle.cargo_toml_graph.specs.Action.{Text, join_option}
-use Rattle.cargo_toml_graph.specs.Graph.{Resolution}
-use Rattle.cargo_toml_graph.specs.Reach.{Among, IsOnce}
+use Rattle.std.specs.Prelude.{◌≡◌, ◌&&◌, ◌||◌, ◌∷◌, not, if◌then◌else◌, Bool, false, List, []}
+use Rattle.std.specs.Prelude.{Option, IsFalse, IsSome, bytes_eq, codes, nat_eq, option_map, take, ⊤}
+use Rattle.std.specs.{List.starts_with, Option.IsSomeAnd, Option.option_map_or, Borrow.Bor}
+use Rattle.std.specs.{BTreeMap.BTreeMap, BTreeSet.BTreeSet, HashMap.HashMap}
+use Rattle.cargo_toml_package.specs.Details.{plain_detail}
+use Rattle.cargo_toml_graph.specs.{Action.Action, Action.Text, Action.join_option}
+use Rattle.cargo_toml_graph.specs.{Graph.Resolution, Reach.Among, Reach.IsOnce}
 use Rattle.cargo_toml_graph.specs.Removal.{SameKept, pass_all, pass_bins, put_each}
 use Rattle.cargo_toml_graph.specs.Removal.{without_all, without_one}
-use Rattle.cargo_toml_full.specs.Slots.{Relates}
-use Rattle.cargo_toml_features.specs.Marks.{FeatureMarks, marked, marks_of}
-use Rattle.cargo_toml_features.specs.Views.{set_has, action_at, resolution_of, value_at}
+use Rattle.cargo_toml_features.specs.declared.features.{DepAction.DepAction, Feature.Feature}
+use Rattle.cargo_toml_features.specs.{Marks.FeatureMarks, Marks.marked, Marks.marks_of}
+use Rattle.cargo_toml_features.specs.{Slots.Relates, Views.set_has, Views.action_at}
+use Rattle.cargo_toml_features.specs.{Views.resolution_of, Views.value_at}
 use Rattle.cargo_toml_resolve.specs.Texts.{texts_now}
 
 -- a feature of this name is taken out
@@ -34,40 +30,29 @@ module _ {S : Type 0} (m : HashMap (Bor Text) Feature S) (f : Text) where
   abbrev pub bins_at : List Text
   bins_at = option_map_or (λ v. texts_now v.required_by_bins.items) (value_at m f) []
 
--- what a set has once it has gained what the feature that is gone had, and lost its key
-abbrev pub passed_on : BTreeSet (Bor Text) → BTreeSet (Bor Text) → Text → Text → Bool
-passed_on own gone key x = (set_has own x || set_has gone x) && not (bytes_eq x key)
+-- what a set has: if so, it has gained what the feature that is gone had, and lost its key
+abbrev pub passed_on : Bool → BTreeSet (Bor Text) → BTreeSet (Bor Text) → Text → Text → Bool
+passed_on is_so own gone key x =
+    if is_so then (set_has own x || set_has gone x) && not (bytes_eq x key) else set_has own x
 
--- what the feature `name` names once `gone`, whose name is `key`, is taken out, and how it acts: a
--- parent takes over both
-pub record ParentTakesOver (gone : Feature) (key name : Text) (old new : Feature) : Type 0 where
-  pub names : (x : Text) → set_has new.enables_features x
-      ≡ (if set_has gone.enabled_by name
-      then passed_on old.enables_features gone.enables_features key x
-      else set_has old.enables_features x)
-  pub actions : (k : Text) → action_at new.enables_deps k
-      ≡ (if set_has gone.enabled_by name
-      then join_option (action_at old.enables_deps k) (action_at gone.enables_deps k)
-      else action_at old.enables_deps k)
+-- how a dependency is acted on: if so, as the feature that is gone did, too
+abbrev pub actions_then : Bool → BTreeMap (Bor Text) DepAction → BTreeMap (Bor Text) DepAction
+    → Text → Option Action
+actions_then is_so own gone k =
+    if is_so then join_option (action_at own k) (action_at gone k) else action_at own k
 
--- the same, and nothing else changes
-pub record TakesNames (gone : Feature) (key name : Text) (old new : Feature) : Type 0 where
-  pub own_key : new.key ≡ old.key
-  pub marks : marks_of new ≡ marks_of old
-  pub enabled_by : new.enabled_by ≡ old.enabled_by
-  pub bins : new.required_by_bins ≡ old.required_by_bins
-  pub taken_over : ParentTakesOver gone key name old new
-
--- what the feature `name` becomes by that
+-- what the feature `name` becomes once `gone`, whose name is `key`, is taken out
 pub record Loses (gone : Feature) (key name : Text) (old new : Feature) : Type 0 where
   pub own_key : new.key ≡ old.key
   pub marks : marks_of new ≡ marks_of old
   -- a parent names what it named, and acts as it did
-  pub taken_over : ParentTakesOver gone key name old new
+  pub names : (x : Text) → set_has new.enables_features x
+      ≡ passed_on (set_has gone.enabled_by name) old.enables_features gone.enables_features key x
+  pub actions : (k : Text) → action_at new.enables_deps k
+      ≡ actions_then (set_has gone.enabled_by name) old.enables_deps gone.enables_deps k
   -- what it enabled is enabled by its parents
   pub enabled_by : (e : Text) → set_has new.enabled_by e
-      ≡ (if set_has old.enabled_by key then passed_on old.enabled_by gone.enabled_by key e
-      else set_has old.enabled_by e)
+      ≡ passed_on (set_has old.enabled_by key) old.enabled_by gone.enabled_by key e
   -- what it named is required by its first ten binaries
   pub bins : texts_now new.required_by_bins.items
       ≡ (if set_has gone.enables_features name
@@ -105,11 +90,22 @@ pub record TakesOut {S : Type 0} (key : Text)
 abbrev pub Redirected : Type 0 → Type 0
 Redirected S = HashMap (Bor Text) (BTreeSet (Bor Text)) S
 
+-- these names are put aside under r
+abbrev pub HasNames : {S : Type 0} → Redirected S → Text → (Text → Bool) → Type 0
+HasNames hidden r names =
+    IsSomeAnd (value_at hidden r) (λ s. (x : Text) → set_has s x ≡ names x)
+
 -- what r names goes to its redirect, and all others stay
 pub record Redirects {S : Type 0} (r : Text) (m : Resolution) (old new : Redirected S)
     : Type 0 where
-  pub here : IsSomeAnd (value_at new r) (λ names. (x : Text) → set_has names x ≡ m.table.names r x)
+  pub here : HasNames new r (m.table.names r)
   pub others : (q : Text) → IsFalse (bytes_eq r q) → value_at new q ≡ value_at old q
+
+-- what each names at its turn is put aside
+abbrev pub HaveRedirects : {S : Type 0} → List Text → Resolution → Redirected S → Type 0
+HaveRedirects [] m hidden = ⊤
+HaveRedirects (r ∷ rs) m hidden =
+    HasNames hidden r (m.table.names r) × HaveRedirects rs (without_one r m) hidden
 
 -- the features of these names, each once, are taken out of a map of what m holds and own lists one
 -- after another, in their order
@@ -119,8 +115,5 @@ pub record AreTakenOut {S : Type 0} (m : Resolution) (own : Text → List Text) 
   pub stays : (f : Text) → IsSome (value_at new f) → IsSome (value_at old f)
       × (key_at new f ≡ key_at old f) × (marks_at new f ≡ marks_at old f)
   pub bins : (f : Text) → IsSome (value_at new f) → bins_at new f ≡ pass_all removed m own f
-  -- what each names at its turn is put aside, and nothing else
-  pub redirects : (before after : List Text) (r : Text) → removed ≡ before ++ r ∷ after
-      → IsSomeAnd (value_at hidden' r) (λ names. (x : Text) → set_has names x
-      ≡ (without_all before m).table.names r x)
+  pub redirects : HaveRedirects removed m hidden'
   pub others : (q : Text) → ¬ Among removed q → value_at hidden' q ≡ value_at hidden q

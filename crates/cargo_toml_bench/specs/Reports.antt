@@ -1,14 +1,9 @@
 -- What a report says of a manifest.
 use Rattle.std.specs.Prelude.{◌≢◌, ◌↔◌, IsTrue, List, map, filter, Vec, codes}
-use Rattle.std.specs.Borrow.{Bor}
-use Rattle.std.specs.Cmp.Lexicographic.{slice_cmp}
-use Rattle.std.specs.List.Sorted.{IsStrictlySortedBy}
-use Rattle.std.specs.Ordering.{nat_cmp}
-use Rattle.std.specs.declared.alloc.Global.{Global}
-use Rattle.cargo_toml.specs.Dependencies.{DependencyMeaning, is_optional}
-use Rattle.cargo_toml.specs.Action.{Text}
-use Rattle.cargo_toml.specs.Graph.{Table, Edge}
-use Rattle.cargo_toml.specs.Reach.{Among}
+use Rattle.std.specs.{Borrow.Bor, Cmp.Lexicographic.slice_cmp, List.Sorted.IsStrictlySortedBy}
+use Rattle.std.specs.{Ordering.nat_cmp, declared.alloc.Global.Global}
+use Rattle.cargo_toml.specs.{Dependencies.DependencyMeaning, Dependencies.is_optional, Action.Text}
+use Rattle.cargo_toml.specs.{Graph.Table, Graph.Edge, Reach.Among}
 use Rattle.cargo_toml_resolve.specs.Texts.{texts_now}
 
 -- borrowed texts, read

@@ -3,15 +3,11 @@ use Rattle.std.specs.Prelude.{◌≡◌, ◌≤◌, ℕ, List, false, Some, Ok, 
 use Rattle.semver.specs.Parse.{version_parts}
 use Rattle.toml.specs.Data.{Data, Members, members_depth, table}
 use Rattle.toml.specs.Parse.{parse_document}
-use Rattle.cargo_toml.specs.Asked.{ManifestMeets}
-use Rattle.cargo_toml.specs.Inheritable.TheVariants.{Set}
 use Rattle.cargo_toml.specs.Manifests.{ManifestMeaning, is_zero, manifest_reads}
-use Rattle.cargo_toml.specs.Packages.{PackageMeaning}
-use Rattle.cargo_toml.specs.Reread.{reread, says_true}
-use Rattle.cargo_toml.specs.Texts.{any_tree, document_reads}
-use Rattle.cargo_toml.specs.Versions.{Parts}
-use Rattle.cargo_toml.specs.Ways.{free_way}
-use Rattle.cargo_toml.specs.WrittenManifests.{manifest_way}
+use Rattle.cargo_toml.specs.{Asked.ManifestMeets, Inheritable.TheVariants.Set}
+use Rattle.cargo_toml.specs.{Packages.PackageMeaning, Reread.reread, Reread.says_true}
+use Rattle.cargo_toml.specs.{Texts.any_tree, Texts.document_reads, Versions.Parts, Ways.free_way}
+use Rattle.cargo_toml.specs.{WrittenManifests.manifest_way}
 use Rattle.cargo_toml_bench.specs.Printing.{Spells}
 
 -- a manifest with this version of its package, if it has one

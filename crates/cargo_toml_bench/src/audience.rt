@@ -2,12 +2,10 @@
 //! package.
 ghost use Rattle.std.specs.Prelude.{◌≡◌, codes, IfErr, IfOk};
 ghost use Rattle.toml.specs.View.{view};
-ghost use Rattle.cargo_toml.specs.Faults.{IsOther};
-ghost use Rattle.cargo_toml.specs.Manifests.{held};
+ghost use Rattle.cargo_toml.specs.{Faults.IsOther, Manifests.held};
 ghost use Rattle.cargo_toml_bench.specs.Audiences.{IsAudienceOf, IsRewrittenOwn, Refuses};
-ghost use Rattle.cargo_toml_bench.specs.Audiences.{RefusesRewriting, audience_lawful};
-ghost use Rattle.cargo_toml_bench.specs.Audiences.{audience_in, audience_reads, audience_way};
-ghost use Rattle.cargo_toml_bench.specs.Audiences.{AudienceRefuses};
+ghost use Rattle.cargo_toml_bench.specs.Audiences.{RefusesRewriting, AudienceRefuses, audience_in};
+ghost use Rattle.cargo_toml_bench.specs.Audiences.{audience_reads, audience_way};
 ghost use Rattle.cargo_toml_bench.specs.declared.audience.Audience.{Audience};
 
 use cargo_toml::{Error, FromValue, Manifest, ToValue, Value};
@@ -50,8 +48,6 @@ impl ToValue for Audience {
     ghost meaning = { λ x. x };
 
     ghost way = { audience_way };
-
-    ghost lawful = { audience_lawful };
 
     fn to_value(&self, alloc: Global) -> Result<Value, Error> {
         match self {

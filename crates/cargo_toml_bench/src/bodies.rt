@@ -1,9 +1,7 @@
 //! A manifest's features, resolved by the body that callers get and by the plain one beside it.
 ghost use Rattle.std.specs.Prelude.{◌≡◌, Bool, IfErr, IfOk};
-ghost use Rattle.cargo_toml.specs.Action.{Text};
-ghost use Rattle.cargo_toml.specs.Error.{Memory};
 ghost use Rattle.cargo_toml.specs.Filter.{HasNameFilter, FilterTells};
-ghost use Rattle.cargo_toml.specs.Views.{answer_of};
+ghost use Rattle.cargo_toml.specs.{Action.Text, Error.Memory, Views.answer_of};
 ghost use Rattle.cargo_toml_bench.specs.Alike.{AreAlike};
 
 use crate::plain::without_hidden;

@@ -1,9 +1,8 @@
 //! A file system that is held in memory, for tests of completion.
 ghost use Rattle.std.specs.Prelude.{◌≡◌, [], IfOk, IfErr, map, string_bytes};
 ghost use Rattle.std.specs.Option.{option_copied};
-ghost use Rattle.cargo_toml.specs.Error.{Memory};
 ghost use Rattle.cargo_toml.specs.Folders.{AnswersNames, HasTexts};
-ghost use Rattle.cargo_toml.specs.Told.{ReadsRoot};
+ghost use Rattle.cargo_toml.specs.{Error.Memory, Told.ReadsRoot};
 ghost use Rattle.cargo_toml_bench.specs.InMemory.{told_at, told_root_at, told_of_answer};
 ghost use Rattle.cargo_toml_bench.specs.InMemory.{told_of_root, told_bytes};
 

@@ -1,25 +1,15 @@
 //! Public calls that a user makes one after another: what one promises is what the next asks for,
 //! and what both together promise is told.
-ghost use Rattle.std.specs.Prelude.{◌≡◌, ◌⊎◌, IfErr, IfOk, None, OnErr, OnOk, map};
-ghost use Rattle.std.specs.Prelude.{option_and_then, option_map};
-ghost use Rattle.cargo_toml.specs.Admitted.{Listed};
-ghost use Rattle.cargo_toml.specs.Choosing.{handed_of, roots_of};
-ghost use Rattle.cargo_toml.specs.Completed.{IsCompleted};
-ghost use Rattle.cargo_toml.specs.Dependencies.{is_optional};
-ghost use Rattle.cargo_toml.specs.Error.{Memory};
-ghost use Rattle.cargo_toml.specs.Hashed.{IsListingOf};
-ghost use Rattle.cargo_toml.specs.InheritableValues.{value_of};
-ghost use Rattle.cargo_toml.specs.Manifests.{held};
-ghost use Rattle.cargo_toml.specs.Products.{product_meaning};
-ghost use Rattle.cargo_toml.specs.Refusing.{IsRefusedBy, MayLose};
-ghost use Rattle.cargo_toml.specs.Views.{entry_of};
+ghost use Rattle.std.specs.Prelude.{◌≡◌, ◌⊎◌, IfErr, IfOk, OnOk, map, option_map};
+ghost use Rattle.cargo_toml.specs.{Admitted.Listed, Choosing.handed_of, Choosing.roots_of};
+ghost use Rattle.cargo_toml.specs.{Completed.IsCompleted, Dependencies.is_optional, Error.Memory};
+ghost use Rattle.cargo_toml.specs.{Hashed.IsListingOf, Manifests.held, Products.product_meaning};
+ghost use Rattle.cargo_toml.specs.{Refusing.IsRefusedBy, Refusing.MayLose, Views.entry_of};
 ghost use Rattle.cargo_toml_bench.specs.Pairs.{IsEnabling, IsFeatureCount, IsNamed, first_under};
 
 use crate::whole::resolve_whole;
 use cargo_toml::features::{ParseDependency, Resolver, complete_and_parse_into};
-use cargo_toml::{
-    AbstractFilesystem, Edition, Error, FromValue, Manifest, Product, ToValue, Value,
-};
+use cargo_toml::{AbstractFilesystem, Error, FromValue, Manifest, Product, ToValue};
 use std::alloc::Global;
 use std::collections::HashMap;
 use std::hash::BuildHasher;
@@ -80,48 +70,6 @@ pub fn is_named<'m: 'd, 'd, S: BuildHasher>(
         return Ok(false);
     };
     Ok(feature.enables_features.contains(other))
-}
-
-/// Completes a manifest by itself, and answers then as [`enables`] does. Refuses as completion
-/// does, or with [`Error::Memory`] where there was no room to resolve it.
-pub fn enables_completed<Fs: AbstractFilesystem + Drop>(
-    alloc: Global,
-    manifest: &mut Manifest,
-    files: &Fs,
-    name: &str,
-    other: &str,
-) -> Result<bool, Error>
-    ensures answer { IfOk result (IsEnabling (held manifest.new) name.now other.now) }
-    ensures completed { OnOk result (IsCompleted manifest.old None
-        (roots_of Fs.Roots.ARE_FOUND (Fs.root_for files.now)) (Fs.may_find files.now)
-        (Fs.names_at files.now) manifest.new) }
-{
-    manifest.complete_from_abstract_filesystem::<Value, &Fs>(alloc, files, None)?;
-    enables(alloc, manifest, name, other)
-}
-
-/// Completes a member of a workspace, and answers the edition of its package, if it has one.
-///
-/// Refused as completion is. The member is then as it was.
-pub fn edition_completed<Fs: AbstractFilesystem + Drop>(
-    alloc: Global,
-    member: &mut Manifest,
-    files: &Fs,
-    workspace: Option<(&Manifest, &str)>,
-) -> Result<Option<Edition>, Error>
-    ensures edition { IfOk result
-        (λ e. e ≡ option_and_then (λ p. value_of p.edition) member.new.«package») }
-    ensures unchanged { OnErr result (member.new ≡ member.old) }
-    ensures completed { OnOk result
-        (IsCompleted member.old (option_map handed_of workspace.entry)
-        (roots_of Fs.Roots.ARE_FOUND (Fs.root_for files.now)) (Fs.may_find files.now)
-        (Fs.names_at files.now) member.new) }
-{
-    member.complete_from_abstract_filesystem(alloc, files, workspace)?;
-    match &member.package {
-        Some(package) => Ok(Some(package.edition())),
-        None => Ok(None),
-    }
 }
 
 /// Completes a member, and counts the features that it then has, without the hidden ones.

@@ -1,25 +1,21 @@
 //! A report of a manifest: its optional dependencies, and its features that nothing enables.
 pub(crate) mod print;
 
-ghost use Rattle.std.specs.Prelude.{◌≡◌, IfErr, IfOk};
-ghost use Rattle.cargo_toml.specs.Error.{Memory};
-ghost use Rattle.cargo_toml.specs.Dependencies.{dependency_meaning};
-ghost use Rattle.cargo_toml.specs.Reads.{map_meaning};
-ghost use Rattle.cargo_toml.specs.Action.{Text};
-ghost use Rattle.cargo_toml.specs.Limits.{MAX_ITEMS};
-ghost use Rattle.cargo_toml.specs.Manifests.{held};
-ghost use Rattle.cargo_toml.specs.Parsed.{parsed_table};
-ghost use Rattle.cargo_toml.specs.Views.{set_has};
+ghost use Rattle.std.specs.Prelude.{◌≡◌, IfErr, IfOk, filter};
+ghost use Rattle.cargo_toml.specs.{Error.Memory, Dependencies.dependency_meaning};
+ghost use Rattle.cargo_toml.specs.{Reads.map_meaning, Limits.MAX_ITEMS, Manifests.held};
+ghost use Rattle.cargo_toml.specs.{Parsed.parsed_table};
+ghost use Rattle.cargo_toml_resolve.specs.Texts.{texts_now};
 ghost use Rattle.cargo_toml_bench.specs.Alone.{is_alone_at};
 ghost use Rattle.cargo_toml_bench.specs.Reports.{texts, optional_keys, AreUnreferenced};
 
-use crate::sets::in_order;
+use crate::sets::names_in_order;
 use crate::whole::resolve_whole;
 use cargo_toml::features::Feature;
 use cargo_toml::{DepsSet, Error, Manifest};
 pub use print::print_report;
 use std::alloc::{AllocError, Global};
-use std::collections::{BTreeSet, HashMap};
+use std::collections::HashMap;
 use std::hash::BuildHasher;
 
 /// What a report says of a manifest. The texts are borrowed from it.
@@ -76,22 +72,33 @@ pub fn unreferenced_features<'m, M>(
     ensures refused { IfErr result (λ e. e ≡ Memory) }
 {
     let resolved = resolve_whole(alloc, manifest)?;
-    let names = unreferenced_names(alloc, &resolved.features)?;
-    Ok(in_order(alloc, &names)?)
+    let names = names_in_order(alloc, &resolved.features)?;
+    Ok(alone_among(alloc, &resolved.features, names.as_slice())?)
 }
 
-// The names of a map's features without enablers, except `default`.
-fn unreferenced_names<'m, S: BuildHasher>(
+// Those of the names whose features have no enablers, except `default`.
+fn alone_among<'m, S: BuildHasher>(
     alloc: Global,
     features: &HashMap<&'m str, Feature<'m>, S>,
-) -> Result<BTreeSet<&'m str>, AllocError>
-    ensures { IfOk result (λ s. (f : Text) → set_has s f ≡ is_alone_at features.now f) }
+    names: &[&'m str],
+) -> Result<Vec<&'m str>, AllocError>
+    ensures { IfOk result (λ v. texts v
+        ≡ filter (is_alone_at features.now) (texts_now names.now)) }
 {
-    let mut names = BTreeSet::new(alloc);
-    for (name, feature) in features {
-        if !feature.is_referenced() && *name != "default" {
-            names.insert(*name)?;
+    let mut alone = Vec::new(alloc);
+    for name in names {
+        if is_alone(features, *name) {
+            alone.push(*name)?;
         }
     }
-    Ok(names)
+    Ok(alone)
+}
+
+fn is_alone<S: BuildHasher>(features: &HashMap<&str, Feature<'_>, S>, name: &str) -> bool
+    ensures { result ≡ is_alone_at features.now name.now }
+{
+    match features.get(name) {
+        Some(feature) => !feature.is_referenced() && name != "default",
+        None => false,
+    }
 }

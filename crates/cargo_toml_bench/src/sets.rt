@@ -1,27 +1,23 @@
-//! The texts of a set, as a list.
-ghost use Rattle.std.specs.Prelude.{◌↔◌, IfOk, IsTrue};
-ghost use Rattle.std.specs.Cmp.Lexicographic.{slice_cmp};
-ghost use Rattle.std.specs.List.Sorted.{IsStrictlySortedBy};
-ghost use Rattle.std.specs.Ordering.{nat_cmp};
-ghost use Rattle.cargo_toml_graph.specs.Action.{Text};
-ghost use Rattle.cargo_toml_graph.specs.Ascending.{Ascend};
-ghost use Rattle.cargo_toml_graph.specs.Reach.{Among};
-ghost use Rattle.cargo_toml_features.specs.Views.{set_has};
+//! The names of features in byte order.
+ghost use Rattle.std.specs.Prelude.{◌≡◌, IfOk, is_some};
+ghost use Rattle.cargo_toml_graph.specs.{Action.Text, Ascending.Ascend, Removal.lists_text};
+ghost use Rattle.cargo_toml_features.specs.Views.{value_at};
 ghost use Rattle.cargo_toml_resolve.specs.Texts.{texts_now};
 
+use cargo_toml_features::texts::keys_in_order;
 use std::alloc::{AllocError, Global};
-use std::collections::BTreeSet;
+use std::collections::HashMap;
+use std::hash::BuildHasher;
 
-// The texts in byte order, which two clauses state in two ways.
-pub(crate) fn in_order<'m>(
+// The keys of a map, each once.
+pub(crate) fn names_in_order<'m, X, S: BuildHasher>(
     alloc: Global,
-    texts: &BTreeSet<&'m str>,
+    found: &HashMap<&'m str, X, S>,
 ) -> Result<Vec<&'m str>, AllocError>
-    ensures all { IfOk result
-        (λ v. (f : Text) → Among (texts_now v.items) f ↔ IsTrue (set_has texts.now f)) }
+    ensures all { IfOk result (λ v. (f : Text)
+        → lists_text (texts_now v.items) f ≡ is_some (value_at found.now f)) }
     ensures ascending { IfOk result (λ v. Ascend (texts_now v.items)) }
-    ensures sorted { IfOk result
-        (λ v. IsStrictlySortedBy (slice_cmp nat_cmp) (texts_now v.items)) }
 {
-    texts.iter().copied().collect(alloc)
+    let keys = keys_in_order(alloc, found)?;
+    keys.iter().copied().collect(alloc)
 }

@@ -1,13 +1,9 @@
 //! A tool that gives a package another version, and loses nothing else.
 ghost use Rattle.std.specs.Prelude.{◌≡◌, IfOk, Ok, option_map, string_bytes};
-ghost use Rattle.semver.specs.Identifiers.{parts_of};
-ghost use Rattle.semver.specs.Parse.{version_parts};
-ghost use Rattle.toml.specs.View.{view};
-ghost use Rattle.toml.specs.declared.value.Value.{Value};
-ghost use Rattle.cargo_toml.specs.Inheritable.TheVariants.{Set};
-ghost use Rattle.cargo_toml.specs.Manifests.{manifest_meaning};
-ghost use Rattle.cargo_toml.specs.Package.{Package};
-ghost use Rattle.cargo_toml.specs.Reread.{IsTold};
+ghost use Rattle.semver.specs.{Identifiers.parts_of, Parse.version_parts};
+ghost use Rattle.toml.specs.{View.view, declared.value.Value.Value};
+ghost use Rattle.cargo_toml.specs.{Inheritable.TheVariants.Set, Manifests.manifest_meaning};
+ghost use Rattle.cargo_toml.specs.{Package.Package, Reread.IsTold};
 ghost use Rattle.cargo_toml_bench.specs.Versioned.{IsPrinted, IsVersioned};
 
 use crate::report::print::read;

@@ -1,15 +1,10 @@
 //! A manifest's features by a filter and at a limit, and with none removed.
 ghost use Rattle.std.specs.Prelude.{◌≡◌, ◌≤◌, Bool, true, bytes_eq, codes, IfErr, IfOk};
-ghost use Rattle.cargo_toml.specs.Action.{Text};
-ghost use Rattle.cargo_toml.specs.Error.{Memory};
 ghost use Rattle.cargo_toml.specs.Filter.{FilterTells, HasNameFilter};
-ghost use Rattle.cargo_toml.specs.FirstTarget.{HaveTargets};
-ghost use Rattle.cargo_toml.specs.Limits.{MAX_ITEMS};
-ghost use Rattle.cargo_toml.specs.Manifests.{held};
 ghost use Rattle.cargo_toml.specs.Parsed.{AreBinsComplete, IsParsed, parsed_table};
-ghost use Rattle.cargo_toml.specs.Reached.{IsKeyed};
-ghost use Rattle.cargo_toml.specs.Removal.{is_removed};
-ghost use Rattle.cargo_toml.specs.Views.{answer_of};
+ghost use Rattle.cargo_toml.specs.{Action.Text, Error.Memory, FirstTarget.HaveTargets};
+ghost use Rattle.cargo_toml.specs.{Limits.MAX_ITEMS, Manifests.held, Reached.IsKeyed};
+ghost use Rattle.cargo_toml.specs.{Removal.is_removed, Views.answer_of};
 
 use cargo_toml::features::{Features, Resolver};
 use cargo_toml::{Error, Manifest};

@@ -1,2 +1,3 @@
 pub mod Blaming
 pub mod Silent
+pub mod Completed

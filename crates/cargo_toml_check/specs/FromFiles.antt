@@ -1,47 +1,41 @@
--- What is shown of a file.
-use Rattle.std.specs.Prelude.{false}
+-- What is found and shown of a text of a file.
+use Rattle.std.specs.Prelude.{◌⊎◌, Bool, false, true}
 use Rattle.std.specs.declared.hash.DefaultHasher.{DefaultHasher}
 use Rattle.std.specs.declared.hash.RandomState.{RandomState}
 use Rattle.serde_json.specs.Data as json
 use Rattle.serde_json.specs.Written.{IsInOrder}
-use Rattle.toml.specs.View.{view}
 use Rattle.toml.specs.declared.value.Value.{Value}
 use Rattle.cargo_toml.specs.Action.{Text}
+use Rattle.cargo_toml.specs.Error.{Error}
 use Rattle.cargo_toml.specs.Limits.{MAX_ITEMS}
 use Rattle.cargo_toml.specs.Manifest.{Manifest}
-use Rattle.cargo_toml.specs.Manifests.{held, manifest_meaning}
+use Rattle.cargo_toml.specs.Manifests.{held}
 use Rattle.cargo_toml.specs.Parsed.{IsParsed}
 use Rattle.cargo_toml.specs.Views.{answer_of}
 use Rattle.cargo_toml_features.specs.declared.features.Features.{Features}
 use Rattle.cargo_toml_check.specs.Listed.{IsListing, is_cut}
-use Rattle.cargo_toml_check.specs.Shown.{IsShown, IsShownAsJson}
-use Rattle.cargo_toml_tools.specs.FromFiles.{IsCompletedIn}
+use Rattle.cargo_toml_tools.specs.FromFiles.{IsCompletedIn, IsUncompleted}
 
--- some text reads as a manifest, and this is shown of what completion around the path makes of it
-pub record IsShownOf (path shown : Text) : Type 0 where
-  pub text : Text
+-- the text reads as a manifest, and this holds of what completion around the path makes of it
+pub record HoldsOfCompleted (path text : Text) (P : Manifest Value → Type 0) : Type 0 where
   pub manifest : Manifest Value
   pub completed : IsCompletedIn path text manifest
-  pub exact : IsShown (manifest_meaning view manifest) shown
+  pub exact : P manifest
 
--- the same as JSON
-pub record IsShownAsJsonOf (path shown : Text) : Type 0 where
-  pub text : Text
-  pub manifest : Manifest Value
-  pub completed : IsCompletedIn path text manifest
-  pub exact : IsShownAsJson (manifest_meaning view manifest) shown
+-- the text doesn't read or complete, or else what is made of it is refused
+abbrev pub IsRefusedFor : Text → Text → (Manifest Value → Error → Type 0) → Error → Type 0
+IsRefusedFor path text refuses e =
+    IsUncompleted path text e ⊎ HoldsOfCompleted path text (λ m. refuses m e)
 
--- the value of JSON lists the features that this manifest resolves to
-pub record IsListingOf (m : Manifest Value) (listing : json.Data) : Type 0 where
+-- nothing is told just where the text reads and completes
+abbrev pub IsChecked : Text → Text → Bool → Type 0
+IsChecked path text false = (m : Manifest Value) × IsCompletedIn path text m
+IsChecked path text true = (e : Error) × IsUncompleted path text e
+
+-- the text is printed of a value of JSON that lists the features that this manifest resolves to
+pub record IsListed (m : Manifest Value) (shown : Text) : Type 0 where
   pub features : Features RandomState DefaultHasher
   pub resolved : IsParsed MAX_ITEMS (held m) (λ _. false) (answer_of features)
-  pub exact : IsListing (is_cut (held m)) features listing
-
--- some text reads as a manifest, and this lists the features of what completion makes of it
-pub record IsListedOf (path shown : Text) : Type 0 where
-  pub text : Text
-  pub manifest : Manifest Value
-  pub completed : IsCompletedIn path text manifest
   pub listing : json.Data
-  pub exact : IsListingOf manifest listing
+  pub exact : IsListing (is_cut (held m)) features listing
   pub printed : IsInOrder shown listing

@@ -3,5 +3,4 @@ pub mod Blamed
 pub mod Listed
 pub mod Shown
 pub mod FromFiles
-pub mod Registries
 pub mod Judged

@@ -1,5 +1,5 @@
 -- How a manifest is shown.
-use Rattle.std.specs.Prelude.{◌≡◌, ℕ, List, Some, false}
+use Rattle.std.specs.Prelude.{◌≡◌, ◌⊎◌, ℕ, List, Some, codes, false}
 use Rattle.toml_datetime.specs.Text.{datetime_text}
 use Rattle.serde_json.specs.Data as json
 use Rattle.serde_json.specs.Find.{of_integer}
@@ -7,8 +7,13 @@ use Rattle.serde_json.specs.Written.{IsInOrder}
 use Rattle.toml.specs.Data.{Data, Items, Members, array, boolean, datetime, float, integer, item}
 use Rattle.toml.specs.Data.{member, no_items, no_members, string, table}
 use Rattle.toml.specs.Text.{IsDocumentText}
+use Rattle.cargo_toml.specs.Error.{Error, Memory}
+use Rattle.cargo_toml.specs.Faults.{IsOther}
 use Rattle.cargo_toml.specs.Manifests.{ManifestMeaning}
 use Rattle.cargo_toml.specs.Reread.{IsTold, reread}
+use Rattle.cargo_toml.specs.Writes.{Refuses}
+use Rattle.cargo_toml.specs.WrittenManifests.{manifest_way}
+use Rattle.cargo_toml.specs.Ways.{free_way}
 use Rattle.cargo_toml_check.specs.Blamed.{reads}
 
 -- a tree as a value of JSON: a date is its text. A manifest's tree holds no float
@@ -43,3 +48,9 @@ pub record IsShownAsJson (m : ManifestMeaning Data) (text : List ℕ) : Type 0 w
   pub tree : Members
   pub printed : IsInOrder text (json_of (table tree))
   pub again : IsTold m → reads (table tree) ≡ Some (reread m)
+
+-- why a manifest isn't shown: there was no memory, no tree is written of it, or no text of that
+abbrev pub IsUnshown : ManifestMeaning Data → Error → Type 0
+IsUnshown m e =
+    (e ≡ Memory)
+    ⊎ (Refuses (manifest_way free_way) m e ⊎ IsOther (codes "a manifest that can't be printed") e)

@@ -1,12 +1,12 @@
 //! A part of a manifest in a manifest of its own.
-ghost use Rattle.std.specs.Prelude.{◌≡◌, IfOk, map, option_map};
+ghost use Rattle.std.specs.Prelude.{◌≡◌, IfOk, OnOk, map, option_map};
 ghost use Rattle.toml.specs.Data.{member, no_members, string};
 ghost use Rattle.toml.specs.View.{view, table_view};
+ghost use Rattle.cargo_toml.specs.Writes.{put_member};
 ghost use Rattle.cargo_toml_check.specs.Alone.{alone, beside, emptied, next, part_of, table_at};
 
-use cargo_toml::Error;
-use cargo_toml_write::write::put;
-use std::alloc::Global;
+use cargo_toml_write::write;
+use std::alloc::{AllocError, Global};
 use toml::{Table, Value};
 
 /// A step from a value to a part of it.
@@ -40,7 +40,12 @@ pub enum Around {
 /// The part of a manifest at this path in a tree of its own, in which it stands at the same path.
 /// An item is the first there. Around it is nothing but what has to stand there: a package has a
 /// name, and a lint a level.
-pub fn alone(alloc: Global, around: Around, path: &[Step<'_>], part: &Value) -> Result<Value, Error>
+pub fn alone(
+    alloc: Global,
+    around: Around,
+    path: &[Step<'_>],
+    part: &Value,
+) -> Result<Value, AllocError>
     ensures { IfOk result (λ v. view v ≡ alone around (map part_of path.now) (view part.now)) }
 {
     let Some((step, inner)) = path.split_first() else {
@@ -67,7 +72,7 @@ pub(crate) fn emptied(
     alloc: Global,
     path: &[Step<'_>],
     part: &Value,
-) -> Result<Option<Value>, Error>
+) -> Result<Option<Value>, AllocError>
     ensures { IfOk result (λ o. option_map view o
         ≡ emptied (map part_of path.now) (view part.now)) }
 {
@@ -128,7 +133,7 @@ fn in_workspace(key: &str) -> Around
 }
 
 /// What has to stand in a table beside any part.
-fn beside(alloc: Global, around: Around) -> Result<Table, Error>
+fn beside(alloc: Global, around: Around) -> Result<Table, AllocError>
     ensures { IfOk result (λ t. table_view t ≡ beside around) }
 {
     match around {
@@ -139,7 +144,7 @@ fn beside(alloc: Global, around: Around) -> Result<Table, Error>
 }
 
 /// A table with this text alone.
-fn with_text(alloc: Global, key: &str, text: &str) -> Result<Table, Error>
+fn with_text(alloc: Global, key: &str, text: &str) -> Result<Table, AllocError>
     ensures { IfOk result
         (λ t. table_view t ≡ member key.now (string text.now) no_members) }
 {
@@ -147,4 +152,15 @@ fn with_text(alloc: Global, key: &str, text: &str) -> Result<Table, Error>
     let text = String::from_str(alloc, text)?;
     put(&mut table, alloc, key, Value::String(text))?;
     Ok(table)
+}
+
+/// Puts a value at a key.
+fn put(table: &mut Table, alloc: Global, key: &str, value: Value) -> Result<(), AllocError>
+    ensures { OnOk result (table_view table.new
+        ≡ put_member key.now (view value) (table_view table.old)) }
+{
+    match write::put(table, alloc, key, value) {
+        Ok(()) => Ok(()),
+        Err(_) => Err(AllocError),
+    }
 }

@@ -1,14 +1,15 @@
 //! What is at fault in a manifest, and where.
-ghost use Rattle.std.specs.Prelude.{◌≡◌, ◌↔◌, [], IfErr, IfOk, IsSome, length, map};
+ghost use Rattle.std.specs.Prelude.{◌≡◌, ◌↔◌, [], IfOk, IsSome, length};
 ghost use Rattle.toml.specs.Parse.{parse_document};
 ghost use Rattle.cargo_toml.specs.Manifests.{manifest_reads};
 ghost use Rattle.cargo_toml.specs.Texts.{any_tree, document_reads};
+ghost use Rattle.cargo_toml_check.specs.FromFiles.{IsChecked};
 
 use crate::places::{Place, path_text, place_in, places};
 use crate::search::{Fault, faults};
 use cargo_toml::Error;
-use cargo_toml_tools::escape::{Format, push_escaped};
-use cargo_toml_tools::files::{completed_of, text_in};
+use cargo_toml_tools::escape::{Format, fault_line, push_escaped};
+use cargo_toml_tools::files::completed_of;
 use std::alloc::{AllocError, Global};
 use std::collections::BTreeSet;
 use std::fmt::Write;
@@ -28,13 +29,13 @@ pub struct Told {
 
 /// What is at fault in a text: why it isn't TOML, or else each part that doesn't read. There is
 /// nothing just where the text reads as a manifest.
-pub fn faults_in(alloc: Global, text: &str) -> Result<Vec<Told>, Error>
+pub fn faults_in(alloc: Global, text: &str) -> Result<Vec<Told>, AllocError>
     ensures silent { IfOk result (λ v. v.items ≡ []
         ↔ IsSome (document_reads (manifest_reads any_tree) (parse_document text.now))) }
 {
     let table = match toml::table_from_str(alloc, text) {
         Ok(table) => table,
-        Err(fault) if fault.is_memory() => return Err(Error::Memory),
+        Err(fault) if fault.is_memory() => return Err(AllocError),
         Err(fault) => return not_toml(alloc, text, &fault),
     };
     let tree = Value::Table(table);
@@ -42,20 +43,28 @@ pub fn faults_in(alloc: Global, text: &str) -> Result<Vec<Told>, Error>
     placed(alloc, text, faults.as_slice())
 }
 
-/// The lines `FILE:LINE:COLUMN: KEY: words` of what keeps the manifest in this file from being read
-/// and completed.
-pub fn check_lines<R: Files + AllocGlobal>(rt: &R, file: &str) -> Result<(String, bool), Error> {
-    let alloc = rt.alloc();
-    let text = text_in(rt, file)?;
-    let fault = match completed_of(rt, file, text.as_str()) {
+/// The lines `FILE:LINE:COLUMN: KEY: words` of what keeps the manifest in this text of a file from
+/// being read and completed, and whether something does.
+pub fn check_lines<R: Files + AllocGlobal>(
+    rt: &R,
+    file: &str,
+    text: &str,
+) -> Result<(String, bool), AllocError>
+    ensures { IfOk result (λ told. IsChecked file.now text.now told.1) }
+{
+    match completed_of(rt, file, text) {
         Ok(held) => {
             drop(held);
-            return Ok((String::new(alloc), false));
+            Ok((String::new(rt.alloc()), false))
         }
-        Err(Error::Memory) => return Err(Error::Memory),
-        Err(fault) => fault,
-    };
-    let mut all = faults_in(alloc, text.as_str())?;
+        Err(Error::Memory) => Err(AllocError),
+        Err(fault) => Ok((lines_of(rt.alloc(), file, text, &fault)?, true)),
+    }
+}
+
+/// The lines that tell what is at fault in a text, or else this fault, at its beginning.
+fn lines_of(alloc: Global, file: &str, text: &str, fault: &Error) -> Result<String, AllocError> {
+    let mut all = faults_in(alloc, text)?;
     if all.is_empty() {
         all.push(Told {
             place: (1, 1),
@@ -63,8 +72,27 @@ pub fn check_lines<R: Files + AllocGlobal>(rt: &R, file: &str) -> Result<(String
             words: format!(in alloc; "{fault}")?,
         })?;
     }
+    told_lines(alloc, file, all.as_slice())
+}
+
+/// The lines that tell why the text of a file is refused: what is at fault in it, or else one line
+/// with these words.
+pub fn refusal_lines(
+    alloc: Global,
+    file: &str,
+    text: &str,
+    words: &str,
+) -> Result<String, AllocError> {
+    let all = faults_in(alloc, text)?;
+    if all.is_empty() {
+        return fault_line(alloc, file, words);
+    }
+    told_lines(alloc, file, all.as_slice())
+}
+
+fn told_lines(alloc: Global, file: &str, all: &[Told]) -> Result<String, AllocError> {
     let mut lines = String::new(alloc);
-    for told in &all {
+    for told in all {
         push_place(&mut lines, file, told.place)?;
         if !told.key.is_empty() {
             lines.push_str(told.key.as_str())?;
@@ -73,7 +101,7 @@ pub fn check_lines<R: Files + AllocGlobal>(rt: &R, file: &str) -> Result<(String
         push_escaped(&mut lines, told.words.as_str().trim_end(), Format::Line)?;
         lines.push_str("\n")?;
     }
-    Ok((lines, true))
+    Ok(lines)
 }
 
 /// Writes what a line begins with: a file, and a place in it.
@@ -83,7 +111,7 @@ pub fn push_place(line: &mut String, file: &str, place: Place) -> Result<(), All
 }
 
 /// Where a text isn't TOML.
-fn not_toml(alloc: Global, text: &str, fault: &toml::de::Error) -> Result<Vec<Told>, Error>
+fn not_toml(alloc: Global, text: &str, fault: &toml::de::Error) -> Result<Vec<Told>, AllocError>
     ensures { IfOk result (λ v. length v.items ≡ 1) }
 {
     let start = match fault.span() {
@@ -101,7 +129,7 @@ fn not_toml(alloc: Global, text: &str, fault: &toml::de::Error) -> Result<Vec<To
 }
 
 /// These faults, each with its place.
-fn placed(alloc: Global, text: &str, faults: &[Fault<'_>]) -> Result<Vec<Told>, Error>
+fn placed(alloc: Global, text: &str, faults: &[Fault<'_>]) -> Result<Vec<Told>, AllocError>
     ensures { IfOk result (λ v. length v.items ≡ length faults.now) }
 {
     let mut wanted = BTreeSet::new(alloc);

@@ -33,115 +33,85 @@ pub fn features_json<M, S: BuildHasher>(
 ) -> Result<Value, AllocError>
     ensures { IfOk result (λ v. IsListing (is_cut (held manifest.now)) features.now (view v)) }
 {
+    let left = all_of(alloc, &features.features)?;
+    let removed = all_of(alloc, &features.hidden_features)?;
     let mut members = Map::new(alloc);
     put(&mut members, alloc, "cut", Value::from(is_cut(manifest)))?;
-    put(
-        &mut members,
-        alloc,
-        "features",
-        all_features(alloc, &features.features)?,
-    )?;
-    put(
-        &mut members,
-        alloc,
-        "hidden",
-        all_hidden(alloc, &features.hidden_features)?,
-    )?;
+    put(&mut members, alloc, "features", left)?;
+    put(&mut members, alloc, "hidden", removed)?;
     Ok(Value::from(members))
 }
 
-fn all_features<S: BuildHasher>(
+/// What has a value of JSON.
+trait ToJson {
+    ghost use Rattle.std.specs.Prelude.{◌≡◌, IfOk};
+    ghost use Rattle.serde_json.specs.Data.{Data};
+    ghost use Rattle.serde_json.specs.View.{view};
+
+    // the value that it has
+    ghost json: { Self → Data };
+
+    fn to_json(&self, alloc: Global) -> Result<Value, AllocError>
+        ensures { IfOk result (λ v. view v ≡ json self.now) };
+}
+
+/// Those that a feature stands for which was removed.
+impl ToJson for BTreeSet<&str> {
+    ghost json = { stands_for_json };
+
+    fn to_json(&self, alloc: Global) -> Result<Value, AllocError> {
+        set_json(alloc, self)
+    }
+}
+
+/// All that a map has, by its names.
+fn all_of<X: ToJson, S: BuildHasher>(
     alloc: Global,
-    features: &HashMap<&str, Feature<'_>, S>,
+    found: &HashMap<&str, X, S>,
 ) -> Result<Value, AllocError>
-    ensures { IfOk result (λ v. AreMembers feature_json features.now (view v)) }
+    ensures { IfOk result (λ v. AreMembers X.json found.now (view v)) }
 {
-    let names = keys_in_order(alloc, features)?;
+    let names = keys_in_order(alloc, found)?;
     let mut members = Map::new(alloc);
     for name in &names {
-        put_feature(alloc, &mut members, features, *name)?;
+        put_one(alloc, &mut members, found, *name)?;
     }
     Ok(Value::from(members))
 }
 
-fn put_feature<S: BuildHasher>(
+fn put_one<X: ToJson, S: BuildHasher>(
     alloc: Global,
     members: &mut Map<String, Value>,
-    features: &HashMap<&str, Feature<'_>, S>,
+    found: &HashMap<&str, X, S>,
     name: &str,
 ) -> Result<(), AllocError>
     ensures { OnOk result (members_view members.new.entries
-        ≡ with_rows (row_at feature_json features.now name.now)
-        (members_view members.old.entries)) }
+        ≡ with_rows (row_at X.json found.now name.now) (members_view members.old.entries)) }
 {
-    match features.get(name) {
-        Some(feature) => put(members, alloc, name, feature_json(alloc, feature)?),
+    match found.get(name) {
+        Some(one) => put(members, alloc, name, one.to_json(alloc)?),
         None => Ok(()),
     }
 }
 
-fn all_hidden<S: BuildHasher>(
-    alloc: Global,
-    hidden: &HashMap<&str, BTreeSet<&str>, S>,
-) -> Result<Value, AllocError>
-    ensures { IfOk result (λ v. AreMembers stands_for_json hidden.now (view v)) }
-{
-    let names = keys_in_order(alloc, hidden)?;
-    let mut members = Map::new(alloc);
-    for name in &names {
-        put_hidden(alloc, &mut members, hidden, *name)?;
-    }
-    Ok(Value::from(members))
-}
+impl ToJson for Feature<'_> {
+    ghost json = { feature_json };
 
-fn put_hidden<S: BuildHasher>(
-    alloc: Global,
-    members: &mut Map<String, Value>,
-    hidden: &HashMap<&str, BTreeSet<&str>, S>,
-    name: &str,
-) -> Result<(), AllocError>
-    ensures { OnOk result (members_view members.new.entries
-        ≡ with_rows (row_at stands_for_json hidden.now name.now)
-        (members_view members.old.entries)) }
-{
-    match hidden.get(name) {
-        Some(stands_for) => put(members, alloc, name, set_json(alloc, stands_for)?),
-        None => Ok(()),
+    fn to_json(&self, alloc: Global) -> Result<Value, AllocError> {
+        let names = set_json(alloc, &self.enables_features)?;
+        let dependencies = actions_json(alloc, &self.enables_deps)?;
+        let enabled_by = set_json(alloc, &self.enabled_by)?;
+        let binaries = list_json(alloc, self.required_by_bins.as_slice())?;
+        let mut members = Map::new(alloc);
+        put(&mut members, alloc, "listed", Value::from(self.explicit))?;
+        put(&mut members, alloc, "public", Value::from(self.public))?;
+        put_text(alloc, &mut members, "text", self.doc)?;
+        put(&mut members, alloc, "names", names)?;
+        put(&mut members, alloc, "dependencies", dependencies)?;
+        put(&mut members, alloc, "enabled_by", enabled_by)?;
+        put(&mut members, alloc, "binaries", binaries)?;
+        Ok(Value::from(members))
     }
-}
-
-fn feature_json(alloc: Global, feature: &Feature<'_>) -> Result<Value, AllocError>
-    ensures { IfOk result (λ v. view v ≡ feature_json feature.now) }
-{
-    let mut members = Map::new(alloc);
-    put(&mut members, alloc, "listed", Value::from(feature.explicit))?;
-    put(&mut members, alloc, "public", Value::from(feature.public))?;
-    put_text(alloc, &mut members, "text", feature.doc)?;
-    put(
-        &mut members,
-        alloc,
-        "names",
-        set_json(alloc, &feature.enables_features)?,
-    )?;
-    put(
-        &mut members,
-        alloc,
-        "dependencies",
-        actions_json(alloc, &feature.enables_deps)?,
-    )?;
-    put(
-        &mut members,
-        alloc,
-        "enabled_by",
-        set_json(alloc, &feature.enabled_by)?,
-    )?;
-    put(
-        &mut members,
-        alloc,
-        "binaries",
-        list_json(alloc, feature.required_by_bins.as_slice())?,
-    )?;
-    Ok(Value::from(members))
 }
 
 /// What a feature does to dependencies, by their keys.
@@ -158,25 +128,17 @@ fn actions_json(alloc: Global, actions: &BTreeMap<&str, DepAction<'_>>) -> Resul
 fn action_json(alloc: Global, action: &DepAction<'_>) -> Result<Value, AllocError>
     ensures { IfOk result (λ v. view v ≡ action_json action.now) }
 {
+    let features = set_json(alloc, &action.dep_features)?;
+    let conditional = Value::from(action.is_conditional);
     let mut members = Map::new(alloc);
-    put(
-        &mut members,
-        alloc,
-        "conditional",
-        Value::from(action.is_conditional),
-    )?;
+    put(&mut members, alloc, "conditional", conditional)?;
     put(
         &mut members,
         alloc,
         "dep_only",
         Value::from(action.is_dep_only),
     )?;
-    put(
-        &mut members,
-        alloc,
-        "features",
-        set_json(alloc, &action.dep_features)?,
-    )?;
+    put(&mut members, alloc, "features", features)?;
     Ok(Value::from(members))
 }
 

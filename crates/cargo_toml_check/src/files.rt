@@ -1,59 +1,69 @@
-//! Manifests in files, shown.
-ghost use Rattle.std.specs.Prelude.{IfOk, false, ◌≡◌, string_bytes};
-ghost use Rattle.serde_json.specs.View.{view as json_view};
-ghost use Rattle.cargo_toml_check.specs.FromFiles.{IsListedOf, IsListingOf, IsShownAsJsonOf};
-ghost use Rattle.cargo_toml_check.specs.FromFiles.{IsShownOf};
+//! Manifests in texts of files, shown.
+ghost use Rattle.std.specs.Prelude.{◌≡◌, IfErr, IfOk, false, string_bytes};
+ghost use Rattle.toml.specs.View.{view};
+ghost use Rattle.cargo_toml.specs.Manifests.{manifest_meaning};
+ghost use Rattle.cargo_toml_tools.specs.FromFiles.{IsOfInput};
+ghost use Rattle.cargo_toml_check.specs.FromFiles.{HoldsOfCompleted, IsListed, IsRefusedFor};
+ghost use Rattle.cargo_toml_check.specs.Shown.{IsShown, IsShownAsJson, IsUnshown};
 
 use crate::features::features_json;
 use crate::show::{manifest_json, manifest_toml};
 use cargo_toml::features::Resolver;
 use cargo_toml::{Error, Manifest};
-use cargo_toml_tools::files::{completed_of, text_in};
-use serde_json::Value;
+use cargo_toml_tools::files::completed_of;
 use std::hash::RandomState;
 use std::random::RandomSource;
 use std::rt::Files;
 
-/// The manifest in this file as it is once it is completed, as TOML.
-pub fn toml_in<R: Files + AllocGlobal>(rt: &R, file: &str) -> Result<String, Error>
-    ensures { IfOk result (λ shown. IsShownOf file.now (string_bytes shown)) }
+/// The manifest in this text of a file as it is once it is completed, as TOML. Refused where it
+/// doesn't read or complete, or isn't shown.
+pub fn toml_of<R: Files + AllocGlobal>(rt: &R, file: &str, text: &str) -> Result<String, Error>
+    ensures shown { IfOk result (λ shown. HoldsOfCompleted file.now text.now
+        (λ m. IsShown (manifest_meaning view m) (string_bytes shown))) }
+    ensures refused { IfErr result (IsRefusedFor file.now text.now
+        (λ m. IsUnshown (manifest_meaning view m))) }
 {
-    let text = text_in(rt, file)?;
-    let held = completed_of(rt, file, text.as_str())?;
-    manifest_toml(rt.alloc(), &*held.manifest)
+    let completed = completed_of(rt, file, text)?;
+    manifest_toml(rt.alloc(), &*completed.manifest)
 }
 
 /// The same as JSON.
-pub fn json_in<R: Files + AllocGlobal>(rt: &R, file: &str) -> Result<String, Error>
-    ensures { IfOk result (λ shown. IsShownAsJsonOf file.now (string_bytes shown)) }
+pub fn json_of<R: Files + AllocGlobal>(rt: &R, file: &str, text: &str) -> Result<String, Error>
+    ensures shown { IfOk result (λ shown. HoldsOfCompleted file.now text.now
+        (λ m. IsShownAsJson (manifest_meaning view m) (string_bytes shown))) }
+    ensures refused { IfErr result (IsRefusedFor file.now text.now
+        (λ m. IsUnshown (manifest_meaning view m))) }
 {
-    let text = text_in(rt, file)?;
-    let held = completed_of(rt, file, text.as_str())?;
+    let held = completed_of(rt, file, text)?;
     manifest_json(rt.alloc(), &*held.manifest)
 }
 
-/// The features that the completed manifest in this file resolves to, as JSON. Those whose names
-/// begin with `_` are removed.
-pub fn features_in<R: Files + RandomSource + AllocGlobal>(
+/// The features that the completed manifest in this text of a file resolves to, as JSON. Those
+/// whose names begin with `_` are removed. Refused where it doesn't read or complete.
+pub fn features_of<R: Files + RandomSource + AllocGlobal>(
     rt: &R,
     file: &str,
+    text: &str,
 ) -> Result<String, Error>
-    ensures { IfOk result (λ shown. IsListedOf file.now (string_bytes shown)) }
+    ensures listed { IfOk result (λ shown. HoldsOfCompleted file.now text.now
+        (λ m. IsListed m (string_bytes shown))) }
+    ensures refused { IfErr result (IsRefusedFor file.now text.now (λ _. IsOfInput)) }
 {
-    let text = text_in(rt, file)?;
-    let held = completed_of(rt, file, text.as_str())?;
-    let listing = listing_of(rt, &*held.manifest)?;
-    Ok(listing.to_string(rt.alloc())?)
+    let held = completed_of(rt, file, text)?;
+    listing_of(rt, &*held.manifest)
 }
 
-/// The features of a manifest as a value of JSON.
-fn listing_of<R: RandomSource + AllocGlobal>(rt: &R, manifest: &Manifest) -> Result<Value, Error>
-    ensures { IfOk result (λ v. IsListingOf manifest.now (json_view v)) }
+/// The features that a manifest resolves to, as JSON.
+fn listing_of<R: RandomSource + AllocGlobal>(rt: &R, manifest: &Manifest) -> Result<String, Error>
+    ensures listed { IfOk result (λ shown. IsListed manifest.now (string_bytes shown)) }
+    ensures refused { IfErr result IsOfInput }
 {
+    let state = RandomState::new(rt)?;
     let keep = keeps_none;
-    let resolver = Resolver::new_with_hasher_and_filter(RandomState::new(rt)?, &keep);
+    let resolver = Resolver::new_with_hasher_and_filter(state, &keep);
     let features = resolver.parse(rt.alloc(), manifest)?;
-    Ok(features_json(rt.alloc(), manifest, &features)?)
+    let listing = features_json(rt.alloc(), manifest, &features)?;
+    Ok(listing.to_string(rt.alloc())?)
 }
 
 fn keeps_none(_name: &str) -> bool

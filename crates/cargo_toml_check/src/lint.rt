@@ -1,31 +1,21 @@
 //! What is amiss with the features of a manifest, with places.
-ghost use Rattle.std.specs.Prelude.{◌≡◌};
+ghost use Rattle.std.specs.Prelude.{◌≡◌, IfErr};
+ghost use Rattle.cargo_toml_tools.specs.FromFiles.{IsOfInput};
 ghost use Rattle.cargo_toml_check.specs.Judged.{counts, is_odd};
 
 use crate::check::{Told, faults_in, push_place};
 use crate::places::{Place, places, push_item, push_key};
-use cargo_toml::{DepsSet, Error, Manifest, Product, Target, Value};
-use cargo_toml_held::HeldManifest;
+use cargo_toml::{DepsSet, Error, Manifest, Product, Value};
+use cargo_toml_bench::HeldManifest;
 use cargo_toml_lint::{Finding, Level};
+use cargo_toml_tools::Judging;
 use cargo_toml_tools::escape::{Format, push_escaped};
-use cargo_toml_tools::files::{findings_of, text_in};
+use cargo_toml_tools::files::findings_of;
 use cargo_toml_tools::json::put_text;
 use serde_json::{Map, Value as Json, put};
 use std::alloc::{AllocError, Global};
 use std::collections::{BTreeMap, BTreeSet};
 use std::random::RandomSource;
-use std::rt::Files;
-
-/// How findings are told, and which count.
-#[derive(Clone, Copy, Debug)]
-pub struct Judging<'a> {
-    /// What is passed over: `CODE` or `CODE=FEATURE` each.
-    pub allowed: &'a [&'a str],
-    /// Whether hints count, too.
-    pub denies_hints: bool,
-    /// Whether each line is an object of JSON.
-    pub json: bool,
-}
 
 /// A finding as a line has it.
 #[derive(Clone, Copy, Debug)]
@@ -39,21 +29,22 @@ struct Line<'a> {
     words: &'a str,
 }
 
-/// What is amiss with the features of the manifest in this file, a line each, and whether something
-/// counts. A manifest that doesn't read has the finding `unreadable` for each part at fault. The
-/// manifest's own `package.metadata.cargo-toml-tools.allow` is heeded as `allowed` is.
-pub fn lint_lines<R: Files + RandomSource + AllocGlobal>(
+/// What is amiss with the features of the manifest in this text of a file, a line each, and whether
+/// something counts. A manifest that doesn't read has the finding `unreadable` for each part at
+/// fault. The manifest's own `package.metadata.cargo-toml-tools.allow` is heeded, too. Refused
+/// where there is no memory, or nothing random.
+pub fn lint_lines<R: RandomSource + AllocGlobal>(
     rt: &R,
     file: &str,
-    judging: Judging<'_>,
-) -> Result<(String, bool), Error> {
-    let alloc = rt.alloc();
-    let text = text_in(rt, file)?;
-    let text = text.as_str();
-    match HeldManifest::from_str(alloc, text) {
+    text: &str,
+    judging: &Judging<'_>,
+) -> Result<(String, bool), Error>
+    ensures { IfErr result IsOfInput }
+{
+    match HeldManifest::from_str(rt.alloc(), text) {
         Ok(held) => readable(rt, file, text, &*held.manifest, judging),
         Err(Error::Memory) => Err(Error::Memory),
-        Err(_) => unreadable(alloc, file, text, judging),
+        Err(_) => Ok((unreadable(rt.alloc(), file, text, judging.json)?, true)),
     }
 }
 
@@ -62,20 +53,35 @@ fn readable<R: RandomSource + AllocGlobal>(
     file: &str,
     text: &str,
     manifest: &Manifest,
-    judging: Judging<'_>,
-) -> Result<(String, bool), Error> {
+    judging: &Judging<'_>,
+) -> Result<(String, bool), Error>
+    ensures { IfErr result IsOfInput }
+{
     let alloc = rt.alloc();
     let all = findings_of(rt, manifest)?;
-    let allowed = allowed_by(alloc, manifest)?;
+    let kept = kept(alloc, manifest, judging.allowed.as_slice(), all.as_slice())?;
+    let odd = is_odd(kept.as_slice(), judging.denies_hints);
+    Ok((
+        lines(alloc, file, text, manifest, kept.as_slice(), judging.json)?,
+        odd,
+    ))
+}
+
+/// The findings that neither these texts nor the manifest itself pass over.
+fn kept<'m>(
+    alloc: Global,
+    manifest: &Manifest,
+    allowed: &[&str],
+    findings: &[Finding<'m>],
+) -> Result<Vec<Finding<'m>>, AllocError> {
+    let own = allowed_by(alloc, manifest)?;
     let mut kept = Vec::new(alloc);
-    for finding in &all {
-        if !is_allowed(judging.allowed, finding) && !is_allowed(allowed.as_slice(), finding) {
+    for finding in findings {
+        if !is_allowed(allowed, finding) && !is_allowed(own.as_slice(), finding) {
             kept.push(*finding)?;
         }
     }
-    let kept = kept.as_slice();
-    let odd = is_odd(kept, judging.denies_hints);
-    Ok((lines(alloc, file, text, manifest, kept, judging.json)?, odd))
+    Ok(kept)
 }
 
 /// Whether one of these findings is an error or a warning, or a hint where hints are denied. It is
@@ -187,40 +193,36 @@ fn paths_of(
     finding: &Finding<'_>,
 ) -> Result<Vec<String>, AllocError> {
     let mut paths = Vec::new(alloc);
-    let feature = finding.feature;
-    let features = below(alloc, "", "features")?;
-    let path = below(alloc, features.as_str(), feature)?;
-    if let Some(texts) = manifest.features.get(feature) {
+    let path = below(alloc, "features", finding.feature)?;
+    if let Some(texts) = manifest.features.get(finding.feature) {
         let list = below(alloc, path.as_str(), "enables")?;
         push_text(&mut paths, path.as_str(), texts.as_slice(), finding.text)?;
         push_text(&mut paths, list.as_str(), texts.as_slice(), finding.text)?;
     }
     paths.push(path)?;
-    let normal = &manifest.dependencies;
-    push_dependency(&mut paths, alloc, "", "dependencies", normal, finding)?;
-    let build = &manifest.build_dependencies;
-    push_dependency(&mut paths, alloc, "", "build-dependencies", build, finding)?;
-    let dev = &manifest.dev_dependencies;
-    push_dependency(&mut paths, alloc, "", "dev-dependencies", dev, finding)?;
+    let tables = [
+        &manifest.dependencies,
+        &manifest.build_dependencies,
+        &manifest.dev_dependencies,
+    ];
+    push_dependencies(&mut paths, alloc, "", tables, finding)?;
     for (name, target) in &manifest.target {
-        push_of_target(&mut paths, alloc, name.as_str(), target, finding)?;
+        let above = below(alloc, "target", name.as_str())?;
+        let tables = [
+            &target.dependencies,
+            &target.build_dependencies,
+            &target.dev_dependencies,
+        ];
+        push_dependencies(&mut paths, alloc, above.as_str(), tables, finding)?;
     }
-    push_products(&mut paths, alloc, "bin", manifest.bin.as_slice(), finding)?;
-    push_products(
-        &mut paths,
-        alloc,
-        "example",
-        manifest.example.as_slice(),
-        finding,
-    )?;
-    push_products(&mut paths, alloc, "test", manifest.test.as_slice(), finding)?;
-    push_products(
-        &mut paths,
-        alloc,
-        "bench",
-        manifest.bench.as_slice(),
-        finding,
-    )?;
+    for (kind, products) in &[
+        ("bin", &manifest.bin),
+        ("example", &manifest.example),
+        ("test", &manifest.test),
+        ("bench", &manifest.bench),
+    ] {
+        push_products(&mut paths, alloc, *kind, products.as_slice(), finding)?;
+    }
     Ok(paths)
 }
 
@@ -246,49 +248,28 @@ fn push_text(
     Ok(())
 }
 
-fn push_of_target(
-    paths: &mut Vec<String>,
-    alloc: Global,
-    name: &str,
-    target: &Target,
-    finding: &Finding<'_>,
-) -> Result<(), AllocError> {
-    let above = below(alloc, "target", name)?;
-    let above = above.as_str();
-    push_dependency(
-        paths,
-        alloc,
-        above,
-        "dependencies",
-        &target.dependencies,
-        finding,
-    )?;
-    let build = &target.build_dependencies;
-    push_dependency(paths, alloc, above, "build-dependencies", build, finding)?;
-    let dev = &target.dev_dependencies;
-    push_dependency(paths, alloc, above, "dev-dependencies", dev, finding)
-}
-
-fn push_dependency(
+/// Adds the paths of a dependency, and of the text in its list, in each of these tables.
+fn push_dependencies(
     paths: &mut Vec<String>,
     alloc: Global,
     above: &str,
-    name: &str,
-    table: &DepsSet,
+    tables: [&DepsSet; 3],
     finding: &Finding<'_>,
 ) -> Result<(), AllocError> {
-    let Some(dependency) = table.get(finding.feature) else {
-        return Ok(());
-    };
-    let path = below(alloc, below(alloc, above, name)?.as_str(), finding.feature)?;
-    let list = below(alloc, path.as_str(), "features")?;
-    push_text(
-        paths,
-        list.as_str(),
-        dependency.req_features(),
-        finding.text,
-    )?;
-    paths.push(path)?;
+    let names = ["dependencies", "build-dependencies", "dev-dependencies"];
+    for (name, table) in names.iter().zip(tables.iter()) {
+        if let Some(dependency) = table.get(finding.feature) {
+            let path = below(alloc, below(alloc, above, *name)?.as_str(), finding.feature)?;
+            let list = below(alloc, path.as_str(), "features")?;
+            push_text(
+                paths,
+                list.as_str(),
+                dependency.req_features(),
+                finding.text,
+            )?;
+            paths.push(path)?;
+        }
+    }
     Ok(())
 }
 
@@ -312,17 +293,12 @@ fn push_products(
     Ok(())
 }
 
-fn unreadable(
-    alloc: Global,
-    file: &str,
-    text: &str,
-    judging: Judging<'_>,
-) -> Result<(String, bool), Error> {
+fn unreadable(alloc: Global, file: &str, text: &str, json: bool) -> Result<String, AllocError> {
     let mut lines = String::new(alloc);
-    for told in faults_in(alloc, text)? {
-        push_line(alloc, &mut lines, line_of(file, &told), judging.json)?;
+    for told in &faults_in(alloc, text)? {
+        push_line(alloc, &mut lines, line_of(file, told), json)?;
     }
-    Ok((lines, true))
+    Ok(lines)
 }
 
 fn line_of<'a>(file: &'a str, told: &'a Told) -> Line<'a> {

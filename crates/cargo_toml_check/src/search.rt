@@ -8,8 +8,8 @@ ghost use Rattle.cargo_toml_check.specs.Blamed.{reads_alone, reads_emptied};
 
 use crate::alone::{Around, Step, alone, emptied};
 use cargo_toml::Error;
-use cargo_toml_held::HeldManifest;
-use std::alloc::Global;
+use cargo_toml_bench::HeldManifest;
+use std::alloc::{AllocError, Global};
 use toml::value::Array;
 use toml::{Table, Value};
 
@@ -25,7 +25,7 @@ pub struct Fault<'t> {
 /// The parts of a manifest that are at fault: those that don't read by themselves, and of whose own
 /// parts each does. They stand in the order of their paths. There is none just where the manifest
 /// reads.
-pub fn faults(alloc: Global, tree: &Value) -> Result<Vec<Fault<'_>>, Error>
+pub fn faults(alloc: Global, tree: &Value) -> Result<Vec<Fault<'_>>, AllocError>
     ensures found { IfOk result (λ v. map path_of v.items ≡ blamed [] (view tree.now)) }
     ensures silent { IfOk result (λ v. v.items ≡ [] ↔ IsSome (reads (view tree.now))) }
 {
@@ -42,7 +42,7 @@ fn blame<'t>(
     path: &mut Vec<Step<'t>>,
     part: &'t Value,
     found: &mut Vec<Fault<'t>>,
-) -> Result<(), Error>
+) -> Result<(), AllocError>
     ensures stays { OnOk result (path.new.items ≡ path.old.items) }
     ensures found { OnOk result (map path_of found.new.items ≡ map path_of found.old.items
         ++ blamed (map part_of path.old.items) (view part.now)) }
@@ -66,7 +66,7 @@ fn inner_faults<'t>(
     alloc: Global,
     path: &mut Vec<Step<'t>>,
     part: &'t Value,
-) -> Result<Vec<Fault<'t>>, Error>
+) -> Result<Vec<Fault<'t>>, AllocError>
     ensures stays { OnOk result (path.new.items ≡ path.old.items) }
     ensures found { IfOk result (λ v. map path_of v.items
         ≡ inner_paths (map part_of path.old.items) (view part.now)
@@ -87,7 +87,7 @@ fn blame_parts<'t>(
     path: &mut Vec<Step<'t>>,
     part: &'t Value,
     found: &mut Vec<Fault<'t>>,
-) -> Result<(), Error>
+) -> Result<(), AllocError>
     ensures stays { OnOk result (path.new.items ≡ path.old.items) }
     ensures found { OnOk result (map path_of found.new.items ≡ map path_of found.old.items
         ++ blamed_parts (map part_of path.old.items) (view part.now)) }
@@ -105,7 +105,7 @@ fn blame_items<'t>(
     path: &mut Vec<Step<'t>>,
     array: &'t Array,
     found: &mut Vec<Fault<'t>>,
-) -> Result<(), Error>
+) -> Result<(), AllocError>
     ensures stays { OnOk result (path.new.items ≡ path.old.items) }
     ensures found { OnOk result (map path_of found.new.items ≡ map path_of found.old.items
         ++ blamed_items (map part_of path.old.items) 0 (array_view array.now)) }
@@ -124,7 +124,7 @@ fn blame_members<'t>(
     path: &mut Vec<Step<'t>>,
     table: &'t Table,
     found: &mut Vec<Fault<'t>>,
-) -> Result<(), Error>
+) -> Result<(), AllocError>
     ensures stays { OnOk result (path.new.items ≡ path.old.items) }
     ensures found { OnOk result (map path_of found.new.items ≡ map path_of found.old.items
         ++ blamed_members (map part_of path.old.items) (table_view table.now)) }
@@ -138,7 +138,7 @@ fn blame_members<'t>(
 }
 
 /// Whether the part at this path is an array or a table that reads, whatever stands in it.
-fn reads_emptied(alloc: Global, path: &[Step<'_>], part: &Value) -> Result<bool, Error>
+fn reads_emptied(alloc: Global, path: &[Step<'_>], part: &Value) -> Result<bool, AllocError>
     ensures { IfOk result (λ b. b ≡ reads_emptied (map part_of path.now) (view part.now)) }
 {
     let Some(emptied) = emptied(alloc, path, part)? else {
@@ -148,7 +148,7 @@ fn reads_emptied(alloc: Global, path: &[Step<'_>], part: &Value) -> Result<bool,
 }
 
 /// Why the part at this path doesn't read by itself, if it doesn't.
-fn refusal(alloc: Global, path: &[Step<'_>], part: &Value) -> Result<Option<Error>, Error>
+fn refusal(alloc: Global, path: &[Step<'_>], part: &Value) -> Result<Option<Error>, AllocError>
     ensures { IfOk result (λ o. is_none o
         ≡ is_some (reads_alone (map part_of path.now) (view part.now))) }
 {
@@ -158,7 +158,7 @@ fn refusal(alloc: Global, path: &[Step<'_>], part: &Value) -> Result<Option<Erro
             drop(held);
             Ok(None)
         }
-        Err(Error::Memory) => Err(Error::Memory),
+        Err(Error::Memory) => Err(AllocError),
         Err(fault) => Ok(Some(fault)),
     }
 }

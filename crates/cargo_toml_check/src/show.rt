@@ -1,5 +1,5 @@
 //! A manifest as text: TOML, or the same as JSON.
-ghost use Rattle.std.specs.Prelude.{◌≡◌, IfOk, Some, string_bytes};
+ghost use Rattle.std.specs.Prelude.{◌≡◌, IfErr, IfOk, Some, string_bytes};
 ghost use Rattle.serde_json.specs.Data.{array, no_members, object};
 ghost use Rattle.serde_json.specs.View.{view as json_view};
 ghost use Rattle.toml.specs.Data.{table};
@@ -7,32 +7,35 @@ ghost use Rattle.toml.specs.View.{view, array_view, table_view};
 ghost use Rattle.cargo_toml.specs.Manifests.{manifest_meaning};
 ghost use Rattle.cargo_toml.specs.Reread.{IsTold, reread};
 ghost use Rattle.cargo_toml_check.specs.Blamed.{reads};
-ghost use Rattle.cargo_toml_check.specs.Shown.{IsShown, IsShownAsJson, json_items, json_of};
-ghost use Rattle.cargo_toml_check.specs.Shown.{with_json};
+ghost use Rattle.cargo_toml_check.specs.Shown.{IsShown, IsShownAsJson, IsUnshown};
+ghost use Rattle.cargo_toml_check.specs.Shown.{json_items, json_of, with_json};
 
 use cargo_toml::{Error, Manifest, ToValue};
 use cargo_toml_write::write::package::value_metadata;
 use serde_json::{Map, Value as Json, push, put};
 use std::alloc::{AllocError, Global};
 use toml::value::Array;
-use toml::{Table, Value};
+use toml::{Table, Value, ser};
 
-/// The text of a manifest.
+/// The text of a manifest. Refused where a free value holds a float, or a date that is none.
 pub fn manifest_toml(alloc: Global, manifest: &Manifest) -> Result<String, Error>
-    ensures { IfOk result
+    ensures shown { IfOk result
         (λ text. IsShown (manifest_meaning view manifest.now) (string_bytes text)) }
+    ensures refused { IfErr result (IsUnshown (manifest_meaning view manifest.now)) }
 {
     let tree = tree_of(alloc, manifest)?;
     match toml::table_to_string(alloc, &tree) {
         Ok(text) => Ok(text),
-        Err(_) => Err(Error::Other("a manifest that can't be printed")),
+        Err(ser::Error::OutOfMemory) => Err(Error::Memory),
+        Err(ser::Error::DateInvalid) => Err(Error::Other("a manifest that can't be printed")),
     }
 }
 
 /// The same as an object of JSON, in which a date is a text.
 pub fn manifest_json(alloc: Global, manifest: &Manifest) -> Result<String, Error>
-    ensures { IfOk result
+    ensures shown { IfOk result
         (λ text. IsShownAsJson (manifest_meaning view manifest.now) (string_bytes text)) }
+    ensures refused { IfErr result (IsUnshown (manifest_meaning view manifest.now)) }
 {
     let tree = tree_of(alloc, manifest)?;
     let json = object_of(alloc, &tree)?;
@@ -41,13 +44,14 @@ pub fn manifest_json(alloc: Global, manifest: &Manifest) -> Result<String, Error
 
 /// The tree that a manifest is written to.
 fn tree_of(alloc: Global, manifest: &Manifest) -> Result<Table, Error>
-    ensures { IsTold (manifest_meaning view manifest.now) → IfOk result
+    ensures again { IsTold (manifest_meaning view manifest.now) → IfOk result
         (λ t. reads (table (table_view t)) ≡ Some (reread (manifest_meaning view manifest.now))) }
+    ensures refused { IfErr result (IsUnshown (manifest_meaning view manifest.now)) }
 {
     value_metadata(&None);
     match manifest.to_value(alloc)? {
         Value::Table(table) => Ok(table),
-        _ => Err(Error::Other("a manifest that is no table")),
+        _ => Err(Error::Other("a manifest that can't be printed")),
     }
 }
 

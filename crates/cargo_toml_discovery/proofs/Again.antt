@@ -1,12 +1,12 @@
 -- Discovery of what was discovered.
 use Rattle.std.proofs.Common.{◌≡◌, Bool, true, false, cond, ◌&&◌, ◌||◌, List, [], ◌∷◌, ◌++◌, map, filter, refl, ap, ◌∙◌, sym, Option, Some, None, codes, is_some, append-nil}
-use Rattle.std.proofs.{Math.Bool.or_assoc, lemmas.Bool.or_left, lemmas.Bool.or_right}
+use Rattle.std.proofs.{lemmas.List.Folds.list_any-append, lemmas.Bool.or_left, lemmas.Bool.or_right}
 use Rattle.std.specs.{List.list_any, List.cons_option, Str.bytes_eq}
-use Rattle.cargo_toml_tables.specs.Settings.{File, flag, path}
-use Rattle.cargo_toml_tables.specs.{declared.settings.Edition.Edition, Products.ProductMeaning}
+use Rattle.cargo_toml_parts.specs.Settings.{File, flag, path}
+use Rattle.cargo_toml_parts.specs.{declared.settings.Edition.Edition, Products.ProductMeaning}
 use Rattle.cargo_toml_discovery.proofs.Stable.{products_rank, one_sort, sorted-sorted_by, filter-sorted_by}
 use Rattle.cargo_toml_discovery.{proofs.Unique.own, proofs.Unique.or-swap, specs.Around.Around}
-use Rattle.cargo_toml_discovery.specs.Discovering.{library, or_plain_library, filled_library, at_library, build_in, may_build, readme_in, first_in, readme_names, listed_products, main_of, main_offer, StatedMeaning, DiscoveredMeaning, discovered, restated}
+use Rattle.cargo_toml_discovery.specs.Discovering.{library, or_plain_library, filled_library, at_library, build_in, may_build, readme_in, first_in, readme_names, listed_products, main_of, main_offer, StatedMeaning, discovered, restated}
 use Rattle.cargo_toml_discovery.specs.Found.{Named, Offered, offer_of, still_open, offers, is_text, is_path_of, has_path, product_for, product_among, taker, late_taker, last_product, all_found, found}
 use Rattle.cargo_toml_discovery.specs.Names.{Name, has_text}
 use Rattle.cargo_toml_discovery.specs.Sorting.{product_lt, insert_by, sorted_by, in_order}
@@ -20,10 +20,8 @@ built true None = refl
 built false None = refl
 built true (Some (flag true)) = refl
 built false (Some (flag true)) = refl
-built true (Some (flag false)) = refl
-built false (Some (flag false)) = refl
-built true (Some (path p)) = refl
-built false (Some (path p)) = refl
+built there (Some (flag false)) = refl
+built there (Some (path p)) = refl
 
 pub build-again : (root : List Name) (f : Option File) → build_in root (build_in root f) ≡ build_in root f
 build-again root f = built (has_text root (codes "build.rs")) f
@@ -106,10 +104,6 @@ have-sorted [] h = tt
 have-sorted (x ∷ xs) h = have-insert x (sorted_by product_lt xs) h.0 (have-sorted xs h.1)
 
 -- which paths these are
-path-append : (ps qs : List ProductMeaning) (t : Name) → is_path_of (ps ++ qs) t ≡ (is_path_of ps t || is_path_of qs t)
-path-append [] qs t = refl
-path-append (p ∷ ps) qs t = ap (λ (b : Bool). is_text t p.path || b) (path-append ps qs t) ∙ sym (or_assoc (is_text t p.path) (is_path_of ps t) (is_path_of qs t))
-
 path-insert : (x : ProductMeaning) (ys : List ProductMeaning) (t : Name) → is_path_of (insert_by product_lt x ys) t ≡ (is_text t x.path || is_path_of ys t)
 path-insert x [] t = refl
 path-insert x (y ∷ ys) t = elim (product_lt y x) as (λ b. is_path_of (cond b (y ∷ insert_by product_lt x ys) (x ∷ y ∷ ys)) t ≡ (is_text t x.path || is_path_of (y ∷ ys) t))
@@ -144,9 +138,9 @@ path-found edition folder ps es x t =
     let placed = map (product_among edition ps os) os in
     let last = last_product edition ps os x in
     path-sorted (filter has_path ps ++ (placed ++ last)) t
-    ∙ path-append (filter has_path ps) (placed ++ last) t
+    ∙ list_any-append (λ p. is_text t p.path) (filter has_path ps) (placed ++ last)
     ∙ ap (λ (b : Bool). b || is_path_of (placed ++ last) t) (path-filter ps t)
-    ∙ ap (λ (b : Bool). is_path_of ps t || b) (path-append placed last t ∙ ap (λ (b : Bool). b || is_path_of last t) (path-among edition ps os os t))
+    ∙ ap (λ (b : Bool). is_path_of ps t || b) (list_any-append (λ p. is_text t p.path) placed last ∙ ap (λ (b : Bool). b || is_path_of last t) (path-among edition ps os os t))
 
 -- no offer is open any more
 module _ (folder : Name) (f g : Name → Bool) (more : (t : Name) → f t ≡ true → g t ≡ true) where
@@ -218,21 +212,14 @@ module _ (edition : Edition) (folder : Name) (ps : List ProductMeaning) (es : Li
       ∙ found-again (main_offer name there ps)
 
 -- all parts
-same-parts : (d e : DiscoveredMeaning) → d.lib ≡ e.lib → d.bin ≡ e.bin → d.example ≡ e.example → d.test ≡ e.test → d.bench ≡ e.bench → d.build ≡ e.build → d.readme ≡ e.readme → d ≡ e
-same-parts d e lib bin example test bench build readme =
-    ap (λ (x : Option ProductMeaning). record d { lib = x }) lib
-    ∙ ap (λ (x : List ProductMeaning). record d { lib = e.lib; bin = x }) bin
-    ∙ ap (λ (x : List ProductMeaning). record d { lib = e.lib; bin = e.bin; example = x }) example
-    ∙ ap (λ (x : List ProductMeaning). record d { lib = e.lib; bin = e.bin; example = e.example; test = x }) test
-    ∙ ap (λ (x : List ProductMeaning). record e { bench = x; build = d.build; readme = d.readme }) bench
-    ∙ ap (λ (x : Option File). record e { build = x; readme = d.readme }) build
-    ∙ ap (λ (x : File). record e { readme = x }) readme
-
 pub discovered-again : (s : StatedMeaning) (a : Around) → discovered (restated s (discovered s a)) a ≡ discovered s a
-discovered-again s a = same-parts (discovered (restated s (discovered s a)) a) (discovered s a)
-    (library-again s.name s.edition (has_text a.src (codes "lib.rs")) s.autolib s.stated.lib)
-    (bins-again s.edition (codes "src/bin") s.stated.bin a.bins s.wanted.bins s.name (has_text a.src (codes "main.rs")))
-    (list-again s.edition (codes "examples") s.stated.example a.examples s.wanted.examples)
-    (list-again s.edition (codes "tests") s.stated.test a.tests s.wanted.tests)
-    (list-again s.edition (codes "benches") s.stated.bench a.benches s.wanted.benches)
-    (build-again a.root s.stated.build) (readme-again a.root s.stated.readme)
+discovered-again s a =
+    rw (
+      library-again s.name s.edition (has_text a.src (codes "lib.rs")) s.autolib s.stated.lib,
+      bins-again s.edition (codes "src/bin") s.stated.bin a.bins s.wanted.bins s.name (has_text a.src (codes "main.rs")),
+      list-again s.edition (codes "examples") s.stated.example a.examples s.wanted.examples,
+      list-again s.edition (codes "tests") s.stated.test a.tests s.wanted.tests,
+      list-again s.edition (codes "benches") s.stated.bench a.benches s.wanted.benches,
+      build-again a.root s.stated.build,
+      readme-again a.root s.stated.readme,
+    ) refl

@@ -5,7 +5,7 @@ use Rattle.std.specs.List.{list_any, cons_option, Sorted.IsStrictlySortedBy}
 use Rattle.std.specs.{Ordering.nat_cmp, Ordering.is_lt, declared.cmp.Ordering.Ordering}
 use Rattle.std.specs.declared.cmp.Ordering.TheVariants.{Less, Equal, Greater}
 use Rattle.std.specs.Cmp.Lexicographic.{slice_cmp, nat_list_cmp_total}
-use Rattle.cargo_toml_tables.specs.{declared.settings.Edition.Edition, Products.ProductMeaning}
+use Rattle.cargo_toml_parts.specs.{declared.settings.Edition.Edition, Products.ProductMeaning}
 use Rattle.cargo_toml_discovery.specs.Found.{Offered, product_for, product_among, last_waiting, last_product, has_offer, Named, offer_of, still_open, open_offer, offers, is_path_of, found, has_path}
 use Rattle.cargo_toml_discovery.specs.Names.{Name, is_source}
 use Rattle.cargo_toml_discovery.specs.Walk.{walk, with_extra, without, NamesAscend}

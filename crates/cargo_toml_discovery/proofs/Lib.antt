@@ -1,10 +1,8 @@
 pub mod Again
 pub mod Ascend
 pub mod Faults
-pub mod LastWaiting
 pub mod Lookups
-pub mod Paths
+pub mod Placed
 pub mod Stable
 pub mod Stems
 pub mod Unique
-pub mod Walks

@@ -7,7 +7,7 @@ use Rattle.std.specs.declared.cmp.Ordering.TheVariants.{Less, Equal, Greater}
 use Rattle.std.specs.Cmp.Lexicographic.{slice_cmp, nat_list_cmp_total}
 use Rattle.std.specs.BTreeSet.{BTreeSet, IsOrdered, contains_text}
 use Rattle.std.{specs.declared.alloc.Global.Global, proofs.lemmas.Slice.Eq.bytes_eq-Decides}
-use Rattle.std.proofs.lemmas.Map.Text.{is_eq-slice_cmp}
+use Rattle.std.proofs.lemmas.Map.{Text.is_eq-slice_cmp, Lookups.btree_set_from_contains, Lookups.exact_bytes}
 use Rattle.cargo_toml_discovery.specs.Answers.{texts_in}
 use Rattle.cargo_toml_discovery.specs.Names.{Name, has_text, put_in, ordered}
 
@@ -72,39 +72,15 @@ has-ordered q (t ∷ ts) = has-put_in q t (ordered ts) ∙ ap (λ (b : Bool). by
 pub own : (t : Name) → bytes_eq t t ≡ true
 own t = (bytes_eq-Decides t t).1 refl
 
-not-less : (a b : Name) → compare a b ≡ Less → bytes_eq a b ≡ false
-not-less a b h = sym (is_eq-slice_cmp a b) ∙ ap is_eq h
+-- whether a text is there, by the order and by its bytes
+pub any_equal : {K : Type 0} (f : K → Name) (t : Name) (ks : List K) → list_any (λ k. is_eq (compare t (f k))) ks ≡ list_any (λ k. bytes_eq t (f k)) ks
+any_equal f t ks = simp is_eq-slice_cmp
 
-not-above : (t : Name) (us : List Name) → AllAbove t us → has_text us t ≡ false
-not-above t [] h = refl
-not-above t (u ∷ us) h = ap (λ (b : Bool). b || has_text us t) (not-less t u h.0) ∙ not-above t us h.1
-
-has-first : (t : Name) (ts : List Name) → has_text (t ∷ ts) t ≡ true
-has-first t ts = ap (λ (b : Bool). b || has_text ts t) (own t)
-
-clash : {A : Type 0} (b : Bool) → b ≡ true → b ≡ false → A
-clash b h k = cc
-
-rest_same : (x q : Name) (xs ys : List Name) → AllAbove x xs → AllAbove x ys → (bytes_eq q x || has_text xs q) ≡ (bytes_eq q x || has_text ys q) → has_text xs q ≡ has_text ys q
-rest_same x q xs ys h k e = elim (bytes_eq q x) as (λ b. bytes_eq q x ≡ b → (b || has_text xs q) ≡ (b || has_text ys q) → has_text xs q ≡ has_text ys q) [
-  | true ↦ λ is _. let s : q ≡ x = (bytes_eq-Decides q x).0 is in rw (s, not-above x xs h, not-above x ys k) refl
-  | false ↦ λ _ r. r
-] refl e
-
-pub unique : (xs ys : List Name) → Sorted xs → Sorted ys → ((q : Name) → has_text xs q ≡ has_text ys q) → xs ≡ ys
-unfolding IsStrictlySortedBy
-unique [] [] a b h = refl
-unique [] (y ∷ ys) a b h = clash (has_text (y ∷ ys) y) (has-first y ys) (sym (h y))
-unique (x ∷ xs) [] a b h = clash (has_text (x ∷ xs) x) (has-first x xs) (h x)
-unique (x ∷ xs) (y ∷ ys) a b h = elim (compare x y) as (λ o. compare x y ≡ o → x ∷ xs ≡ y ∷ ys) [
-  | Less ↦ λ e. clash (has_text (x ∷ xs) x) (has-first x xs) (h x ∙ not-above x (y ∷ ys) (e, above-less x y ys e b.0))
-  | Equal ↦ λ e.
-      let s : x ≡ y = same_text x y e in
-      let b' : AllAbove x ys = subst (λ (t : Name). AllAbove t ys) (sym s) b.0 in
-      let r : xs ≡ ys = unique xs ys a.1 b.1 (λ q. rest_same x q xs ys a.0 b' (h q ∙ ap (λ (t : Name). bytes_eq q t || has_text ys q) (sym s))) in
-      ap (λ (t : Name). t ∷ xs) s ∙ ap (λ (ts : List Name). y ∷ ts) r
-  | Greater ↦ λ e. let k = turned x y e in clash (has_text (y ∷ ys) y) (has-first y ys) (sym (h y) ∙ not-above y (x ∷ xs) (k, above-less y x xs k a.0))
-] refl
+unique : (xs ys : List Name) → Sorted xs → Sorted ys → ((q : Name) → has_text xs q ≡ has_text ys q) → xs ≡ ys
+unique xs ys a b h =
+    let s : BTreeSet Name = record { keys = xs } in
+    let t : BTreeSet Name = record { keys = ys } in
+    btree_set_from_contains nat_list_cmp_total s t a b (λ q. any_equal (λ y. y) q xs ∙ h q ∙ sym (any_equal (λ y. y) q ys)) exact_bytes
 
 -- the texts of a set
 above-keys : (k : String Global) (ks : List (String Global)) → AllByRecursion (λ y. string_cmp k y ≡ Less) ks → AllAbove (string_bytes k) (map (λ k. string_bytes k) ks)
@@ -119,12 +95,12 @@ ascend-keys (k ∷ ks) h = (above-keys k ks h.0, ascend-keys ks h.1)
 pub ascend-set : (s : BTreeSet (String Global)) → IsOrdered string_cmp s → Sorted (texts_in s)
 ascend-set s h = ascend-keys s.keys h
 
-has-keys : (t : Name) (ks : List (String Global)) → list_any (λ k. is_eq (slice_cmp nat_cmp t (string_bytes k))) ks ≡ has_text (map (λ k. string_bytes k) ks) t
+has-keys : (t : Name) (ks : List (String Global)) → list_any (λ k. bytes_eq t (string_bytes k)) ks ≡ has_text (map (λ k. string_bytes k) ks) t
 has-keys t [] = refl
-has-keys t (k ∷ ks) = ap (λ (b : Bool). b || list_any (λ k. is_eq (slice_cmp nat_cmp t (string_bytes k))) ks) (is_eq-slice_cmp t (string_bytes k)) ∙ ap (λ (b : Bool). bytes_eq t (string_bytes k) || b) (has-keys t ks)
+has-keys t (k ∷ ks) = ap (λ (b : Bool). bytes_eq t (string_bytes k) || b) (has-keys t ks)
 
 pub has-set : (t : Name) (s : BTreeSet (String Global)) → contains_text s t ≡ has_text (texts_in s) t
-has-set t s = has-keys t s.keys
+has-set t s = any_equal (λ k. string_bytes k) t s.keys ∙ has-keys t s.keys
 
 -- a set in order has the texts, so they are these
 pub texts_in-ordered : (s : BTreeSet (String Global)) (ts : List Name) → IsOrdered string_cmp s → ((t : Name) → contains_text s t ≡ has_text ts t) → ordered ts ≡ texts_in s

@@ -3,11 +3,11 @@ use Rattle.std.specs.Prelude.{Bool, true, false, List, [], ◌∷◌, ◌&&◌, 
 use Rattle.std.specs.Prelude.{Some, None, option_map, if◌then◌else◌, codes, unwrap_or}
 use Rattle.std.specs.Option.{option_copied}
 use denote.Ref.{Bor}
-use Rattle.cargo_toml_tables.specs.Settings.{File, flag, path, file_meaning}
-use Rattle.cargo_toml_tables.specs.declared.settings.Edition.{Edition}
-use Rattle.cargo_toml_tables.specs.declared.settings.OptionalFile.{OptionalFile}
-use Rattle.cargo_toml_tables.specs.declared.product.Product.{Product}
-use Rattle.cargo_toml_tables.specs.Products.{ProductMeaning, product_meaning, no_product}
+use Rattle.cargo_toml_parts.specs.Settings.{File, flag, path, file_meaning}
+use Rattle.cargo_toml_parts.specs.declared.settings.Edition.{Edition}
+use Rattle.cargo_toml_parts.specs.declared.settings.OptionalFile.{OptionalFile}
+use Rattle.cargo_toml_parts.specs.declared.product.Product.{Product}
+use Rattle.cargo_toml_parts.specs.Products.{ProductMeaning, product_meaning, no_product}
 use Rattle.cargo_toml_discovery.specs.declared.discovery.Discovered as discovered_type
 use Rattle.cargo_toml_discovery.specs.declared.discovery.Stated as stated_type
 use Rattle.cargo_toml_discovery.specs.declared.listings.Wanted.{Wanted}

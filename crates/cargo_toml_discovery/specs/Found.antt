@@ -3,8 +3,8 @@ use Rattle.std.specs.Prelude.{Bool, false, not, ◌&&◌, List, [], ◌∷◌, �
 use Rattle.std.specs.Prelude.{filter, Option, Some, None, is_some, if◌then◌else◌, codes}
 use Rattle.std.specs.{List.list_any, List.filter_map, Option.option_or, Cmp.Lexicographic.slice_cmp}
 use Rattle.std.specs.{Ordering.nat_cmp, Ordering.is_lt, Str.bytes_eq}
-use Rattle.cargo_toml_tables.specs.declared.settings.Edition.{Edition}
-use Rattle.cargo_toml_tables.specs.Products.{ProductMeaning, no_product}
+use Rattle.cargo_toml_parts.specs.declared.settings.Edition.{Edition}
+use Rattle.cargo_toml_parts.specs.Products.{ProductMeaning, no_product}
 use Rattle.cargo_toml_discovery.specs.Names.{Name, in_folder, is_source, stem}
 use Rattle.cargo_toml_discovery.specs.Sorting.{in_order}
 

@@ -3,7 +3,7 @@ use Rattle.std.specs.Prelude.{Bool, List, [], ◌∷◌, Option, if◌then◌els
 use Rattle.std.specs.{declared.cmp.Ordering.Ordering, Option.option_cmp}
 use Rattle.std.specs.Ordering.{nat_cmp, is_lt, ordering_then}
 use Rattle.std.specs.Cmp.Lexicographic.{slice_cmp}
-use Rattle.cargo_toml_tables.specs.Products.{ProductMeaning}
+use Rattle.cargo_toml_parts.specs.Products.{ProductMeaning}
 use Rattle.cargo_toml_discovery.specs.Names.{Name}
 
 abbrev pub text_cmp : Option Name → Option Name → Ordering

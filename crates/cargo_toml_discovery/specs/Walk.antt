@@ -6,9 +6,9 @@ use Rattle.std.specs.{BTreeMap.BTreeMap, BTreeMap.get_by, BTreeSet.BTreeSet, BTr
 use Rattle.std.specs.{Cmp.Lexicographic.slice_cmp, List.Sorted.IsStrictlySortedBy, Ordering.nat_cmp}
 use Rattle.std.specs.Str.{bytes_eq}
 use denote.Ref.{Bor}
-use Rattle.cargo_toml_tables.specs.declared.settings.Edition.{Edition}
-use Rattle.cargo_toml_tables.specs.Products.{ProductMeaning, product_meaning}
-use Rattle.cargo_toml_tables.specs.declared.product.Product.{Product}
+use Rattle.cargo_toml_parts.specs.declared.settings.Edition.{Edition}
+use Rattle.cargo_toml_parts.specs.Products.{ProductMeaning, product_meaning}
+use Rattle.cargo_toml_parts.specs.declared.product.Product.{Product}
 use Rattle.cargo_toml_discovery.specs.declared.found.Offer as code_offer
 use Rattle.cargo_toml_discovery.specs.declared.found.Placing as code_placing
 use Rattle.cargo_toml_discovery.specs.declared.listings.Entry as code_entry

@@ -2,7 +2,7 @@
 ghost use Rattle.std.specs.Prelude.{◌≡◌, [], Option, None, IfOk, codes};
 ghost use Rattle.std.specs.Option.{option_map};
 ghost use Rattle.cargo_toml_discovery.specs.Answers.{answers_of, around_in, entries_if, names_kept};
-ghost use Rattle.cargo_toml_discovery.specs.Discovering.{at_library, build_in, discovered};
+ghost use Rattle.cargo_toml_discovery.specs.Discovering.{build_in, discovered};
 ghost use Rattle.cargo_toml_discovery.specs.Discovering.{discovered_meaning, filled_library};
 ghost use Rattle.cargo_toml_discovery.specs.Discovering.{file_lent, found_library, library};
 ghost use Rattle.cargo_toml_discovery.specs.Discovering.{listed_products, main_offer, meanings};
@@ -10,15 +10,15 @@ ghost use Rattle.cargo_toml_discovery.specs.Discovering.{product_lent, readme_in
 ghost use Rattle.cargo_toml_discovery.specs.Found.{Offered};
 ghost use Rattle.cargo_toml_discovery.specs.Names.{has_text};
 ghost use Rattle.cargo_toml_discovery.specs.Walk.{IsOffer};
-ghost use Rattle.cargo_toml_tables.specs.Settings.{file_meaning};
-ghost use Rattle.cargo_toml_tables.specs.Products.{product_meaning};
+ghost use Rattle.cargo_toml_parts.specs.Settings.{file_meaning};
+ghost use Rattle.cargo_toml_parts.specs.Products.{product_meaning};
 
 use crate::found::{Offer, StatedList, found};
 use crate::listings::{Listings, Wanted};
 use crate::names::underscored;
 use crate::products::{copied, copies, is_path_of, sort_products};
 use cargo_toml_parts::duplicate::Duplicate;
-use cargo_toml_tables::{Edition, OptionalFile, Product};
+use cargo_toml_parts::{Edition, OptionalFile, Product};
 use std::alloc::{AllocError, Global};
 
 /// What a manifest states of its package and of its products.
@@ -67,17 +67,6 @@ pub struct Discovered {
     pub readme: OptionalFile,
 }
 
-// A library with the path `src/lib.rs`, unless it has one.
-fn at_library(alloc: Global, library: Product) -> Result<Product, AllocError>
-    ensures { IfOk result (λ p. product_meaning p ≡ at_library (product_meaning library)) }
-{
-    let mut library = library;
-    if library.path.is_none() {
-        library.path = Some(String::from_str(alloc, "src/lib.rs")?);
-    }
-    Ok(library)
-}
-
 // The library, where `src/lib.rs` is there or not.
 fn found_library(
     alloc: Global,
@@ -88,23 +77,15 @@ fn found_library(
     ensures { IfOk result (λ l. option_map product_meaning l
         ≡ found_library is_there autolib (product_lent library.entry)) }
 {
-    match library {
-        Some(library) => {
-            let library = copied(library)?;
-            if is_there {
-                Ok(Some(at_library(alloc, library)?))
-            } else {
-                Ok(Some(library))
-            }
-        }
-        None => {
-            if is_there && autolib {
-                Ok(Some(at_library(alloc, Product::default(alloc))?))
-            } else {
-                Ok(None)
-            }
-        }
+    let mut library = match library {
+        Some(library) => copied(library)?,
+        None if is_there && autolib => Product::default(alloc),
+        None => return Ok(None),
+    };
+    if is_there && library.path.is_none() {
+        library.path = Some(String::from_str(alloc, "src/lib.rs")?);
     }
+    Ok(Some(library))
 }
 
 // The library with what it takes from the package.

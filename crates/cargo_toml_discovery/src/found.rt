@@ -9,12 +9,12 @@ ghost use Rattle.cargo_toml_discovery.specs.Names.{Name};
 ghost use Rattle.cargo_toml_discovery.specs.Walk.{named_of, all_named, offer_parts};
 ghost use Rattle.cargo_toml_discovery.specs.Walk.{parts_of_code, waiting_in, is_path_in};
 ghost use Rattle.cargo_toml_discovery.specs.Walk.{walked, IsOffer, NamesAscend};
-ghost use Rattle.cargo_toml_tables.specs.Products.{product_meaning};
+ghost use Rattle.cargo_toml_parts.specs.Products.{product_meaning};
 
 use crate::listings::Entry;
 use crate::names::{in_folder, is_source, stem};
 use crate::products::{copied, sort_products};
-use cargo_toml_tables::{Edition, Product};
+use cargo_toml_parts::{Edition, Product};
 use std::alloc::{AllocError, Global};
 use std::collections::{BTreeMap, BTreeSet};
 
@@ -164,14 +164,8 @@ fn open_offer(
         (IsOffer (open_offer folder.now (is_path_in paths.now) (named_of entry.now))) }
 {
     match offer_for(alloc, folder, entry)? {
-        Some(offer) => {
-            if paths.contains(offer.path.as_str()) {
-                Ok(None)
-            } else {
-                Ok(Some(offer))
-            }
-        }
-        None => Ok(None),
+        Some(offer) if !paths.contains(offer.path.as_str()) => Ok(Some(offer)),
+        _ => Ok(None),
     }
 }
 
@@ -186,30 +180,17 @@ struct Placing<'a> {
     still: BTreeMap<&'a str, &'a Product>,
 }
 
-// Places the product of an offer.
-fn place(alloc: Global, offer: Offer, placing: &mut Placing<'_>) -> Result<(), AllocError>
-    ensures ok { OnOk result
-        ((o : Offered) (os : List Offered) → offer_parts o ≡ parts_of_code offer
-        → walked placing.new os ≡ walked placing.old (o ∷ os)) }
-{
-    let waiting = placing.still.remove(offer.name.as_str());
-    let product = product_for(alloc, placing.edition, offer, waiting)?;
-    placing.list.push(product)?;
-    Ok(())
-}
-
 // Places the product of an offer, if there is one.
-fn place_if_there(
-    alloc: Global,
-    offer: Option<Offer>,
-    placing: &mut Placing<'_>,
-) -> Result<(), AllocError>
+fn place(alloc: Global, offer: Option<Offer>, placing: &mut Placing<'_>) -> Result<(), AllocError>
     ensures ok { OnOk result ((o : Option Offered) (os : List Offered) → IsOffer o offer
         → walked placing.new os ≡ walked placing.old (cons_option o os)) }
 {
-    if let Some(offer) = offer {
-        place(alloc, offer, placing)?;
-    }
+    let Some(offer) = offer else {
+        return Ok(());
+    };
+    let waiting = placing.still.remove(offer.name.as_str());
+    let product = product_for(alloc, placing.edition, offer, waiting)?;
+    placing.list.push(product)?;
     Ok(())
 }
 
@@ -226,7 +207,7 @@ fn place_all(
 {
     for entry in entries {
         let offer = open_offer(alloc, folder, paths, entry)?;
-        place_if_there(alloc, offer, placing)?;
+        place(alloc, offer, placing)?;
     }
     Ok(())
 }
@@ -255,7 +236,7 @@ pub fn found(
         still: waiting(alloc, stated.products)?,
     };
     place_all(alloc, stated.folder, &paths, entries, &mut placing)?;
-    place_if_there(alloc, extra, &mut placing)?;
+    place(alloc, extra, &mut placing)?;
     sort_products(&mut placing.list)?;
     Ok(placing.list)
 }

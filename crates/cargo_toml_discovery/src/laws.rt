@@ -5,7 +5,7 @@ ghost use Rattle.cargo_toml_discovery.specs.Around.{Around};
 ghost use Rattle.cargo_toml_discovery.specs.Discovering.{discovered, restated, StatedMeaning};
 ghost use Rattle.cargo_toml_discovery.specs.Names.{Name, is_source, stem, with_endings};
 ghost use Rattle.cargo_toml_discovery.specs.Sorting.{in_order, product_lt};
-ghost use Rattle.cargo_toml_tables.specs.Products.{ProductMeaning};
+ghost use Rattle.cargo_toml_parts.specs.Products.{ProductMeaning};
 
 // Discovery of what was discovered, with the same names around the package, changes nothing.
 fn discovering_again()

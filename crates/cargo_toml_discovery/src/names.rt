@@ -1,7 +1,6 @@
 //! Names of files and folders.
-ghost use Rattle.std.specs.Prelude.{◌≡◌, IfOk, IsTrue, string_bytes};
-ghost use Rattle.cargo_toml_discovery.specs.Names.{in_folder, is_source, stem};
-ghost use Rattle.cargo_toml_discovery.specs.Names.{underscored, without_ending};
+ghost use Rattle.std.specs.Prelude.{◌≡◌, IfOk, string_bytes};
+ghost use Rattle.cargo_toml_discovery.specs.Names.{in_folder, is_source, stem, underscored};
 
 use std::alloc::{AllocError, Global};
 
@@ -24,26 +23,11 @@ pub fn is_source(name: &str) -> bool
     name.as_bytes().ends_with(b".rs".as_slice())
 }
 
-// The name of a source without its last three bytes.
-fn without_ending(name: &str) -> &str
-    requires { IsTrue (is_source name.now) }
-    ensures { result.now ≡ without_ending name.now }
-{
-    match name.strip_suffix(".rs") {
-        Some(front) => front,
-        None => name,
-    }
-}
-
 /// The name without `.rs` at its end, however often it stands there.
 pub fn stem(name: &str) -> &str
     ensures { result.now ≡ stem name.now }
 {
-    let mut rest = name;
-    while is_source(rest) {
-        rest = without_ending(rest);
-    }
-    rest
+    name.trim_end_matches(".rs")
 }
 
 /// The name with each `-` as `_`.

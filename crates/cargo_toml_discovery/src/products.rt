@@ -3,9 +3,9 @@ ghost use Rattle.std.specs.Prelude.{◌≡◌, IfOk, OnOk};
 ghost use Rattle.cargo_toml_discovery.specs.Discovering.{meanings};
 ghost use Rattle.cargo_toml_discovery.specs.Found.{is_path_of};
 ghost use Rattle.cargo_toml_discovery.specs.Sorting.{in_order, product_cmp};
-ghost use Rattle.cargo_toml_tables.specs.Products.{product_meaning};
+ghost use Rattle.cargo_toml_parts.specs.Products.{product_meaning};
 
-use cargo_toml_tables::Product;
+use cargo_toml_parts::Product;
 use std::alloc::{AllocError, Global};
 use std::cmp::Ordering;
 

@@ -1,10 +1,9 @@
 -- What is listed, the entries and what is kept settle an answer except its binaries.
-use Rattle.std.proofs.Common.{◌≡◌, ◌↔◌, Bool, List, Option, IsTrue, IfSome, is_some, sym, ap, subst, ◌∙◌, arith}
-use Rattle.std.proofs.lemmas.{Bool.false≢true, Grind.common_steps}
-use Rattle.cargo_toml_graph.specs.{Action.Text, Admitted.Listed, Removal.is_removed}
-use Rattle.cargo_toml_graph.proofs.{Settled.resolution_settled, Texts.by_true}
-use Rattle.cargo_toml_features.specs.{Agreement.Agree, Agreement.SameTests, Marks.NamedDetails, Marks.FeatureMarks, Recorded.Entry, Recorded.RecordedKey, Resolved.Answer, Resolved.IsAnswer}
-use Rattle.cargo_toml_features.specs.Resolved.{SameRecorded, table_of}
+use Rattle.std.proofs.Common.{◌≡◌, ◌↔◌, Bool, List, Option, IsTrue, IfSome, is_some, sym, ap, subst, ◌∙◌, arith, true, [], ◌∷◌, bytes_eq}
+use Rattle.std.{proofs.lemmas.Bool.false≢true, proofs.lemmas.Grind.common_steps, proofs.lemmas.Slice.Eq.bytes_eq-Decides, specs.Map.lookup}
+use Rattle.cargo_toml_graph.{specs.Action.Text, specs.Admitted.Listed, specs.Removal.is_removed, proofs.Settled.resolution_settled, proofs.Texts.by_true}
+use Rattle.cargo_toml_features.specs.{Agreement.Agree, Agreement.SameTests, Marks.NamedDetails, Marks.FeatureMarks, Marks.detail_named, Marks.details_listed, Marks.marks_in, Recorded.Entry, Recorded.RecordedKey, Resolved.Answer}
+use Rattle.cargo_toml_features.specs.Resolved.{IsAnswer, SameRecorded, table_of, IsAnswerWithout}
 
 -- two that record what a third does
 alike : (a b c : Option RecordedKey) → SameRecorded a c → SameRecorded b c → SameRecorded a b
@@ -27,3 +26,18 @@ settled listed entries details told own others keep a b h k = record {
   redirects = λ r. tests_alike _ (a.redirects r) (b.redirects r) (by_true _ _ (λ y. (k.redirected r).1 ((h.redirected r).0 y), λ y. (h.redirected r).1 ((k.redirected r).0 y))) (h.redirects r) (k.redirects r);
   removed_some = by_true a.removed_some b.removed_some (λ e. k.kept.some.1 (h.kept.some.0 e), λ e. h.kept.some.1 (k.kept.some.0 e));
 }
+
+-- ---- the details of what is listed, and all details
+-- of a name that is listed, the details of what is listed say what all details say
+listed_says : (listed : Listed) (details : NamedDetails) (f : Text) → is_some (lookup (bytes_eq f) listed) ≡ true → detail_named (details_listed listed details) f ≡ detail_named details f
+listed_says [] details f there = absurd (false≢true there)
+listed_says (e ∷ es) details f there = grind (arith, common_steps, false≢true, bytes_eq-Decides, listed_says es details f)
+
+-- so the marks by both are the same
+marks_listed : (listed : Listed) (details : NamedDetails) (f : Text) → marks_in listed (details_listed listed details) f ≡ marks_in listed details f
+marks_listed listed details f = grind (arith, common_steps, listed_says)
+
+-- and an answer by the details of what is listed is one by all details
+pub told_by_listed : (listed : Listed) (entries : List Entry) (details : NamedDetails) (own : Text → List Text) (R : Text → Type 0) (a : Answer)
+    → IsAnswerWithout listed entries (details_listed listed details) own R a → IsAnswerWithout listed entries details own R a
+told_by_listed listed entries details own keep a h = grind (arith, common_steps, marks_listed)

@@ -1,13 +1,40 @@
--- The names of a table, in byte order and each once.
-use Rattle.std.proofs.Common.{◌≡◌, List, [], ◌∷◌, map, Option, Bor, option_map, string_bytes, String, unwrap_or, Vec, refl, sym, ap, ◌∙◌, arith}
-use Rattle.std.specs.{Option.option_copied, BTreeMap.BTreeMap, BTreeMap.get_by, BTreeMap.is_at, Cmp.Lexicographic.slice_cmp, Map.lookup, Ordering.nat_cmp, List.Sorted.IsStrictlySortedBy}
-use Rattle.std.specs.{String.string_cmp, declared.alloc.Global.Global}
-use Rattle.std.proofs.lemmas.{Map.Text.is_eq-slice_cmp, Grind.common_steps}
-use Rattle.cargo_toml_graph.{specs.Action.Text, proofs.Cut.Ascends}
-use Rattle.cargo_toml_features.proofs.OneListing.{listed_ascend}
-use Rattle.cargo_toml_dependencies.specs.{Details.Detail, Details.detail_of, Details.plain_detail, declared.target.FeatureDetail.FeatureDetail}
+-- The names of a table, in byte order and each once, and those of a hashed one.
+use Rattle.std.proofs.Common.{◌≡◌, T, cond, List, [], ◌∷◌, map, Some, bytes_eq, refl, sym, subst, ap, ap₂, ◌∙◌, arith, Option, Bor, option_map, string_bytes, String, unwrap_or, Vec, ◌||◌, Bool, true, false, ◌++◌, None, is_some}
+use Rattle.std.proofs.lemmas.{Cmp.nat_list_cmp_total, Map.Lookups.exact_bytes, Map.Text.is_eq-slice_cmp, Map.Text.btree_map_updates_str, Grind.common_steps, Bool.or_right, List.map-append, List.Folds.list_any-append}
+use Rattle.std.{proofs.lemmas.Map.Made.is_some-lookup, proofs.lemmas.Slice.Eq.bytes_eq-Decides, proofs.Math.Bool.or-false}
+use Rattle.std.specs.{FinMap.Entries.find, FinMap.Entries.below_all, FinMap.Entries.is_sorted, FinMap.Entries.same_entries, Cmp.Lexicographic.slice_cmp, List.AllByRecursion, List.list_any, List.Sorted.IsStrictlySortedBy, Map.lookup}
+use Rattle.std.specs.{Ordering.nat_cmp, declared.cmp.Ordering.TheVariants.Less, Option.option_copied, BTreeMap.BTreeMap, BTreeMap.get_by, BTreeMap.is_at, String.string_cmp, declared.alloc.Global.Global, HashMap.HashMap, Map.Iter.deref_pair}
+use Rattle.cargo_toml_graph.{specs.Action.Text, specs.Admitted.Listed, specs.Ascending.Ascend, proofs.Cut.Ascends, proofs.SortedTexts.texts_ascend, proofs.Texts.bytes_eq_sym}
+use Rattle.cargo_toml_package.specs.{Details.Detail, Details.detail_of, Details.plain_detail, declared.target.FeatureDetail.FeatureDetail}
 use Rattle.cargo_toml_parts.specs.Reads.{map_meaning}
-use Rattle.cargo_toml_features.specs.{Marks.detail_named, Marks.detail_in, Views.listed_of, declared.admit.Listing.Listing}
+use Rattle.cargo_toml_features.specs.{Marks.detail_named, Marks.detail_in, Views.listed_of, declared.admit.Listing.Listing, Hashed.actions_at, Hashed.sorted_actions_at}
+use Rattle.std.specs.BTreeMap as tree
+
+-- the order of keys is the byte order of the names that they list
+pub listed_ascend : {K V : Type 0} (text : K → Text) (list : V → List Text) (es : List (K × V)) → IsStrictlySortedBy (λ (x y : K). slice_cmp nat_cmp (text x) (text y)) (map (λ e. e.0) es)
+    → Ascends (map (λ e. (text e.0, list e.1)) es)
+listed_ascend {K} {V} text list es up = subst Ascend (same es) (texts_ascend text (map (λ (e : K × V). e.0) es) up)
+  where
+    same : (ds : List (K × V)) → map text (map (λ (d : K × V). d.0) ds) ≡ map (λ (d : Text × List Text). d.0) (map (λ (d : K × V). (text d.0, list d.1)) ds)
+    same [] = refl
+    same (d ∷ ds) = ap (λ ts. text d.0 ∷ ts) (same ds)
+
+-- a name is looked up by bytes or in their order
+pub by_bytes : (f : Text) (ls : Listed) → lookup (bytes_eq f) ls ≡ find (slice_cmp nat_cmp) f ls
+by_bytes f [] = refl
+by_bytes f (e ∷ ls) = ap₂ (λ b o. cond b (Some e.1) o) (sym (is_eq-slice_cmp f e.0)) (by_bytes f ls)
+
+below : (k : Text) (ls : Listed) → AllByRecursion (λ y. slice_cmp nat_cmp k y ≡ Less) (map (λ e. e.0) ls) → T (below_all (slice_cmp nat_cmp) k ls)
+below k [] h = tt
+below k (e ∷ ls) h = grind (arith, common_steps, below k ls h.1)
+
+rises : (ls : Listed) → Ascends ls → T (is_sorted (slice_cmp nat_cmp) ls)
+unfolding IsStrictlySortedBy
+rises [] h = tt
+rises (e ∷ ls) h = grind (arith, common_steps, below e.0 ls h.0, rises ls h.1)
+
+pub one_listing : (a b : Listed) → Ascends a → Ascends b → ((f : Text) → lookup (bytes_eq f) a ≡ lookup (bytes_eq f) b) → a ≡ b
+one_listing a b up vp h = same_entries (slice_cmp nat_cmp) nat_list_cmp_total exact_bytes a b (rises a up) (rises b vp) (λ f. sym (by_bytes f a) ∙ h f ∙ by_bytes f b)
 
 abbrev Owned : Type 0
 Owned = String Global × Vec (String Global) Global
@@ -45,3 +72,71 @@ detail_copied v0 = grind (arith, common_steps)
 pub detail_found : (f : Text) (m : BTreeMap (String Global) FeatureDetail) (o : Option (Bor FeatureDetail)) → option_copied o ≡ get_by (λ k. slice_cmp nat_cmp f (string_bytes k)) m
     → detail_in o ≡ detail_named (map_meaning detail_of m) f
 detail_found f m o is = detail_copied o ∙ ap (λ d. unwrap_or (option_map detail_of d) plain_detail) is ∙ sym (detail_among f m.entries)
+
+-- ---- a hashed table, put in order one name after another
+abbrev Walked : Type 0
+Walked = List (Bor (String Global) × Bor (Vec (String Global) Global))
+
+abbrev Sorted : Type 0
+Sorted = BTreeMap (Bor Text) (Bor (List (String Global)))
+
+abbrev pub is_walked : Walked → Text → Bool
+is_walked yielded f = list_any (λ (k : String Global). bytes_eq f (string_bytes k)) (map (λ e. e.0.now) yielded)
+
+-- what has been put so far
+abbrev pub IsPut : {S : Type 0} → HashMap (String Global) (Vec (String Global) Global) S → Walked → Sorted → Type 0
+IsPut m yielded sorted = (f : Text) → sorted_actions_at sorted f ≡ cond (is_walked yielded f) (actions_at m f) None
+
+walked_more : (yielded : Walked) (k : Bor (String Global)) (v : Bor (Vec (String Global) Global)) (f : Text) → is_walked (yielded ++ (k, v) ∷ []) f ≡ (is_walked yielded f || bytes_eq f (string_bytes k.now))
+walked_more yielded k v f = grind (arith, common_steps, string_bytes, map-append, list_any-append, or-false)
+
+module _ {S : Type 0} (m : HashMap (String Global) (Vec (String Global) Global) S) where
+  pub one_put : (yielded : Walked) (k : Bor (String Global)) (v : Bor (Vec (String Global) Global)) (name : Bor Text) (actions : Bor (List (String Global))) (a b : Sorted) → name.now ≡ string_bytes k.now → actions.now ≡ v.now.items
+      → actions_at m (string_bytes k.now) ≡ Some (map string_bytes v.now.items) → tree.UpdatesBy (λ x y. slice_cmp nat_cmp x.now y.now) (λ q. slice_cmp nat_cmp name.now q.now) a b (Some actions)
+      → IsPut m yielded a → IsPut m (yielded ++ (k, v) ∷ []) b
+  one_put yielded k v name actions a b named acted there u h f =
+      ap (option_map (λ (x : Bor (List (String Global))). map string_bytes x.now)) (btree_map_updates_str name.now a b (Some actions) u f)
+      ∙ go (bytes_eq name.now f) refl
+      ∙ sym (ap (λ t. cond t (actions_at m f) None) (walked_more yielded k v f))
+    where
+      turned : bytes_eq f (string_bytes k.now) ≡ bytes_eq name.now f
+      turned = ap (bytes_eq f) (sym named) ∙ bytes_eq_sym f name.now
+
+      go : (t : Bool) → bytes_eq name.now f ≡ t → option_map (λ (x : Bor (List (String Global))). map string_bytes x.now) (cond (bytes_eq name.now f) (Some actions) (tree.get_by (λ q. slice_cmp nat_cmp f q.now) a))
+          ≡ cond (is_walked yielded f || bytes_eq f (string_bytes k.now)) (actions_at m f) None
+      go true on =
+          ap (λ t. option_map (λ (x : Bor (List (String Global))). map string_bytes x.now) (cond t (Some actions) (tree.get_by (λ q. slice_cmp nat_cmp f q.now) a))) on
+          ∙ ap (λ xs. Some (map string_bytes xs)) acted ∙ sym there ∙ ap (actions_at m) (sym named ∙ (bytes_eq-Decides name.now f).0 on)
+          ∙ sym (ap (λ t. cond t (actions_at m f) None) (or_right _ _ (turned ∙ on)))
+      go false off =
+          ap (λ t. option_map (λ (x : Bor (List (String Global))). map string_bytes x.now) (cond t (Some actions) (tree.get_by (λ q. slice_cmp nat_cmp f q.now) a))) off
+          ∙ h f ∙ sym (ap (λ t. cond (is_walked yielded f || t) (actions_at m f) None) (turned ∙ off) ∙ ap (λ t. cond t (actions_at m f) None) (or-false _))
+
+  keys_shown : (xs : Walked) → map (λ e. e.0.now) xs ≡ map (λ (e : String Global × Vec (String Global) Global). e.0) (map deref_pair xs)
+  keys_shown [] = refl
+  keys_shown (x ∷ xs) = ap (λ ys. x.0.now ∷ ys) (keys_shown xs)
+
+  -- once all have had their turn
+  pub all_put : (yielded : Walked) (sorted : Sorted) → map deref_pair yielded ≡ m.entries → IsPut m yielded sorted → (f : Text) → sorted_actions_at sorted f ≡ actions_at m f
+  all_put yielded sorted all h f =
+      h f
+      ∙ ap (λ ks. cond (list_any (λ (k : String Global). bytes_eq f (string_bytes k)) ks) (actions_at m f) None) (keys_shown yielded ∙ ap (map (λ (e : String Global × Vec (String Global) Global). e.0)) all)
+      ∙ ap (λ t. cond t (actions_at m f) None) (sym (is_some-lookup (λ (k : String Global). bytes_eq f (string_bytes k)) m.entries))
+      ∙ go (lookup (λ (k : String Global). bytes_eq f (string_bytes k)) m.entries)
+    where
+      go : (o : Option (Vec (String Global) Global)) → cond (is_some o) (option_map (λ v. map string_bytes v.items) o) None ≡ option_map (λ v. map string_bytes v.items) o
+      go None = refl
+      go (Some v) = refl
+
+-- what an entry of the sorted table lists
+abbrev pub sorted_entry : Bor Text × Bor (List (String Global)) → Text × List Text
+sorted_entry e = (e.0.now, map string_bytes e.1.now)
+
+-- looking a name up in what is listed is looking it up in the table
+pub looked_up : (f : Text) (es : List (Bor Text × Bor (List (String Global)))) → lookup (bytes_eq f) (map sorted_entry es) ≡ option_map (λ v. map string_bytes v.now) (lookup (is_at (λ k. slice_cmp nat_cmp f k.now)) es)
+looked_up f [] = refl
+looked_up f (e ∷ es) = grind (arith, common_steps, string_bytes, is_eq-slice_cmp, looked_up f es)
+
+-- the order of the table is the byte order of the names
+pub sorted_ascends : (es : List (Bor Text × Bor (List (String Global)))) → IsStrictlySortedBy (λ x y. slice_cmp nat_cmp x.now y.now) (map (λ e. e.0) es) → Ascends (map sorted_entry es)
+sorted_ascends es up = listed_ascend (λ k. k.now) (λ v. map string_bytes v.now) es up

@@ -1,13 +1,30 @@
--- The invariant of the walk, and what is found and listed at its end.
-use Rattle.std.proofs.Common.{◌≡◌, ◌≢◌, ◌+◌, ◌<◌, ◌⊎◌, ◌&&◌, Bool, true, false, cond, List, [], ◌∷◌, ◌++◌, map, Option, Some, None, is_some, IsTrue, IsFalse, Bor, bytes_eq, refl, sym, ap, subst, inl, inr, ◌∙◌, length, arith, length-append, rules}
-use Rattle.std.proofs.lemmas.{Bool.false≢true, Bool.cases_Bool, Bool.or_cases, Bool.or_left, Bool.or_right, List.map-append, List.append-nil, Slice.Eq.bytes_eq-Decides, Grind.common_steps}
-use Rattle.std.specs.{Option.option_map_or, HashMap.HashMap}
-use Rattle.cargo_toml_features.specs.{declared.features.Feature.Feature, Reached.Found, Reached.Lists, Reached.AreEnabled, Reached.ComeFrom, Reached.HaveNoEmpty, Reached.pairs_at, Views.value_at}
-use Rattle.cargo_toml_features.specs.{Views.set_has, Views.action_at, Views.table_in, Visits.unconditional, Visits.is_pending, Visits.AreHeld, Visits.PushesNamed, Visits.PutsFound}
-use Rattle.cargo_toml_features.specs.Visits.{AddsActions}
+-- The work that is left to a walk that marks a feature when it is taken from the stack: a measure for the depth-first order.
+use Rattle.std.proofs.Common.{◌≡◌, ◌+◌, ◌≤◌, ℕ, suc, Bool, true, false, cond, List, [], ◌∷◌, length, Some, Bor, bytes_eq, arith, ◌≢◌, ◌<◌, ◌⊎◌, ◌&&◌, ◌++◌, map, Option, None, is_some, IsTrue, IsFalse, refl, sym, ap, subst, inl, inr, ◌∙◌}
+use Rattle.std.proofs.Common.{length-append, rules}
+use Rattle.std.proofs.lemmas.{Bool.false≢true, Bool.cases_Bool, Bool.or_cases, Bool.or_left, Bool.or_right, Slice.Eq.bytes_eq-Decides, Grind.common_steps, List.map-append, List.append-nil}
+use Rattle.std.specs.{Map.lookup, Option.option_map_or, HashMap.HashMap}
 use Rattle.cargo_toml_graph.specs.{Action.Text, Action.Action, Reach.Among, Reach.IsOnce, Graph.Table, Recursive.Enables, Recursive.ArePairs, Recursive.Enables.itself, Recursive.Enables.further}
 use Rattle.cargo_toml_graph.proofs.BinLists.{among-either, among-first, among-second, once-push}
-use Rattle.cargo_toml_features.proofs.{Pending.is_pending-push, Work.work, Work.work_drops, Work.work_less}
+use Rattle.cargo_toml_features.specs.{declared.features.Feature.Feature, Reached.Found, Reached.Lists, Reached.AreEnabled, Reached.ComeFrom, Reached.HaveNoEmpty, Reached.pairs_at, Views.value_at, Views.set_has, Views.action_at}
+use Rattle.cargo_toml_features.{specs.Views.table_in, specs.Visits.unconditional, specs.Visits.is_pending, specs.Visits.AreHeld, specs.Visits.PushesNamed, specs.Visits.PutsFound, specs.Visits.AddsActions, proofs.Pending.is_pending-push}
+
+-- one for each feature that is not found, and one for each of its names
+abbrev pub work : (Text → Bool) → List (Bor Text × Feature) → ℕ
+work found [] = 0
+work found (e ∷ es) = cond (found e.0.now) 0 (suc (length e.1.enables_features.keys)) + work found es
+
+module _ (found found' : Text → Bool) (sub : (x : Text) → found x ≡ true → found' x ≡ true) where
+  one_less : (x : Text) (n : ℕ) → cond (found' x) 0 n ≤ cond (found x) 0 n
+  one_less x n = grind (arith, common_steps, false≢true)
+
+  pub work_less : (es : List (Bor Text × Feature)) → work found' es ≤ work found es
+  work_less [] = omega arith
+  work_less (e ∷ es) = let h = work_less es in let o = one_less e.0.now (suc (length e.1.enables_features.keys)) in omega (arith, h, o)
+
+  -- once k is found too, its names are work no more
+  pub work_drops : (k : Text) (v : Feature) → found k ≡ false → found' k ≡ true → (es : List (Bor Text × Feature)) → lookup (λ q. bytes_eq k q.now) es ≡ Some v → work found' es + suc (length v.enables_features.keys) ≤ work found es
+  work_drops k v off on [] e = grind (arith, common_steps, bytes_eq-Decides, work_less, one_less)
+  work_drops k v off on (x ∷ es) e = grind (arith, common_steps, bytes_eq-Decides, work_less, one_less, work_drops k v off on es)
 
 -- a feature of this name is found
 abbrev pub is_found : {S : Type 0} → Found S → Text → Bool

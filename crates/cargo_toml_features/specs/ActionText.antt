@@ -2,8 +2,7 @@
 use Rattle.std.specs.Prelude.{false, if◌then◌else◌, ◌||◌, is_some, bytes_eq}
 use Rattle.std.specs.Option.{option_map_or}
 use Rattle.cargo_toml_features.specs.declared.action.ActionText.{ActionText}
-use Rattle.cargo_toml_graph.specs.Action.{Action, Item}
-use Rattle.cargo_toml_graph.specs.Action.Item.{Name, On}
+use Rattle.cargo_toml_graph.specs.{Action.Action, Action.Item, Action.Item.Name, Action.Item.On}
 
 abbrev pub action_in : ActionText → Action
 action_in t = record {

@@ -1,7 +1,6 @@
 -- Answers that say the same.
 use Rattle.std.specs.Prelude.{◌≡◌, Bool, IsTrue, Option, Some, None}
-use Rattle.cargo_toml_graph.specs.Action.{Text}
-use Rattle.cargo_toml_graph.specs.Removal.{SameKept}
+use Rattle.cargo_toml_graph.specs.{Action.Text, Removal.SameKept}
 use Rattle.cargo_toml_features.specs.Resolved.{Answer, SameRecorded}
 
 -- both or neither are there, and they say the same of each text

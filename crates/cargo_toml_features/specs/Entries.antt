@@ -1,15 +1,13 @@
 -- The entries of all dependency tables of a manifest, in the order in which they count.
 use Rattle.std.specs.Prelude.{ℕ, List, ◌++◌, map, take, Option, Some, None}
 use Rattle.std.specs.List.{flat_map}
-use Rattle.cargo_toml_dependencies.specs.Inheriting.{Entries}
+use Rattle.cargo_toml_package.specs.{InheritedDependencies.Entries, Dependencies.dependency_meaning}
+use Rattle.cargo_toml_package.specs.Targets.{TargetMeaning}
 use Rattle.cargo_toml_parts.specs.Reads.{map_meaning}
-use Rattle.cargo_toml_dependencies.specs.Dependencies.{dependency_meaning}
-use Rattle.cargo_toml_dependencies.specs.Targets.{TargetMeaning}
-use Rattle.cargo_toml_features.specs.declared.entries.Tables.{Tables}
-use Rattle.cargo_toml_features.specs.declared.features.Kind.{Kind}
+use Rattle.cargo_toml_features.specs.{declared.entries.Tables.Tables, declared.features.Kind.Kind}
 use Rattle.cargo_toml_features.specs.declared.features.Kind.TheVariants.{Normal, Build, Dev}
-use Rattle.cargo_toml_graph.specs.Action.{Text}
 use Rattle.cargo_toml_features.specs.Recorded.{Entry}
+use Rattle.cargo_toml_graph.specs.Action.{Text}
 
 module _ (limit : ℕ) where
   -- the first entries of one table, by key in byte order

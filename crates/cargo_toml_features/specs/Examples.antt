@@ -1,13 +1,9 @@
 -- Tables of worked examples with dependencies.
 use Rattle.std.specs.Prelude.{Bool, true, false, List, [], ◌∷◌, Option, Some, None, codes}
-use Rattle.cargo_toml_dependencies.specs.Dependencies.{DependencyMeaning, detailed, simple}
-use Rattle.cargo_toml_dependencies.specs.Dependencies.{no_detail}
+use Rattle.cargo_toml_package.specs.Dependencies.{DependencyMeaning, detailed, simple, no_detail}
 use Rattle.cargo_toml_features.specs.declared.features.Kind.TheVariants.{Normal, Build, Dev}
-use Rattle.cargo_toml_graph.specs.Action.{Text}
-use Rattle.cargo_toml_graph.specs.Admitted.{Listed}
-use Rattle.cargo_toml_graph.specs.Graph.{Table}
-use Rattle.cargo_toml_features.specs.Recorded.{Entry}
-use Rattle.cargo_toml_features.specs.Resolved.{table_of}
+use Rattle.cargo_toml_features.specs.{Recorded.Entry, Resolved.table_of}
+use Rattle.cargo_toml_graph.specs.{Action.Text, Admitted.Listed, Graph.Table}
 
 -- a detail with its package, its features and whether it is optional, and nothing else
 abbrev pub detail : Option Text → List Text → Bool → DependencyMeaning

@@ -2,7 +2,7 @@
 use Rattle.std.specs.Prelude.{◌≡◌, ◌<◌, IsFalse, IsSome, Some}
 use Rattle.std.specs.{Borrow.Bor, BTreeMap.btree_map_len, HashMap.HashMap, HashMap.values, List.All}
 use Rattle.std.specs.Ordering.{is_lt}
-use Rattle.cargo_toml_dependencies.specs.Dependencies.{DependencyMeaning}
+use Rattle.cargo_toml_package.specs.Dependencies.{DependencyMeaning}
 use Rattle.cargo_toml_features.specs.declared.features.FeatureDependency.{FeatureDependency}
 use Rattle.cargo_toml_features.specs.Recorded.{RecordedKey, Target, target_cmp}
 use Rattle.cargo_toml_graph.specs.Action.{Text}

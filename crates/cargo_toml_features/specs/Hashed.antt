@@ -1,12 +1,11 @@
 -- A hashed table of features, as it is listed.
 use Rattle.std.specs.Prelude.{◌≡◌, List, Option, map, option_map, string_bytes, String, Vec}
 use Rattle.std.specs.{Borrow.Bor, BTreeMap.BTreeMap, Cmp.Lexicographic.slice_cmp, HashMap.HashMap}
-use Rattle.std.specs.BTreeMap as tree
-use Rattle.std.specs.HashMap as hash
 use Rattle.std.specs.{List.Sorted.IsStrictlySortedBy, Map.lookup, Ordering.nat_cmp, Str.bytes_eq}
 use Rattle.std.specs.declared.alloc.Global.{Global}
-use Rattle.cargo_toml_graph.specs.Action.{Text}
-use Rattle.cargo_toml_graph.specs.Admitted.{Listed}
+use Rattle.cargo_toml_graph.specs.{Action.Text, Admitted.Listed}
+use Rattle.std.specs.BTreeMap as tree
+use Rattle.std.specs.HashMap as hash
 
 -- the actions of the feature of a name, if there is one
 abbrev pub actions_at : {S : Type 0} → HashMap (String Global) (Vec (String Global) Global) S → Text

@@ -1,4 +1,4 @@
--- what is listed and what is answered: a user has to believe these
+-- what is listed, what is answered and what binaries require: a user has to believe these
 pub mod Reached
 pub mod NonDefault
 pub mod Recorded
@@ -10,10 +10,15 @@ pub mod Entries
 pub mod TargetLaws
 pub mod Hashed
 pub mod Agreement
--- the code's own steps and worked examples: nothing here has to be believed
+pub mod OwnBins
+-- the code's own steps, in contracts of functions that `cargo_toml` doesn't hand on, and worked
+-- examples: nothing here has to be believed
 pub mod ActionText
 pub mod Visits
 pub mod Examples
 pub mod InOrder
 pub mod Places
-pub mod Adding
+pub mod FullGraph
+pub mod Reading
+pub mod Slots
+pub mod Searching

@@ -1,14 +1,12 @@
 -- What a feature has beside what it does: its marks. Resolving takes them from where the feature is
 -- listed.
-use Rattle.std.specs.Prelude.{Bool, if◌then◌else◌, List, map, Option}
-use Rattle.std.specs.Prelude.{Some, None, bytes_eq, is_some, unwrap_or}
-use Rattle.std.specs.{Option.option_copied, Borrow.Bor, Map.lookup}
-use Rattle.cargo_toml_dependencies.specs.Details.{Detail, detail_of, plain_detail}
-use Rattle.cargo_toml_dependencies.specs.declared.target.FeatureDetail.{FeatureDetail}
+use Rattle.std.specs.Prelude.{Bool, if◌then◌else◌, List, map, Option, Some, None, bytes_eq, is_some}
+use Rattle.std.specs.{Prelude.unwrap_or, Option.option_copied, Borrow.Bor, Map.lookup}
+use Rattle.cargo_toml_package.specs.Details.{Detail, detail_of, plain_detail}
+use Rattle.cargo_toml_package.specs.declared.target.FeatureDetail.{FeatureDetail}
 use Rattle.cargo_toml_features.specs.declared.admit.Listing.{Listing}
 use Rattle.cargo_toml_features.specs.declared.features.Feature.{Feature}
-use Rattle.cargo_toml_graph.specs.Action.{Text}
-use Rattle.cargo_toml_graph.specs.Admitted.{Listed, is_explicit}
+use Rattle.cargo_toml_graph.specs.{Action.Text, Admitted.Listed, Admitted.is_explicit}
 
 pub record FeatureMarks : Type 0 where
   pub explicit : Bool

@@ -1,13 +1,11 @@
 -- What recursive enabling asks of a map of features, and what the maps that it answers hold.
-use Rattle.std.specs.Prelude.{◌≡◌, ◌≢◌, ◌⊎◌, ◌↔◌, IsTrue, List, []}
-use Rattle.std.specs.Prelude.{Some, IfSome, IsSome, Vec, is_some, map}
-use Rattle.std.specs.{List.IsAmong, Option.option_map_or, Borrow.Bor, declared.alloc.Global.Global}
-use Rattle.std.specs.HashMap.{HashMap, values}
+use Rattle.std.specs.Prelude.{◌≡◌, ◌≢◌, ◌⊎◌, ◌↔◌, IsTrue, List, [], Some, IfSome, IsSome, Vec}
+use Rattle.std.specs.{Prelude.is_some, Prelude.map, List.IsAmong, Option.option_map_or, Borrow.Bor}
+use Rattle.std.specs.{declared.alloc.Global.Global, HashMap.HashMap, HashMap.values}
 use Rattle.cargo_toml_features.specs.declared.features.DepAction.{DepAction}
-use Rattle.cargo_toml_features.specs.declared.features.Feature.{Feature}
-use Rattle.cargo_toml_graph.specs.Action.{Text, Action}
-use Rattle.cargo_toml_graph.specs.Recursive.{Enables}
-use Rattle.cargo_toml_features.specs.Views.{value_at, action_of, table_in}
+use Rattle.cargo_toml_features.specs.{declared.features.Feature.Feature, Views.value_at}
+use Rattle.cargo_toml_features.specs.Views.{action_of, table_in}
+use Rattle.cargo_toml_graph.specs.{Action.Text, Action.Action, Recursive.Enables}
 
 -- each feature stands under its own key
 abbrev pub IsKeyed : {S : Type 0} → HashMap (Bor Text) Feature S → Type 0

@@ -5,8 +5,8 @@ use Rattle.std.specs.Prelude.{unwrap_or, codes, bytes_eq, find, fold, filter}
 use Rattle.std.specs.{Option.option_map_or, Option.option_cmp, List.list_any}
 use Rattle.std.specs.{Cmp.Lexicographic.slice_cmp, declared.cmp.Ordering.Ordering}
 use Rattle.std.specs.Ordering.{nat_cmp, is_lt, is_eq, ordering_then}
-use Rattle.cargo_toml_dependencies.specs.Dependencies.{DependencyMeaning, detailed}
-use Rattle.cargo_toml_dependencies.specs.Dependencies.{is_optional, package_of}
+use Rattle.cargo_toml_package.specs.Dependencies.{DependencyMeaning, detailed}
+use Rattle.cargo_toml_package.specs.Dependencies.{is_optional, package_of}
 use Rattle.cargo_toml_features.specs.declared.features.Kind.{Kind}
 use Rattle.cargo_toml_features.specs.declared.features.Kind.TheVariants.{Normal, Build, Dev}
 use Rattle.cargo_toml_graph.specs.Action.{Text, Action}

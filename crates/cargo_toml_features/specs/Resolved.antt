@@ -1,15 +1,13 @@
 -- From what a manifest lists to the table of features, and the whole answer.
 use Rattle.std.specs.Prelude.{◌≡◌, ◌↔◌, Bool, false, if◌then◌else◌, ◌&&◌, ◌||◌, List, IsSome}
 use Rattle.std.specs.Prelude.{option_map, IsTrue, Option, Some, None, bytes_eq, IfSome}
-use Rattle.cargo_toml_graph.specs.Action.{Text, Action}
-use Rattle.cargo_toml_graph.specs.Admitted.{Listed, is_explicit, is_below, names, joined_action}
-use Rattle.cargo_toml_graph.specs.Bins.{ArePassedOn, HasBins}
-use Rattle.cargo_toml_graph.specs.Graph.{Table, Resolution, IsResolved}
+use Rattle.cargo_toml_graph.specs.{Action.Text, Action.Action, Admitted.Listed}
+use Rattle.cargo_toml_graph.specs.Admitted.{is_explicit, is_below, names, joined_action}
+use Rattle.cargo_toml_graph.specs.{Bins.ArePassedOn, Bins.HasBins, Graph.Table, Graph.Resolution}
+use Rattle.cargo_toml_graph.specs.{Graph.IsResolved, Redirects.RedirectsTo, Removal.is_removed}
 use Rattle.cargo_toml_features.specs.Marks.{NamedDetails, FeatureMarks, marks_in}
 use Rattle.cargo_toml_features.specs.Recorded.{Entry, RecordedKey, Target, is_implied, entries_at}
 use Rattle.cargo_toml_features.specs.Recorded.{recorded_of, first_target, without_redundant}
-use Rattle.cargo_toml_graph.specs.Redirects.{RedirectsTo}
-use Rattle.cargo_toml_graph.specs.Removal.{is_removed}
 
 -- one plain action
 abbrev pub plain_action : Action

@@ -1,11 +1,10 @@
 -- Laws of the orders of kinds and of targets, and of the default kind.
-use Rattle.std.specs.Prelude.{◌≡◌, ◌↔◌, Bool, IsTrue}
-use Rattle.std.specs.{Ordering.nat_cmp, Ordering.is_eq, declared.cmp.Ordering.Ordering}
+use Rattle.std.specs.{Prelude.◌≡◌, Prelude.◌↔◌, Prelude.Bool, Prelude.IsTrue, Ordering.nat_cmp}
+use Rattle.std.specs.{Ordering.is_eq, declared.cmp.Ordering.Ordering}
 use Rattle.cargo_toml_features.specs.declared.features.Kind.{Kind}
 use Rattle.cargo_toml_features.specs.declared.features.Kind.TheVariants.{Normal}
-use Rattle.cargo_toml_features.specs.declared.features.TargetKey.{TargetKey}
-use Rattle.cargo_toml_features.specs.Recorded.{rank, target_cmp}
-use Rattle.cargo_toml_features.specs.Views.{target_in}
+use Rattle.cargo_toml_features.specs.{declared.features.TargetKey.TargetKey, Recorded.rank}
+use Rattle.cargo_toml_features.specs.{Recorded.target_cmp, Views.target_in}
 
 -- kinds compare as their ranks do
 abbrev pub IsKindOrder : (Kind → Kind → Ordering) → Type 0

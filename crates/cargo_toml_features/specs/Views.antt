@@ -1,27 +1,24 @@
 -- What the maps of a resolution hold, by the bytes of their keys, and what a manifest lists.
-use Rattle.std.specs.Prelude.{Bool, false, List, [], Option, None, bytes_eq}
-use Rattle.std.specs.Prelude.{is_some, option_map, map, string_bytes, String, Vec}
+use Rattle.std.specs.Prelude.{Bool, false, List, [], Option, None, bytes_eq, is_some, option_map}
+use Rattle.std.specs.Prelude.{map, string_bytes, String, Vec}
 use Rattle.std.specs.{Option.option_map_or, Option.option_copied, Borrow.Bor, Ordering.nat_cmp}
 use Rattle.std.specs.{declared.alloc.Global.Global, Cmp.Lexicographic.slice_cmp, HashMap.HashMap}
-use Rattle.std.specs.HashMap as hash
-use Rattle.std.specs.BTreeMap as tree
 use Rattle.std.specs.{BTreeMap.BTreeMap, BTreeSet.BTreeSet}
-use Rattle.std.specs.BTreeSet as sorted
-use Rattle.cargo_toml_dependencies.specs.Dependencies.{dependency_meaning}
-use Rattle.cargo_toml_dependencies.specs.Details.{plain_detail}
+use Rattle.cargo_toml_package.specs.{Dependencies.dependency_meaning, Details.plain_detail}
 use Rattle.cargo_toml_features.specs.declared.admit.Listing.{Listing}
 use Rattle.cargo_toml_features.specs.declared.features.DepAction.{DepAction}
 use Rattle.cargo_toml_features.specs.declared.features.Feature.{Feature}
 use Rattle.cargo_toml_features.specs.declared.features.FeatureDependency.{FeatureDependency}
 use Rattle.cargo_toml_features.specs.declared.features.Features.{Features}
 use Rattle.cargo_toml_features.specs.declared.features.ParseDependency.{ParseDependency}
-use Rattle.cargo_toml_features.specs.declared.features.TargetKey.{TargetKey}
-use Rattle.cargo_toml_graph.specs.Action.{Text, Action}
-use Rattle.cargo_toml_graph.specs.Admitted.{Listed}
-use Rattle.cargo_toml_graph.specs.Graph.{Resolution, Table}
-use Rattle.cargo_toml_features.specs.Marks.{marked, marks_of}
-use Rattle.cargo_toml_features.specs.Recorded.{Entry, RecordedKey, Target, target_cmp}
-use Rattle.cargo_toml_features.specs.Resolved.{Answer}
+use Rattle.cargo_toml_features.specs.{declared.features.TargetKey.TargetKey, Marks.marked}
+use Rattle.cargo_toml_features.specs.{Marks.marks_of, Recorded.Entry, Recorded.RecordedKey}
+use Rattle.cargo_toml_features.specs.{Recorded.Target, Recorded.target_cmp, Resolved.Answer}
+use Rattle.cargo_toml_graph.specs.{Action.Text, Action.Action, Admitted.Listed, Graph.Resolution}
+use Rattle.cargo_toml_graph.specs.Graph.{Table}
+use Rattle.std.specs.HashMap as hash
+use Rattle.std.specs.BTreeMap as tree
+use Rattle.std.specs.BTreeSet as sorted
 
 -- a set of texts, as a test
 abbrev pub set_has : BTreeSet (Bor Text) → Text → Bool

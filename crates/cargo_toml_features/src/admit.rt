@@ -1,17 +1,15 @@
 //! Which features of a table count, in what order, and what is said of them.
 ghost use Rattle.std.specs.Prelude.{◌≡◌, [], IfOk, OnOk, map, take};
-ghost use Rattle.cargo_toml_graph.specs.Action.{Text};
-ghost use Rattle.cargo_toml_graph.specs.Admitted.{Listed, admitted};
+ghost use Rattle.cargo_toml_graph.specs.{Action.Text, Admitted.Listed, Admitted.admitted};
 ghost use Rattle.cargo_toml_graph.specs.Reach.{IsOnce};
 ghost use Rattle.cargo_toml_parts.specs.Reads.{map_meaning};
-ghost use Rattle.cargo_toml_dependencies.specs.Details.{detail_of};
-ghost use Rattle.cargo_toml_features.specs.Adding.{AddsListing};
-ghost use Rattle.cargo_toml_features.specs.Marks.{detail_named, detail_in, details_listed};
-ghost use Rattle.cargo_toml_features.specs.Marks.{named_details};
-ghost use Rattle.cargo_toml_features.specs.Views.{listed_of, listed_in};
-ghost use Rattle.cargo_toml_features.specs.Hashed.{IsListingOf, actions_at, sorted_actions_at};
+ghost use Rattle.cargo_toml_package.specs.Details.{detail_of};
+ghost use Rattle.cargo_toml_features.specs.{FullGraph.AddsListing, Marks.detail_named};
+ghost use Rattle.cargo_toml_features.specs.Marks.{detail_in, details_listed, named_details};
+ghost use Rattle.cargo_toml_features.specs.{Views.listed_of, Views.listed_in, Hashed.IsListingOf};
+ghost use Rattle.cargo_toml_features.specs.Hashed.{actions_at, sorted_actions_at};
 
-use cargo_toml_dependencies::{FeatureDetail, FeatureDetails, FeatureSet};
+use cargo_toml_package::{FeatureDetail, FeatureDetails, FeatureSet};
 use std::alloc::{AllocError, Global};
 use std::collections::{BTreeMap, HashMap};
 use std::hash::BuildHasher;

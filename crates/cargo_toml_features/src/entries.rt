@@ -2,15 +2,14 @@
 ghost use Rattle.std.specs.Prelude.{◌≡◌, ◌++◌, map, IfOk, OnOk, None, Some};
 ghost use Rattle.std.specs.{List.flat_map, Option.option_copied};
 ghost use Rattle.cargo_toml_parts.specs.Reads.{map_meaning};
-ghost use Rattle.cargo_toml_dependencies.specs.Dependencies.{dependency_meaning};
-ghost use Rattle.cargo_toml_dependencies.specs.Targets.{target_meaning};
+ghost use Rattle.cargo_toml_package.specs.{Dependencies.dependency_meaning, Targets.target_meaning};
 ghost use Rattle.cargo_toml_features.specs.Entries.{built_entries, dev_entries, entries_of};
 ghost use Rattle.cargo_toml_features.specs.Entries.{first_entries, tables_meaning};
 ghost use Rattle.cargo_toml_features.specs.declared.features.Kind.TheVariants.{Normal, Build};
 ghost use Rattle.cargo_toml_features.specs.Views.{entry_of};
 
 use crate::features::{Kind, ParseDependency};
-use cargo_toml_dependencies::{DepsSet, TargetDepsSet};
+use cargo_toml_package::{DepsSet, TargetDepsSet};
 use std::alloc::{AllocError, Global};
 
 /// The dependency tables of a manifest.

@@ -2,24 +2,21 @@
 //!
 //! A theorem counts only where a function's contract names it, so each function here does nothing
 //! and its contract is an example.
-ghost use Rattle.std.specs.Prelude.{◌≡◌, ◌↔◌, ◌⊎◌, ◌∷◌, [], None, Some, bytes_eq, codes};
-ghost use Rattle.std.specs.Prelude.{false, option_map, true, IsFalse, IsSome, IsTrue};
+ghost use Rattle.std.specs.Prelude.{◌≡◌, ◌↔◌, ◌⊎◌, ◌∷◌, [], None, Some, bytes_eq, codes, false};
+ghost use Rattle.std.specs.Prelude.{option_map, true, IsFalse, IsSome, IsTrue};
 ghost use Rattle.std.specs.Option.{IsSomeAnd};
-ghost use Rattle.cargo_toml_dependencies.specs.Dependencies.{simple};
-ghost use Rattle.cargo_toml_graph.specs.Action.{Text};
-ghost use Rattle.cargo_toml_graph.specs.Admitted.{Listed};
-ghost use Rattle.cargo_toml_graph.specs.Examples.{features_alone, left_of};
-ghost use Rattle.cargo_toml_graph.specs.Graph.{Edge};
-ghost use Rattle.cargo_toml_graph.specs.Reach.{Among};
+ghost use Rattle.cargo_toml_package.specs.Dependencies.{simple};
+ghost use Rattle.cargo_toml_graph.specs.{Action.Text, Admitted.Listed, Examples.features_alone};
+ghost use Rattle.cargo_toml_graph.specs.{Examples.left_of, Graph.Edge, Reach.Among};
 ghost use Rattle.cargo_toml_graph.specs.Recursive.{Enables};
 ghost use Rattle.cargo_toml_features.specs.declared.features.Kind.TheVariants.{Build, Dev, Normal};
-ghost use Rattle.cargo_toml_features.specs.Examples.{detail, hidden_conditional};
-ghost use Rattle.cargo_toml_features.specs.Examples.{hidden_dep_only, hidden_key, hidden_plain};
-ghost use Rattle.cargo_toml_features.specs.Examples.{redundancy, small, small_entries};
-ghost use Rattle.cargo_toml_features.specs.Examples.{small_listed, three_kinds, twice};
-ghost use Rattle.cargo_toml_features.specs.Recorded.{entries_at, first_target, is_implied};
-ghost use Rattle.cargo_toml_features.specs.Recorded.{is_reserved, recorded_of};
-ghost use Rattle.cargo_toml_features.specs.Resolved.{joined_table, plain_action};
+ghost use Rattle.cargo_toml_features.specs.Examples.{detail, hidden_conditional, hidden_dep_only};
+ghost use Rattle.cargo_toml_features.specs.Examples.{hidden_key, hidden_plain, redundancy, small};
+ghost use Rattle.cargo_toml_features.specs.Examples.{small_entries, small_listed, three_kinds};
+ghost use Rattle.cargo_toml_features.specs.{Examples.twice, Recorded.entries_at};
+ghost use Rattle.cargo_toml_features.specs.Recorded.{first_target, is_implied, is_reserved};
+ghost use Rattle.cargo_toml_features.specs.{Recorded.recorded_of, Resolved.joined_table};
+ghost use Rattle.cargo_toml_features.specs.Resolved.{plain_action};
 
 /// Without dependencies a table is what its listed features say.
 pub fn features_alone_are_a_table()

@@ -1,5 +1,5 @@
 //! The features of a manifest, and the dependencies that they speak of.
-use cargo_toml_dependencies::Dependency;
+use cargo_toml_package::Dependency;
 use std::collections::{BTreeMap, BTreeSet, HashMap};
 use std::hash::{BuildHasher, BuildHasherDefault, FoldHasher};
 

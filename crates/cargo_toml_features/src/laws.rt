@@ -1,16 +1,13 @@
 //! Laws of the orders of kinds and of targets, of the default kind and of the limit, each as the
 //! contract of a function that does nothing. A function that calls it has the law in its proof.
 ghost use Rattle.std.specs.Prelude.{◌≡◌, Bool, List};
-ghost use Rattle.cargo_toml_graph.specs.Action.{Text};
-ghost use Rattle.cargo_toml_graph.specs.Admitted.{Listed};
-ghost use Rattle.cargo_toml_features.specs.Agreement as agreement;
-ghost use Rattle.cargo_toml_features.specs.Marks.{NamedDetails};
-ghost use Rattle.cargo_toml_features.specs.Recorded.{Entry};
-ghost use Rattle.cargo_toml_features.specs.Resolved.{Answer, IsAnswer};
-ghost use Rattle.cargo_toml_features.specs.TargetLaws.{EqualAlike, IsDefaultKind, IsKindEquality};
-ghost use Rattle.cargo_toml_features.specs.TargetLaws.{IsKindOrder, IsTargetEquality};
-ghost use Rattle.cargo_toml_features.specs.TargetLaws.{IsTargetOrder};
+ghost use Rattle.cargo_toml_graph.specs.{Action.Text, Admitted.Listed};
+ghost use Rattle.cargo_toml_features.specs.{Marks.NamedDetails, Recorded.Entry, Resolved.Answer};
+ghost use Rattle.cargo_toml_features.specs.{Resolved.IsAnswer, TargetLaws.EqualAlike};
+ghost use Rattle.cargo_toml_features.specs.TargetLaws.{IsDefaultKind, IsKindEquality, IsKindOrder};
+ghost use Rattle.cargo_toml_features.specs.TargetLaws.{IsTargetEquality, IsTargetOrder};
 ghost use Rattle.cargo_toml_features.specs.declared.admit.TheConstants.{MAX_ITEMS};
+ghost use Rattle.cargo_toml_features.specs.Agreement as agreement;
 
 use crate::features::{Kind, TargetKey};
 

@@ -1,16 +1,30 @@
-//! The features of a manifest as types, what is asked of them, and what a manifest's
-//! tables list of them.
+//! The features of a manifest as types, what is asked of them, what a manifest's tables list of
+//! them, and the full graph, of which none is removed.
 //!
-//! `cargo_toml_resolve` resolves them; callers use both by `cargo_toml::features`.
+//! [`resolve_all`] makes the full graph; `cargo_toml_resolve` takes hidden features out of it.
+//! Callers use both by `cargo_toml::features::Resolver`.
 #![tactic(auto)]
 
+mod acting;
 pub mod action;
 pub mod admit;
 pub mod entries;
 pub mod examples;
 pub mod features;
+mod imply;
 pub mod laws;
 pub mod node;
+mod ordered;
+pub mod places;
 pub mod questions;
+mod read;
+pub mod record;
 pub mod recursive;
+mod redundant;
+pub mod required;
+pub mod sets;
+pub mod slots;
 pub mod texts;
+pub mod unremoved;
+
+pub use unremoved::resolve_all;

@@ -1,20 +1,19 @@
 //! Methods of a feature, about itself and its enablers, and of a dependency, about its first
 //! target.
-ghost use Rattle.std.specs.Prelude.{◌≡◌, ◌<◌, ◌⊎◌, ◌↔◌, IsTrue, IsFalse};
-ghost use Rattle.std.specs.Prelude.{List, Option, Some, nat_eq, codes};
-ghost use Rattle.std.specs.{Borrow.Bor, List.starts_with, List.Sorted.IsStrictlySortedBy};
-ghost use Rattle.std.specs.{BTreeSet.btree_set_len, Cmp.Lexicographic.slice_cmp, Ordering.nat_cmp};
-ghost use Rattle.std.specs.Iterator.{YieldsFirst, item_count};
-ghost use Rattle.cargo_toml_dependencies.specs.Dependencies.{dependency_meaning};
+ghost use Rattle.std.specs.Prelude.{◌≡◌, ◌<◌, ◌⊎◌, ◌↔◌, IsTrue, IsFalse, List, Option, Some};
+ghost use Rattle.std.specs.{Prelude.nat_eq, Prelude.codes, Borrow.Bor, List.starts_with};
+ghost use Rattle.std.specs.{List.Sorted.IsStrictlySortedBy, BTreeSet.btree_set_len};
+ghost use Rattle.std.specs.{Cmp.Lexicographic.slice_cmp, Ordering.nat_cmp, Iterator.YieldsFirst};
+ghost use Rattle.std.specs.Iterator.{item_count};
+ghost use Rattle.cargo_toml_package.specs.Dependencies.{dependency_meaning};
 ghost use Rattle.cargo_toml_graph.specs.Action.{Text};
 ghost use Rattle.cargo_toml_features.specs.FirstTarget.{HasTarget, IsFirst};
-ghost use Rattle.cargo_toml_features.specs.NonDefault.{without_default};
-ghost use Rattle.cargo_toml_features.specs.Recorded.{Entry, Target, first_target, recorded_of};
-ghost use Rattle.cargo_toml_features.specs.Resolved.{SameRecorded};
-ghost use Rattle.cargo_toml_features.specs.Views.{recorded_in};
+ghost use Rattle.cargo_toml_features.specs.{NonDefault.without_default, Recorded.Entry};
+ghost use Rattle.cargo_toml_features.specs.Recorded.{Target, first_target, recorded_of};
+ghost use Rattle.cargo_toml_features.specs.{Resolved.SameRecorded, Views.recorded_in};
 
 use crate::features::{Feature, FeatureDependency, Kind};
-use cargo_toml_dependencies::Dependency;
+use cargo_toml_package::Dependency;
 use std::collections::btree_set;
 use std::marker::Model;
 

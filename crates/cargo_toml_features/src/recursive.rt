@@ -1,16 +1,14 @@
 //! What a feature enables by any number of names.
-ghost use Rattle.std.specs.Prelude.{◌≡◌, ◌≤◌, ◌∷◌, ◌++◌, [], List, length, IfErr};
-ghost use Rattle.std.specs.Prelude.{IfOk, MatchOption, OnOk, Some, is_none};
+ghost use Rattle.std.specs.Prelude.{◌≡◌, ◌≤◌, ◌∷◌, ◌++◌, [], List, length, IfErr, IfOk};
+ghost use Rattle.std.specs.Prelude.{MatchOption, OnOk, Some, is_none};
 ghost use Rattle.std.specs.Borrow.{Bor};
 ghost use Rattle.cargo_toml_parts.specs.declared.error.Error.{Memory};
-ghost use Rattle.cargo_toml_graph.specs.Action.{Text};
-ghost use Rattle.cargo_toml_graph.specs.Recursive.{ArePairs};
-ghost use Rattle.cargo_toml_features.specs.declared.features.Feature.{Feature};
-ghost use Rattle.cargo_toml_features.specs.Reached.{AreEnabled, HaveNoEmpty, ComeFrom};
-ghost use Rattle.cargo_toml_features.specs.Reached.{IsHeldBy, IsKeyed, pairs_at};
-ghost use Rattle.cargo_toml_features.specs.Views.{table_in, value_at};
-ghost use Rattle.cargo_toml_features.specs.Visits.{AddsPair, AddsActions};
-ghost use Rattle.cargo_toml_features.specs.Visits.{PushesNamed, PutsFound, still};
+ghost use Rattle.cargo_toml_graph.specs.{Action.Text, Recursive.ArePairs};
+ghost use Rattle.cargo_toml_features.specs.{declared.features.Feature.Feature, Reached.AreEnabled};
+ghost use Rattle.cargo_toml_features.specs.Reached.{HaveNoEmpty, ComeFrom, IsHeldBy, IsKeyed};
+ghost use Rattle.cargo_toml_features.specs.{Reached.pairs_at, Views.table_in, Views.value_at};
+ghost use Rattle.cargo_toml_features.specs.Visits.{AddsPair, AddsActions, PushesNamed, PutsFound};
+ghost use Rattle.cargo_toml_features.specs.Visits.{still};
 
 use crate::features::{DepAction, Feature};
 use cargo_toml_parts::Error;

@@ -1,11 +1,8 @@
 //! Texts in byte order, and where one stands among them.
-ghost use Rattle.std.specs.Prelude.{◌≡◌, ◌↔◌, ◌<◌, IfOk, IfSome, None, bytes_eq, is_some};
+ghost use Rattle.std.specs.Prelude.{◌≡◌, ◌↔◌, ◌<◌, IfOk, IfSome, IsTrue, None, bytes_eq, is_some};
 ghost use Rattle.std.specs.Prelude.{length, map};
-ghost use Rattle.cargo_toml_graph.specs.Ascending.{Ascend};
-ghost use Rattle.cargo_toml_graph.specs.Action.{Text};
-ghost use Rattle.cargo_toml_graph.specs.Reach.{Among};
-ghost use Rattle.cargo_toml_features.specs.Places.{nth_text};
-ghost use Rattle.cargo_toml_features.specs.Views.{set_has, value_at};
+ghost use Rattle.cargo_toml_graph.specs.{Ascending.Ascend, Action.Text, Reach.Among};
+ghost use Rattle.cargo_toml_features.specs.{Places.nth_text, Views.set_has, Views.value_at};
 
 use std::alloc::{AllocError, Global};
 use std::collections::{BTreeSet, HashMap};
@@ -23,6 +20,26 @@ pub fn in_order<'m>(mut texts: Vec<&'m str>) -> Vec<&'m str>
     texts.sort_unstable();
     texts.dedup();
     texts
+}
+
+// Whether each text is below those after it.
+fn ascends(texts: &[&str]) -> bool
+    ensures { IsTrue result → Ascend (map (λ t. t.now) texts.now) }
+{
+    texts.is_sorted_by(|text, next| *text < *next)
+}
+
+/// The texts in byte order, each once. Texts that stand so already aren't sorted again.
+pub fn ascending<'m>(texts: Vec<&'m str>) -> Vec<&'m str>
+    ensures all { (x : Text) → Among (map (λ t. t.now) result.items) x
+        ↔ Among (map (λ t. t.now) texts.entry.items) x }
+    ensures ascend { Ascend (map (λ t. t.now) result.items) }
+{
+    if ascends(texts.as_slice()) {
+        texts
+    } else {
+        in_order(texts)
+    }
 }
 
 /// The keys of a hashed map, in byte order.

@@ -3,7 +3,7 @@ use Rattle.std.proofs.Common.{◌≡◌, ◌⊎◌, ◌↔◌, ◌≤◌, Bool, 
 use Rattle.std.proofs.lemmas.{Bool.false≢true, Grind.common_steps}
 use Rattle.cargo_toml_graph.specs.{Ascending.Ascend, Action.Text, Admitted.is_below, Reach.Among, Reach.IsOnce, Graph.Table, Graph.Resolution, Graph.IsKept, Removal.is_removed}
 use Rattle.cargo_toml_graph.specs.{Removal.pass_bins, Removal.pass_all, Removal.unremoved, Removal.without_one, Removal.without_all, Bins.ArePassedOn, Bins.HasBins, Bins.IsComplete, Bins.mentions}
-use Rattle.cargo_toml_graph.proofs.{Edges.unremoved_is, Members.reaches_within, PassedBins.bins_are, PassedBins.bins_complete, PassedBins.grown_weaker, PassedBins.passed_alike}
+use Rattle.cargo_toml_graph.proofs.{Edges.unremoved_is, Members.reaches_within, PassedBins.bins_are, PassedBins.bins_complete, PassedBins.grown_weaker, PassedBins.passed_alike, BinLists.among-either}
 use Rattle.cargo_toml_graph.proofs.{RedirectsInOrder.below_one_way, SortedTexts.first_below, SortedTexts.one_ascends, SortedTexts.others_ascend, SortedTexts.put_first}
 
 abbrev Below : Text → Text → Type 0
@@ -17,15 +17,7 @@ ascending_once (x ∷ xs) a = ((λ i. let b = first_below x xs a x i in below_on
 -- a text above all others goes to the end
 pub ascending_last : (xs : List Text) (r : Text) → Ascend xs → ((v : Text) → Among xs v → IsTrue (is_below v r)) → Ascend (xs ++ r ∷ [])
 ascending_last [] r a above = one_ascends r
-ascending_last (x ∷ xs) r a above = put_first x (xs ++ r ∷ [])
-    (λ y i. elim (last xs y i) [ inl j ↦ first_below x xs a y j | inr e ↦ subst (Below x) (sym e) (above x (inl refl)) ])
-    (ascending_last xs r (others_ascend x xs a) (λ v i. above v (inr i)))
-  where
-    last : (ys : List Text) (y : Text) → Among (ys ++ r ∷ []) y → Among ys y ⊎ (y ≡ r)
-    last [] y (inl e) = inr e
-    last [] y (inr i) = absurd i
-    last (z ∷ ys) y (inl e) = inl (inl e)
-    last (z ∷ ys) y (inr i) = elim (last ys y i) [ inl j ↦ inl (inr j) | inr e ↦ inr e ]
+ascending_last (x ∷ xs) r a above = search (rules, put_first, among-either, first_below, others_ascend, ascending_last xs r)
 
 -- there is one list in ascending order of the same texts
 pub one_order : (xs ys : List Text) → Ascend xs → Ascend ys → ((v : Text) → Among xs v ↔ Among ys v) → xs ≡ ys

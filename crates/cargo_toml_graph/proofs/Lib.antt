@@ -19,3 +19,4 @@ pub mod RedirectsInOrder
 pub mod InByteOrder
 pub mod Cut
 pub mod WorkedExamples
+pub mod Theorems

@@ -14,8 +14,7 @@ Below a b = IsTrue (is_below a b)
 
 earlier_below : (before rest : List Text) → Ascend (before ++ rest) → (v w : Text) → Among before v → Among rest w → Below v w
 earlier_below [] rest a v w i j = absurd i
-earlier_below (x ∷ xs) rest a v w (inl e) j = subst (λ u. Below u w) (sym e) (first_below x (xs ++ rest) a w (among-second xs rest w j))
-earlier_below (x ∷ xs) rest a v w (inr i) j = earlier_below xs rest (others_ascend x (xs ++ rest) a) v w i j
+earlier_below (x ∷ xs) rest a v w i j = search (rules, first_below, among-second, others_ascend, earlier_below xs rest)
 
 rest_ascends : (before rest : List Text) → Ascend (before ++ rest) → Ascend rest
 rest_ascends [] rest a = a

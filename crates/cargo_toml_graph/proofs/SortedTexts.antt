@@ -8,14 +8,15 @@ use Rattle.cargo_toml_graph.specs.{Ascending.Ascend, Action.Text, Admitted.is_be
 pub less_from : (o : Ordering) → IsTrue (is_lt o) → o ≡ Less
 less_from v0 v1 = search (rules, false≢true)
 
+-- what holds of each element holds of those among them
+pub all_among : {K : Type 0} (P : K → Type 0) (xs : List K) → AllByRecursion P xs → (x : K) → Among xs x → P x
+all_among P [] all x there = absurd there
+all_among P (z ∷ xs) all x (inl is) = subst P (sym is) all.0
+all_among P (z ∷ xs) all x (inr there) = all_among P xs all.1 x there
+
 -- the first is below each after it
 pub first_below : (x : Text) (xs : List Text) → Ascend (x ∷ xs) → (y : Text) → Among xs y → IsTrue (is_below x y)
-first_below x xs up y there = go xs (sorted_head (slice_cmp nat_cmp) x xs up) there
-  where
-    go : (ys : List Text) → AllByRecursion (λ y. slice_cmp nat_cmp x y ≡ Less) ys → Among ys y → IsTrue (is_below x y)
-    go [] all there = absurd there
-    go (z ∷ ys) all (inl is) = subst (λ v. IsTrue (is_below x v)) (sym is) (ap is_lt all.0)
-    go (z ∷ ys) all (inr there) = go ys all.1 there
+first_below x xs up y there = ap is_lt (all_among (λ y. slice_cmp nat_cmp x y ≡ Less) xs (sorted_head (slice_cmp nat_cmp) x xs up) y there)
 
 -- those after the first ascend
 pub others_ascend : (x : Text) (xs : List Text) → Ascend (x ∷ xs) → Ascend xs

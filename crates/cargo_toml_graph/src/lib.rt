@@ -2,6 +2,6 @@
 //!
 //! Nothing runs here. The definitions stand in `specs/`, over texts and tests alone, and [`laws`]
 //! proves what they entail.
-#![tactic(auto)]
+#![tactic(auto, using(crate::proofs::Theorems::theorems))]
 
 pub mod laws;

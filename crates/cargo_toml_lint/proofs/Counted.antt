@@ -1,17 +1,16 @@
 -- Findings of single codes, for the features of which something holds.
-use Rattle.std.proofs.Common.{◌≡◌, ◌⊎◌, ◌↔◌, ◌<◌, ◌+◌, ℕ, Bool, true, false, List, [], ◌++◌, Bor, IsTrue, arith, refl, sym, ap, inl, inr, ◌∙◌}
+use Rattle.std.proofs.Common.{◌≡◌, ◌⊎◌, ◌↔◌, ◌<◌, ◌+◌, ℕ, Bool, true, false, List, [], ◌++◌, Bor, IsTrue, arith, refl, sym, ap, subst, inl, inr}
 use Rattle.std.proofs.lemmas.Bool.{cases_eq, false≢true}
 use Rattle.std.specs.HashMap.{HashMap}
 use Rattle.cargo_toml.specs.Action.{Text}
 use Rattle.cargo_toml.specs.Feature.{Feature}
+use Rattle.cargo_toml.specs.Graph.{Table}
 use Rattle.cargo_toml.specs.Reach.{Among}
 use Rattle.cargo_toml_lint.specs.Findings.{About, IsFound, told, when}
-use Rattle.cargo_toml_lint.specs.Linked.{name_at}
-use Rattle.cargo_toml_lint.specs.Steps.{CountsAt, Finds}
+use Rattle.cargo_toml_lint.specs.Steps.{CountsBy, Finds}
 use Rattle.cargo_toml_lint.specs.declared.finding.Code.{Code}
 use Rattle.cargo_toml_lint.specs.declared.finding.Code.TheVariants.{Implied, PrivateDefault, Cycle, Unreachable}
 use Rattle.cargo_toml_lint.specs.declared.finding.Finding.{Finding}
-use Rattle.cargo_toml_lint.specs.declared.linking.Links.{Links}
 use Rattle.cargo_toml_lint.proofs.Rows.{among_either, among_first, among_last}
 
 -- what is found after something was added
@@ -37,10 +36,10 @@ told_in d true n c f t = (
 )
 told_in d false n c f t = (λ i. absurd i, λ h. absurd (false≢true h.3))
 
--- the four codes of features that count, of the feature n in a place
-module _ {S : Type 0} (m : HashMap (Bor Text) Feature S) (l : Links) (place : ℕ) (n : Text) (at : name_at l place ≡ n)
-    (implied alone cyclic left : Bool) (h1 : IsTrue implied ↔ CountsAt m l Implied place) (h2 : IsTrue alone ↔ CountsAt m l PrivateDefault place)
-    (h3 : IsTrue cyclic ↔ CountsAt m l Cycle place) (h4 : IsTrue left ↔ CountsAt m l Unreachable place) where
+-- the four codes of features that count, of the feature n
+module _ {S : Type 0} (m : HashMap (Bor Text) Feature S) (t : Table) (n : Text) (implied alone cyclic left : Bool)
+    (h1 : IsTrue implied ↔ CountsBy m t Implied n) (h2 : IsTrue alone ↔ CountsBy m t PrivateDefault n)
+    (h3 : IsTrue cyclic ↔ CountsBy m t Cycle n) (h4 : IsTrue left ↔ CountsBy m t Unreachable n) where
   abbrev Last : List About
   Last = told n [] (when cyclic Cycle) ++ told n [] (when left Unreachable)
 
@@ -50,37 +49,48 @@ module _ {S : Type 0} (m : HashMap (Bor Text) Feature S) (l : Links) (place : �
   abbrev pub All : List About
   All = told n [] (when implied Implied) ++ Later
 
-  one : (d : Code) (b : Bool) → IsTrue b ↔ CountsAt m l d place → (c : Code) (f t : Text) → Among (told n [] (when b d)) (c, f, t)
-      → (t ≡ []) × (name_at l place ≡ f) × CountsAt m l c place
-  one d b h c f t i = grind (arith, told_in)
+  one : (d : Code) (b : Bool) → IsTrue b ↔ CountsBy m t d n → (c : Code) (f x : Text) → Among (told n [] (when b d)) (c, f, x)
+      → (x ≡ []) × (n ≡ f) × CountsBy m t c f
+  one d b h c f x i = grind (arith, told_in)
 
-  of_code : (c : Code) → CountsAt m l c place → (f t : Text) → t ≡ [] → n ≡ f → Among All (c, f, t)
-  of_code Implied q f t e s = among_first (told n [] (when implied Implied)) Later (Implied, f, t) ((told_in Implied implied n Implied f t).1 (refl, e, s, h1.1 q))
-  of_code PrivateDefault q f t e s = among_last (told n [] (when implied Implied)) Later (PrivateDefault, f, t)
-      (among_first (told n [] (when alone PrivateDefault)) Last (PrivateDefault, f, t) ((told_in PrivateDefault alone n PrivateDefault f t).1 (refl, e, s, h2.1 q)))
-  of_code Cycle q f t e s = among_last (told n [] (when implied Implied)) Later (Cycle, f, t) (among_last (told n [] (when alone PrivateDefault)) Last (Cycle, f, t)
-      (among_first (told n [] (when cyclic Cycle)) (told n [] (when left Unreachable)) (Cycle, f, t) ((told_in Cycle cyclic n Cycle f t).1 (refl, e, s, h3.1 q))))
-  of_code Unreachable q f t e s = among_last (told n [] (when implied Implied)) Later (Unreachable, f, t) (among_last (told n [] (when alone PrivateDefault)) Last (Unreachable, f, t)
-      (among_last (told n [] (when cyclic Cycle)) (told n [] (when left Unreachable)) (Unreachable, f, t) ((told_in Unreachable left n Unreachable f t).1 (refl, e, s, h4.1 q))))
-  of_code _ q f t e s = absurd q
+  of_code : (c : Code) → CountsBy m t c n → Among All (c, n, [])
+  of_code Implied q = among_first (told n [] (when implied Implied)) Later (Implied, n, []) ((told_in Implied implied n Implied n []).1 (refl, refl, refl, h1.1 q))
+  of_code PrivateDefault q = among_last (told n [] (when implied Implied)) Later (PrivateDefault, n, [])
+      (among_first (told n [] (when alone PrivateDefault)) Last (PrivateDefault, n, []) ((told_in PrivateDefault alone n PrivateDefault n []).1 (refl, refl, refl, h2.1 q)))
+  of_code Cycle q = among_last (told n [] (when implied Implied)) Later (Cycle, n, []) (among_last (told n [] (when alone PrivateDefault)) Last (Cycle, n, [])
+      (among_first (told n [] (when cyclic Cycle)) (told n [] (when left Unreachable)) (Cycle, n, []) ((told_in Cycle cyclic n Cycle n []).1 (refl, refl, refl, h3.1 q))))
+  of_code Unreachable q = among_last (told n [] (when implied Implied)) Later (Unreachable, n, []) (among_last (told n [] (when alone PrivateDefault)) Last (Unreachable, n, [])
+      (among_last (told n [] (when cyclic Cycle)) (told n [] (when left Unreachable)) (Unreachable, n, []) ((told_in Unreachable left n Unreachable n []).1 (refl, refl, refl, h4.1 q))))
+  of_code _ q = absurd q
 
-  pub all_found : {a b : List Finding} → Finds All a b → (c : Code) (f t : Text)
-      → IsFound b c f t ↔ (IsFound a c f t ⊎ ((t ≡ []) × (name_at l place ≡ f) × CountsAt m l c place))
-  all_found put c f t = let after = found_after put c f t in (
+  pub all_found : {a b : List Finding} → Finds All a b → (c : Code) (f x : Text)
+      → IsFound b c f x ↔ (IsFound a c f x ⊎ ((x ≡ []) × (n ≡ f) × CountsBy m t c f))
+  all_found put c f x = let after = found_after put c f x in (
     λ i. elim (after.0 i) [
       | inl j ↦ inl j
-      | inr j ↦ inr (elim (among_either (told n [] (when implied Implied)) Later (c, f, t) j) [
-        | inl k ↦ one Implied implied h1 c f t k
-        | inr k ↦ elim (among_either (told n [] (when alone PrivateDefault)) Last (c, f, t) k) [
-          | inl k ↦ one PrivateDefault alone h2 c f t k
-          | inr k ↦ elim (among_either (told n [] (when cyclic Cycle)) (told n [] (when left Unreachable)) (c, f, t) k) [ inl k ↦ one Cycle cyclic h3 c f t k | inr k ↦ one Unreachable left h4 c f t k ]
+      | inr j ↦ inr (elim (among_either (told n [] (when implied Implied)) Later (c, f, x) j) [
+        | inl k ↦ one Implied implied h1 c f x k
+        | inr k ↦ elim (among_either (told n [] (when alone PrivateDefault)) Last (c, f, x) k) [
+          | inl k ↦ one PrivateDefault alone h2 c f x k
+          | inr k ↦ elim (among_either (told n [] (when cyclic Cycle)) (told n [] (when left Unreachable)) (c, f, x) k) [ inl k ↦ one Cycle cyclic h3 c f x k | inr k ↦ one Unreachable left h4 c f x k ]
         ]
       ])
     ],
-    λ h. after.1 (elim h [ inl j ↦ inl j | inr r ↦ inr (of_code c r.2 f t r.0 (sym at ∙ r.1)) ]),
+    λ h. after.1 (elim h [
+      | inl j ↦ inl j
+      | inr r ↦ inr (subst (λ (z : Text). Among All (c, f, z)) (sym r.0) (subst (λ (g : Text). Among All (c, g, [])) r.1 (of_code c (subst (CountsBy m t c) (sym r.1) r.2))))
+    ]),
   )
 
 -- one more place
-pub one_more_place : (T start old new : Type 0) (N Q : ℕ → Type 0) (i : ℕ) → old ↔ (start ⊎ (T × ((a : ℕ) × (a < i) × N a × Q a)))
-    → new ↔ (old ⊎ (T × N i × Q i)) → new ↔ (start ⊎ (T × ((a : ℕ) × (a < i + 1) × N a × Q a)))
-one_more_place T start old new N Q i h g = grind (arith, cases_eq)
+pub more_places : {T C start old new : Type 0} {N : ℕ → Type 0} {i : ℕ} → old ↔ (start ⊎ (T × ((a : ℕ) × (a < i) × N a) × C))
+    → new ↔ (old ⊎ (T × N i × C)) → new ↔ (start ⊎ (T × ((a : ℕ) × (a < i + 1) × N a) × C))
+more_places {T} {C} {start} {old} {new} {N} {i} h g = grind (arith, cases_eq)
+
+-- and all of them
+pub all_places : {T C Has start now : Type 0} {N : ℕ → Type 0} {i n : ℕ} → i ≡ n → Has ↔ ((a : ℕ) × (a < n) × N a)
+    → now ↔ (start ⊎ (T × ((a : ℕ) × (a < i) × N a) × C)) → now ↔ (start ⊎ (T × Has × C))
+all_places {i = i} {n = n} e has h = (
+  λ p. elim (h.0 p) [ inl s ↦ inl s | inr r ↦ inr (r.0, has.1 (r.1.0, subst (λ k. r.1.0 < k) e r.1.1, r.1.2), r.2) ],
+  λ q. h.1 (elim q [ inl s ↦ inl s | inr r ↦ let w = has.0 r.1 in inr (r.0, (w.0, subst (λ k. w.0 < k) (sym e) w.1, w.2), r.2) ]),
+)

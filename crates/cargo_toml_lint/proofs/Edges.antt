@@ -1,6 +1,8 @@
 -- What the lists of features turn on, as rows of places.
-use Rattle.std.proofs.Common.{◌≡◌, ◌↔◌, ◌||◌, ◌<◌, ℕ, suc, Bool, true, false, cond, List, [], ◌∷◌, ◌++◌, length, map, Option, Some, None, IfSome, is_some, option_map, Bor, String, Vec, Global, IsTrue, bytes_eq, string_bytes, refl, sym, ap, subst, ◌∙◌, arith}
+use Rattle.std.proofs.Common.{◌≡◌, ◌↔◌, ◌||◌, ◌<◌, ℕ, Bool, false, List, [], ◌∷◌, ◌++◌, length, map, Option, Some, None, IfSome, is_some, option_map, Bor, String, Vec, Global, IsTrue, bytes_eq, string_bytes, refl, sym, ap, subst, ◌∙◌, arith}
 use Rattle.std.proofs.lemmas.Bool.{false≢true, or_cases, or_left, or_right}
+use Rattle.std.proofs.lemmas.Grind.{common_steps}
+use Rattle.std.proofs.lemmas.List.{length-map}
 use Rattle.std.proofs.lemmas.Map.Text.{is_eq-slice_cmp}
 use Rattle.std.proofs.lemmas.Slice.Eq.{bytes_eq-Decides}
 use Rattle.std.specs.BTreeMap.{BTreeMap, get_by_text, is_at}
@@ -13,7 +15,7 @@ use Rattle.cargo_toml.specs.Action.{Text, item_of}
 use Rattle.cargo_toml.specs.Ascending.{Ascend}
 use Rattle.cargo_toml.specs.Reach.{Among}
 use Rattle.cargo_toml.specs.Views.{listed_in}
-use Rattle.cargo_toml_features.proofs.Places.{among_at, once}
+use Rattle.cargo_toml_features.proofs.ByPlace.{among_at, once}
 use Rattle.cargo_toml_features.specs.Places.{nth_text}
 use Rattle.cargo_toml_lint.specs.Turning.{says, turned, turns_to}
 use Rattle.cargo_toml_lint.specs.Reached.{Leads}
@@ -21,8 +23,7 @@ use Rattle.cargo_toml_lint.proofs.Gathered.{any_map}
 use Rattle.cargo_toml_lint.proofs.Rows.{among_either, among_first, among_last}
 
 pub length_now : (names : List (Bor Text)) → length (map (λ t. t.now) names) ≡ length names
-length_now [] = refl
-length_now (t ∷ names) = ap suc (length_now names)
+length_now names = length-map names (λ t. t.now)
 
 -- the first n rows hold what P says
 abbrev pub IsFilled : {Z : Type 0} → (ℕ → ℕ → Type 0) → ℕ → List (Vec ℕ Z) → Type 0
@@ -79,17 +80,7 @@ looked_up : (f : Text) (es : List (String Global × Vec (String Global) Global))
     → lookup (bytes_eq f) (map (λ e. (string_bytes e.0, texts_of e.1)) es)
     ≡ option_map texts_of (lookup (is_at (λ k. slice_cmp nat_cmp f (string_bytes k))) es)
 looked_up f [] = refl
-looked_up f (e ∷ es) =
-    ap (λ b. cond b (Some (texts_of e.1)) (lookup (bytes_eq f) (map (λ e. (string_bytes e.0, texts_of e.1)) es)))
-    (sym (is_eq-slice_cmp f (string_bytes e.0)))
-    ∙ go (is_at (λ (k : String Global). slice_cmp nat_cmp f (string_bytes k)) e.0) (looked_up f es)
-  where
-    go : (b : Bool) → lookup (bytes_eq f) (map (λ e. (string_bytes e.0, texts_of e.1)) es)
-        ≡ option_map texts_of (lookup (is_at (λ k. slice_cmp nat_cmp f (string_bytes k))) es)
-        → cond b (Some (texts_of e.1)) (lookup (bytes_eq f) (map (λ e. (string_bytes e.0, texts_of e.1)) es))
-        ≡ option_map texts_of (cond b (Some e.1) (lookup (is_at (λ k. slice_cmp nat_cmp f (string_bytes k))) es))
-    go true later = refl
-    go false later = later
+looked_up f (e ∷ es) = grind (arith, common_steps, string_bytes, is_eq-slice_cmp f (string_bytes e.0), looked_up f es)
 
 module _ (lists : Lists) where
   pub listed_at : (f : Text) → lookup (bytes_eq f) (listed_in lists) ≡ option_map texts_of (get_by_text lists f)

@@ -1,5 +1,5 @@
 -- What is found in an answer for a manifest is what holds of the manifest.
-use Rattle.std.proofs.Common.{arith, ◌≡◌, ◌⊎◌, ◌↔◌, ◌||◌, ◌++◌, [], not, Bool, true, false, ℕ, Some, is_some, IsTrue, length, nat_lt, List, refl, sym, ap, subst, ◌∙◌}
+use Rattle.std.proofs.Common.{arith, ◌≡◌, ◌⊎◌, ◌↔◌, ◌||◌, ◌++◌, [], not, Bool, true, false, ℕ, Some, is_some, IsTrue, length, nat_lt, List, sym, ap, subst, ◌∙◌}
 use Rattle.std.proofs.lemmas.Bool.{false≢true, and_parts, not-true, not_from_false, false_from_ne_true, or_cases, or_left, or_right}
 use Rattle.std.specs.List.{flat_map}
 use Rattle.std.specs.Option.{option_map_or}
@@ -15,19 +15,16 @@ use Rattle.cargo_toml.specs.Reach.{Among}
 use Rattle.cargo_toml.specs.Recorded.{Entry, is_implied}
 use Rattle.cargo_toml.specs.Removal.{is_removed}
 use Rattle.cargo_toml.specs.Views.{answer_of, table_in, value_at}
-use Rattle.cargo_toml_features.proofs.Unremoved.{held, there}
+use Rattle.cargo_toml_features.proofs.NoneRemoved.{held, there}
 use Rattle.cargo_toml_features.specs.declared.features.Features.{Features}
-use Rattle.cargo_toml_lint.specs.Findings.{Counts, HoldsOf, IsOnlyDefault, feature_findings, is_hidden, is_private, products_findings, tables_findings, told, written_findings}
+use Rattle.cargo_toml_lint.specs.Findings.{Counts, HoldsOf, IsCyclic, IsOnlyDefault, IsUnreachable, feature_findings, is_hidden, is_private, products_findings, tables_findings, told, written_findings}
 use Rattle.cargo_toml_lint.specs.Known.{all_names}
 use Rattle.cargo_toml_lint.specs.Names.{listed_by, held_names}
-use Rattle.cargo_toml_lint.specs.Steps.{CountsIn, explicit_at, implied_at, private_at, written_in}
-use Rattle.cargo_toml_lint.specs.Linked.{AreLinks, IsIn, IsOfDefault, name_at}
+use Rattle.cargo_toml_lint.specs.Steps.{CountsBy, explicit_at, implied_at, private_at, written_in}
 use Rattle.cargo_toml_lint.specs.Turning.{turning, turning_by}
 use Rattle.cargo_toml_lint.specs.declared.finding.Code.{Code}
 use Rattle.cargo_toml_lint.specs.declared.finding.Code.TheVariants.{Cycle, FeatureTable, Implied, PrivateDefault, Unreachable}
 use Rattle.cargo_toml_lint.specs.declared.known.Known.{Known}
-use Rattle.cargo_toml_lint.specs.declared.linking.Links.{Links}
-use Rattle.cargo_toml_lint.proofs.Leading.{cyclic_is, only_default_is, place, unreachable_is}
 
 same_truth : (a b : Bool) → (IsTrue a ↔ IsTrue b) → a ≡ b
 same_truth a b h = grind arith
@@ -71,37 +68,38 @@ module _ {M S H : Type 0} (limit : ℕ) (m : ManifestMeaning M) (a : Features S 
   abbrev whole : Table
   whole = turning m (parsed_table limit m).has
 
-  module _ (l : Links) (linked : AreLinks (turning_by (listed_by known) (held_names known).optional (table_in a.features).has) l) where
-    are : AreLinks whole l
-    are = subst (λ t. AreLinks t l) (λ i. turning_by (listed_as i) (names i).optional (λ f. none_has f i)) linked
+  -- the table of what is gathered and resolved
+  abbrev gathered : Table
+  gathered = turning_by (listed_by known) (held_names known).optional (table_in a.features).has
 
-    -- hidden or private, as the map tells of one that has a place
-    private_in : (f : Text) → IsIn l (λ p. IsTrue (is_hidden (name_at l p) || private_at a.features (name_at l p)) × IsOfDefault l p) f
-        ↔ (IsTrue (is_hidden f || is_private listed m.feature_details f) × IsOnlyDefault whole f)
-    private_in f = grind (arith, only_default_is whole l are (λ f k. refl) (λ x. IsTrue (is_hidden x || private_at a.features x)), private_is, none_has)
+  same : gathered ≡ whole
+  same = λ i. turning_by (listed_as i) (names i).optional (λ f. none_has f i)
 
-    implied_in : (f : Text) → CountsIn a.features l Implied f ↔ IsTrue (is_implied listed entries f)
-    implied_in f =
-        let told = implied_is f in (
-          λ i. told.0 (subst (λ x. IsTrue (implied_at a.features x)) i.2 i.3),
-          λ h.
-              let p = place whole l are f (sym (none_has f) ∙ implied_has f (told.1 h)) in
-              (p.0, p.1, p.2, subst (λ x. IsTrue (implied_at a.features x)) (sym p.2) (told.1 h)),
-        )
+  counts_is : (c : Code) (f : Text) → (IsTrue ((table_in a.features).has f) × CountsBy a.features gathered c f) ↔ Counts limit m c f
+  counts_is Implied f = (λ h. (implied_is f).0 h.1, λ h. let i = (implied_is f).1 h in (implied_has f i, i))
+  counts_is PrivateDefault f = (
+    λ h. (ap (λ b. is_hidden f || b) (sym (private_is f h.0)) ∙ h.1.0, subst (λ t. IsOnlyDefault t f) same h.1.1),
+    λ h.
+        let d = subst (λ t. IsOnlyDefault t f) (sym same) h.1 in
+        (d.default_does.target, (ap (λ b. is_hidden f || b) (private_is f d.default_does.target) ∙ h.0, d)),
+  )
+  counts_is Cycle f = (
+    λ h. subst (λ t. IsCyclic t f) same h.1,
+    λ h. let d = subst (λ t. IsCyclic t f) (sym same) h in (d.known, d),
+  )
+  counts_is Unreachable f = (
+    λ h. subst (λ t. IsUnreachable t f) same h.1,
+    λ h. let d = subst (λ t. IsUnreachable t f) (sym same) h in (d.known, d),
+  )
+  counts_is _ f = (λ h. absurd h.1, λ h. absurd h)
 
-    counts_is : (c : Code) (f : Text) → CountsIn a.features l c f ↔ Counts limit m c f
-    counts_is Implied f = implied_in f
-    counts_is PrivateDefault f = private_in f
-    counts_is Cycle f = cyclic_is whole l are f
-    counts_is Unreachable f = unreachable_is whole l are f
-    counts_is _ f = (λ h. absurd h.3, λ h. absurd h)
+  written_same : written_in a.features known limit m ≡ written_findings limit m
+  written_same = λ i. flat_map (λ e. feature_findings (names i) (nat_lt limit (length e.1) || not (explicit_is e.0 i)) e.0 e.1) (listed_as i)
+      ++ (flat_map (λ e. told e.0 [] (Some FeatureTable)) m.feature_details
+      ++ (tables_findings limit m ++ products_findings (names i) m))
 
-    written_same : written_in a.features known limit m ≡ written_findings limit m
-    written_same = λ i. flat_map (λ e. feature_findings (names i) (nat_lt limit (length e.1) || not (explicit_is e.0 i)) e.0 e.1) (listed_as i)
-        ++ (flat_map (λ e. told e.0 [] (Some FeatureTable)) m.feature_details
-        ++ (tables_findings limit m ++ products_findings (names i) m))
-
-    -- what is found is what holds
-    pub holds_is : (c : Code) (f t : Text)
-        → (Among (written_in a.features known limit m) (c, f, t) ⊎ ((t ≡ []) × CountsIn a.features l c f)) ↔ HoldsOf limit m c f t
-    holds_is c f t = grind (arith, written_same, counts_is)
+  -- what is found is what holds
+  pub holds_is : (c : Code) (f t : Text)
+      → (Among (written_in a.features known limit m) (c, f, t)
+      ⊎ ((t ≡ []) × IsTrue ((table_in a.features).has f) × CountsBy a.features gathered c f)) ↔ HoldsOf limit m c f t
+  holds_is c f t = grind (arith, written_same, counts_is)

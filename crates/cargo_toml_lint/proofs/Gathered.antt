@@ -1,8 +1,9 @@
 -- What a loop over a list gathers.
-use Rattle.std.proofs.Common.{arith, ◌≡◌, ◌⊎◌, ◌↔◌, ◌||◌, ◌&&◌, ◌<◌, ◌+◌, ℕ, Bool, true, false, cond, Some, is_some, List, [], ◌∷◌, ◌++◌, map, take, length, get_or, Bor, String, Vec, Global, IsTrue, bytes_eq, string_bytes, refl, sym, ap, inl, inr, ◌∙◌}
+use Rattle.std.proofs.Common.{arith, ◌≡◌, ◌⊎◌, ◌↔◌, ◌||◌, ◌&&◌, ◌<◌, ◌+◌, ℕ, Bool, true, false, is_some, List, [], ◌∷◌, ◌++◌, map, take, length, get_or, Bor, String, Vec, Global, IsTrue, bytes_eq, string_bytes, refl, sym, ap, inl, inr, ◌∙◌}
 use Rattle.std.proofs.Math.Bool.{or-false}
 use Rattle.std.proofs.lemmas.List.{map_push, take_more}
 use Rattle.std.proofs.lemmas.Bool.{false≢true, or_cases, or_left, or_right}
+use Rattle.std.proofs.lemmas.Grind.{common_steps}
 use Rattle.std.proofs.lemmas.List.Folds.{list_any-append}
 use Rattle.std.proofs.lemmas.Map.Text.{is_eq-slice_cmp}
 use Rattle.std.proofs.lemmas.Slice.Eq.{bytes_eq-Decides}
@@ -68,18 +69,4 @@ pub listed_in : {X Y : Type 0} (g : X → Y) (f : Text) (es : List (String Globa
     ≡ list_any (λ (e : Text × Y). bytes_eq f e.0)
     (map (λ (e : String Global × X). (string_bytes e.0, g e.1)) es)
 listed_in g f [] = refl
-listed_in {X} {Y} g f (e ∷ es) =
-    go (listed_in g f es) (is_at (λ k. slice_cmp nat_cmp f (string_bytes k)) e.0)
-    (is_eq-slice_cmp f (string_bytes e.0))
-  where
-    rest : Bool
-    rest = list_any (λ (e : Text × Y). bytes_eq f e.0)
-        (map (λ (e : String Global × X). (string_bytes e.0, g e.1)) es)
-
-    go : is_some (lookup (is_at (λ k. slice_cmp nat_cmp f (string_bytes k))) es) ≡ rest → (b : Bool)
-        → b ≡ bytes_eq f (string_bytes e.0)
-        → is_some (cond b (Some e.1) (lookup
-        (is_at (λ k. slice_cmp nat_cmp f (string_bytes k))) es))
-        ≡ (bytes_eq f (string_bytes e.0) || rest)
-    go before true same = ap (λ b. b || rest) same
-    go before false same = before ∙ ap (λ b. b || rest) same
+listed_in g f (e ∷ es) = grind (arith, common_steps, string_bytes, is_eq-slice_cmp f (string_bytes e.0), listed_in g f es)

@@ -4,8 +4,7 @@ pub mod Adding
 pub mod Counted
 pub mod Sorting
 pub mod Rows
-pub mod Words
-pub mod Meeting
+pub mod Searching
 pub mod Placed
 pub mod Edges
 pub mod Leading

@@ -1,5 +1,5 @@
 -- The names in the places that pass, as a loop over places puts them into a set.
-use Rattle.std.proofs.Common.{◌≡◌, ◌↔◌, ◌||◌, ◌<◌, ◌+◌, ℕ, zero, suc, List, [], ◌∷◌, length, map, get_or, Bor, IsTrue, bytes_eq, arith, sym, ap}
+use Rattle.std.proofs.Common.{◌≡◌, ◌↔◌, ◌||◌, ◌<◌, ◌+◌, ℕ, List, [], Bor, IsTrue, bytes_eq, arith}
 use Rattle.std.proofs.lemmas.Bool.{cases_eq, false≢true, or_cases, or_left, or_right}
 use Rattle.std.proofs.lemmas.Slice.Eq.{bytes_eq-Decides}
 use Rattle.std.specs.BTreeSet.{BTreeSet}
@@ -7,12 +7,6 @@ use Rattle.cargo_toml.specs.Action.{Text}
 use Rattle.cargo_toml.specs.Views.{set_has}
 use Rattle.cargo_toml_features.proofs.TextKeys.{none_in}
 use Rattle.cargo_toml_features.specs.Places.{nth_text}
-
--- the text that is read in a place
-pub text_at : (names : List (Bor Text)) (i : ℕ) (t : Bor Text) → i < length names → t ≡ get_or names i t → nth_text (map (λ t. t.now) names) i ≡ t.now
-text_at [] i t lt e = absurd (omega arith)
-text_at (x ∷ xs) zero t lt e = ap (λ (s : Bor Text). s.now) (sym e)
-text_at (x ∷ xs) (suc i) t lt e = text_at xs i t (omega arith) e
 
 module _ (names : List Text) (P : ℕ → Type 0) where
   -- the set has the names in the places before i that pass

@@ -4,7 +4,6 @@ pub mod Known
 pub mod Findings
 pub mod Turning
 -- the code's own steps, in contracts of inner functions alone: nothing here has to be believed
-pub mod Bits
 pub mod Linked
 pub mod Names
 pub mod Reached

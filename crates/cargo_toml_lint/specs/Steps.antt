@@ -7,19 +7,18 @@ use Rattle.std.specs.List.{flat_map}
 use Rattle.std.specs.Option.{option_map_or}
 use Rattle.cargo_toml.specs.Action.{Text}
 use Rattle.cargo_toml.specs.Feature.{Feature}
+use Rattle.cargo_toml.specs.Graph.{Table}
 use Rattle.cargo_toml.specs.Manifests.{ManifestMeaning}
 use Rattle.cargo_toml.specs.Views.{value_at}
-use Rattle.cargo_toml_lint.specs.Findings.{About, about, feature_findings, is_hidden}
+use Rattle.cargo_toml_lint.specs.Findings.{About, IsCyclic, IsOnlyDefault, IsUnreachable, about}
+use Rattle.cargo_toml_lint.specs.Findings.{feature_findings, is_hidden}
 use Rattle.cargo_toml_lint.specs.Findings.{products_findings, tables_findings, told}
-use Rattle.cargo_toml_lint.specs.Linked.{IsIn, IsLeftAlone, IsOfDefault, name_at}
 use Rattle.cargo_toml_lint.specs.Names.{held_names, listed_by}
-use Rattle.cargo_toml_lint.specs.Reached.{IsInRing}
 use Rattle.cargo_toml_lint.specs.declared.finding.Code.{Code}
 use Rattle.cargo_toml_lint.specs.declared.finding.Code.TheVariants.{Implied, PrivateDefault, Cycle}
 use Rattle.cargo_toml_lint.specs.declared.finding.Code.TheVariants.{FeatureTable, Unreachable}
 use Rattle.cargo_toml_lint.specs.declared.finding.Finding.{Finding}
 use Rattle.cargo_toml_lint.specs.declared.known.Known.{Known}
-use Rattle.cargo_toml_lint.specs.declared.linking.Links.{Links}
 
 -- these findings are added at the end
 pub record Finds (xs : List About) (old new : List Finding) : Type 0 where
@@ -48,15 +47,10 @@ module _ {S : Type 0} (m : HashMap (Bor Text) Feature S) where
       ++ (flat_map (λ e. told e.0 [] (Some FeatureTable)) manifest.feature_details
       ++ (tables_findings limit manifest ++ products_findings (held_names known) manifest))
 
-  -- what holds of the feature in place a of these links
-  abbrev pub CountsAt : Links → Code → ℕ → Type 0
-  CountsAt l Implied a = IsTrue (implied_at (name_at l a))
-  CountsAt l PrivateDefault a =
-      IsTrue (is_hidden (name_at l a) || private_at (name_at l a)) × IsOfDefault l a
-  CountsAt l Cycle a = IsInRing l.reach.next.items a
-  CountsAt l Unreachable a = IsLeftAlone l a
-  CountsAt l _ a = ⊥
-
-  -- what holds of f among the features of the map
-  abbrev pub CountsIn : Links → Code → Text → Type 0
-  CountsIn l c f = IsIn l (CountsAt l c) f
+  -- what holds of the feature f of the table
+  abbrev pub CountsBy : Table → Code → Text → Type 0
+  CountsBy t Implied f = IsTrue (implied_at f)
+  CountsBy t PrivateDefault f = IsTrue (is_hidden f || private_at f) × IsOnlyDefault t f
+  CountsBy t Cycle f = IsCyclic t f
+  CountsBy t Unreachable f = IsUnreachable t f
+  CountsBy t _ f = ⊥

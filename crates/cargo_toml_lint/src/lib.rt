@@ -2,7 +2,6 @@
 //! its features turn on which.
 #![tactic(auto)]
 
-mod bits;
 mod faults;
 mod finding;
 mod gathering;

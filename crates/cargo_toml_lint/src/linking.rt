@@ -11,7 +11,7 @@ ghost use Rattle.cargo_toml.specs.Recursive.{Enables};
 ghost use Rattle.cargo_toml.specs.Views.{set_has, table_in};
 ghost use Rattle.cargo_toml_features.specs.Places.{nth_text};
 ghost use Rattle.cargo_toml_lint.specs.Turning.{says, turned, turning, turning_by, turns_to};
-ghost use Rattle.cargo_toml_lint.specs.Linked.{AreFound, AreLinks, IsIn};
+ghost use Rattle.cargo_toml_lint.specs.Linked.{AreFound, AreLinks, name_at};
 ghost use Rattle.cargo_toml_lint.specs.Names.{held_names, listed_by};
 ghost use Rattle.cargo_toml_lint.specs.Reached.{Leads, Path};
 
@@ -190,16 +190,25 @@ impl<'m> Links<'m> {
     fn led_to(&self, alloc: Global, place: usize) -> Result<BTreeSet<&'m str>, AllocError>
         requires found { AreFound self.now }
         requires inside { place < length self.now.names.items }
-        ensures { IfOk result (λ s. (x : Text) → IsTrue (set_has s x)
-            ↔ IsIn self.now (Path self.now.reach.next.items place) x) }
+        ensures { IfOk result (λ s. (x : Text) → IsTrue (set_has s x) ↔ ((a : ℕ)
+            × (a < length self.now.names.items) × (name_at self.now a ≡ x)
+            × Path self.now.reach.next.items place a)) }
     {
         let mut found = BTreeSet::new(alloc);
         for other in 0..self.names.len() {
             if self.reach.leads(place, other) {
-                found.insert(self.names[other])?;
+                found.insert(self.name(other))?;
             }
         }
         Ok(found)
+    }
+
+    /// The name in a place.
+    pub(crate) fn name(&self, place: usize) -> &'m str
+        requires { place < length self.now.names.items }
+        ensures { result.now ≡ name_at self.now place }
+    {
+        self.names[place]
     }
 
     /// The features that the one in this place turns on in one step.

@@ -1,8 +1,9 @@
 //! What is found of a manifest.
-ghost use Rattle.std.specs.Prelude.{◌≡◌, ◌≤◌, ◌⊎◌, ◌↔◌, [], true, IfErr, IfOk, OnOk, map};
+ghost use Rattle.std.specs.Prelude.{◌≡◌, ◌≤◌, ◌⊎◌, ◌↔◌, [], None, true, IfErr, IfOk, IsTrue, OnOk};
 ghost use Rattle.std.specs.List.Sorted.{IsStrictlySortedBy};
 ghost use Rattle.cargo_toml.specs.Action.{Text};
 ghost use Rattle.cargo_toml.specs.Error.{Memory};
+ghost use Rattle.cargo_toml.specs.Graph.{Table};
 ghost use Rattle.cargo_toml.specs.Limits.{MAX_ITEMS};
 ghost use Rattle.cargo_toml.specs.Manifests.{held};
 ghost use Rattle.cargo_toml.specs.Parsed.{IsParsed};
@@ -10,11 +11,10 @@ ghost use Rattle.cargo_toml.specs.Reach.{Among};
 ghost use Rattle.cargo_toml.specs.Views.{answer_of, table_in};
 ghost use Rattle.cargo_toml_lint.specs.declared.finding.Code.{Code};
 ghost use Rattle.cargo_toml_lint.specs.Findings.{HoldsOf, IsFound};
-ghost use Rattle.cargo_toml_lint.specs.Steps.{CountsIn, Finds, written_in};
+ghost use Rattle.cargo_toml_lint.specs.Steps.{CountsBy, Finds, written_in};
 ghost use Rattle.cargo_toml_lint.specs.Linked.{AreFound, AreLinks};
 ghost use Rattle.cargo_toml_lint.specs.Names.{held_names, listed_by};
 ghost use Rattle.cargo_toml_lint.specs.Turning.{turning_by};
-ghost use Rattle.cargo_toml_lint.specs.declared.linking.Links.{Links};
 
 use crate::finding::Finding;
 use crate::gathering::{add_details, add_features, add_products};
@@ -77,8 +77,10 @@ fn add_counting<'m, S: BuildHasher>(
     features: &FeatureMap<'m, S>,
 ) -> Result<(), AllocError>
     requires { AreFound links.now }
-    ensures { OnOk result ((c : Code) (f t : Text) → IsFound found.new.items c f t
-        ↔ (IsFound found.old.items c f t ⊎ ((t ≡ []) × CountsIn features.now links.now c f))) }
+    ensures { OnOk result ((t : Table) → AreLinks t links.now → ((f k : Text) → t.action f k ≡ None)
+        → (c : Code) (f x : Text) → IsFound found.new.items c f x
+        ↔ (IsFound found.old.items c f x ⊎ ((x ≡ []) × IsTrue (t.has f)
+        × CountsBy features.now t c f))) }
 {
     let walks = walks_of(*found.allocator(), links)?;
     for place in 0..links.names.len() {
@@ -106,12 +108,11 @@ fn found_in<'m, M, S: BuildHasher>(
     manifest: &'m Manifest<M>,
     limit: usize,
 ) -> Result<Vec<Finding<'m>>, AllocError>
-    ensures exact { IfOk result (λ v. (l : Links)
-        × AreLinks (turning_by (listed_by known.now) (held_names known.now).optional
-        (table_in features.now).has) l
-        × ((c : Code) (f t : Text) → IsFound v.items c f t
-        ↔ (Among (written_in features.now known.now limit (held manifest.now)) (c, f, t)
-        ⊎ ((t ≡ []) × CountsIn features.now l c f)))) }
+    ensures exact { IfOk result (λ v. (c : Code) (f x : Text) → IsFound v.items c f x
+        ↔ (Among (written_in features.now known.now limit (held manifest.now)) (c, f, x)
+        ⊎ ((x ≡ []) × IsTrue ((table_in features.now).has f) × CountsBy features.now
+        (turning_by (listed_by known.now) (held_names known.now).optional
+        (table_in features.now).has) c f))) }
     ensures in_order { IfOk result
         (λ v. IsStrictlySortedBy ⟦<Finding<'m> as Ord>⟧.cmp v.items) }
 {

@@ -50,20 +50,14 @@ pub(crate) fn is_feature_name(name: &str) -> bool
 fn has_dep(text: &str) -> bool
     ensures { result ≡ starts_with nat_eq text.now (codes "dep:") }
 {
-    match text.strip_prefix("dep:") {
-        Some(_) => true,
-        None => false,
-    }
+    text.as_bytes().starts_with(b"dep:".as_slice())
 }
 
 // Whether the text ends in `?`.
 fn has_mark(text: &str) -> bool
     ensures { result ≡ ends_with nat_eq text.now (codes "?") }
 {
-    match text.strip_suffix('?') {
-        Some(_) => true,
-        None => false,
-    }
+    text.as_bytes().ends_with(b"?".as_slice())
 }
 
 // The text up to its first slash, and what follows that.

@@ -1,12 +1,10 @@
 //! What each vertex of a graph leads to, by any number of edges.
-ghost use Rattle.std.specs.Prelude.{◌≡◌, ◌≢◌, ◌<◌, ◌≤◌, ◌*◌, ◌↔◌, ◌⊎◌, ℕ, IfOk, IsTrue, OnOk};
-ghost use Rattle.std.specs.Prelude.{length};
+ghost use Rattle.std.specs.Prelude.{◌≡◌, ◌≢◌, ◌<◌, ◌≤◌, ◌+◌, ◌↔◌, ◌⊎◌, ◌++◌, ◌∷◌, [], ℕ, IfOk};
+ghost use Rattle.std.specs.Prelude.{IsTrue, OnOk, length};
 ghost use Rattle.cargo_toml.specs.Reach.{Among};
-ghost use Rattle.cargo_toml_lint.specs.Bits.{HasBit};
-ghost use Rattle.cargo_toml_lint.specs.Reached.{IsFinished, IsFlagged, IsInRing, IsSettled};
-ghost use Rattle.cargo_toml_lint.specs.Reached.{IsWhole, Leads, Meets, Path};
+ghost use Rattle.cargo_toml_lint.specs.Reached.{IsFinished, IsFlagged, IsInRing, IsWhole, Leads};
+ghost use Rattle.cargo_toml_lint.specs.Reached.{Path, Searches, Stands, edges_left, row_at};
 
-use crate::bits::{has_bit, join, set_bit, words_for};
 use std::alloc::{AllocError, Global};
 
 /// A graph of numbered vertices, and what each leads to.
@@ -14,84 +12,88 @@ use std::alloc::{AllocError, Global};
 pub struct Reach {
     /// The edges of each vertex.
     pub next: Vec<Vec<usize>>,
-    /// What it leads to, itself too, as bits: no words while that isn't looked for, and where it
-    /// has no edge.
-    rows: Vec<Vec<u64>>,
-    /// How many words a row has.
-    width: usize,
+    /// Whether it leads to each, itself too: no flags while that isn't looked for.
+    rows: Vec<Vec<bool>>,
 }
 
-// A vertex is met: all that it leads to is in the row, or it waits for its edges to be taken.
-fn meet(row: &mut Vec<u64>, met: &mut Vec<usize>, reach: &Reach, x: usize) -> Result<(), AllocError>
+// Sets a flag.
+fn set_flag(flags: &mut Vec<bool>, x: usize)
+    requires { x < length flags.old.items }
+    ensures len { length flags.new.items ≡ length flags.old.items }
+    ensures put { (y : ℕ) → IsFlagged flags.new.items y ↔ (IsFlagged flags.old.items y ⊎ (y ≡ x)) }
+{
+    flags[x] = true;
+}
+
+// Sets the flags that stand in the other list too.
+fn join(flags: &mut Vec<bool>, other: &[bool])
+    requires { length flags.old.items ≡ length other.now }
+    ensures len { length flags.new.items ≡ length flags.old.items }
+    ensures joined { (x : ℕ) → IsFlagged flags.new.items x
+        ↔ (IsFlagged flags.old.items x ⊎ IsFlagged other.now x) }
+{
+    for k in 0..other.len() {
+        flags[k] |= other[k];
+    }
+}
+
+// A vertex is met: what it leads to is flagged, or its edges are to be taken.
+fn meet(
+    row: &mut Vec<bool>,
+    waiting: &mut Vec<usize>,
+    reach: &Reach,
+    x: usize,
+) -> Result<(), AllocError>
     requires whole { IsWhole reach.now }
     requires inside { x < length reach.now.next.items }
-    requires wide { length row.old.items ≡ reach.now.width }
-    ensures { OnOk result (Meets reach.now (λ y. y ≡ x)
-        row.old.items row.new.items met.old.items met.new.items) }
+    requires wide { length row.old.items ≡ length reach.now.next.items }
+    ensures goes_on { OnOk result ((start : ℕ)
+        → Searches reach.now start row.old.items (waiting.old.items ++ x ∷ [])
+        → Searches reach.now start row.new.items waiting.new.items) }
+    ensures work { OnOk result
+        (length waiting.new.items + edges_left reach.now.next.items row.new.items
+        ≤ length waiting.old.items + edges_left reach.now.next.items row.old.items) }
 {
-    if has_bit(row.as_slice(), x) {
+    if row[x] {
         return Ok(());
     }
-    let own = reach.rows[x].as_slice();
+    let own = reach.row(x);
     if own.is_empty() {
-        set_bit(row, x);
-        met.push(x)?;
+        row[x] = true;
+        waiting.extend_from_slice(reach.targets(x))?;
     } else {
         join(row, own);
     }
     Ok(())
 }
 
-// The targets are met.
-fn meet_all(
-    row: &mut Vec<u64>,
-    met: &mut Vec<usize>,
-    reach: &Reach,
-    targets: &[usize],
-) -> Result<(), AllocError>
-    requires whole { IsWhole reach.now }
-    requires inside { (y : ℕ) → Among targets.now y → y < length reach.now.next.items }
-    requires wide { length row.old.items ≡ reach.now.width }
-    ensures { OnOk result (Meets reach.now (Among targets.now)
-        row.old.items row.new.items met.old.items met.new.items) }
-{
-    for x in targets {
-        meet(row, met, reach, *x)?;
-    }
-    Ok(())
-}
-
 // What a vertex leads to, by what others do whose rows stand.
-fn row_of(alloc: Global, reach: &Reach, start: usize) -> Result<Vec<u64>, AllocError>
+fn row_of(alloc: Global, reach: &Reach, start: usize) -> Result<Vec<bool>, AllocError>
     requires whole { IsWhole reach.now }
     requires inside { start < length reach.now.next.items }
-    ensures wide { IfOk result (λ row. length row.items ≡ reach.now.width) }
-    ensures right { IfOk result (λ row. (y : ℕ) → HasBit row.items y
+    ensures wide { IfOk result (λ row. length row.items ≡ length reach.now.next.items) }
+    ensures right { IfOk result (λ row. (y : ℕ) → IsFlagged row.items y
         ↔ Path reach.now.next.items start y) }
 {
-    let mut row = Vec::from_elem(alloc, 0, reach.width)?;
-    let mut met = Vec::new(alloc);
-    meet(&mut row, &mut met, reach, start)?;
-    let mut at = 0;
-    while at < met.len() {
-        let x = met[at];
-        meet_all(&mut row, &mut met, reach, reach.next[x].as_slice())?;
-        at += 1;
+    let mut row = Vec::from_elem(alloc, false, reach.next.len())?;
+    let mut waiting = Vec::new(alloc);
+    waiting.push(start)?;
+    while let Some(x) = waiting.pop() {
+        meet(&mut row, &mut waiting, reach, x)?;
     }
     Ok(row)
 }
 
-// The row of a vertex is found, where it has edges.
+// The row of a vertex is found.
 fn settle(alloc: Global, reach: &mut Reach, x: usize) -> Result<(), AllocError>
     requires whole { IsWhole reach.old }
     requires inside { x < length reach.old.next.items }
     ensures whole { OnOk result (IsWhole reach.new) }
     ensures next { reach.new.next ≡ reach.old.next }
-    ensures own { OnOk result (IsSettled reach.new x) }
-    ensures others { OnOk result
-        ((y : ℕ) → IsSettled reach.old y → IsSettled reach.new y) }
+    ensures own { OnOk result (Stands reach.new x) }
+    ensures others { OnOk result ((y : ℕ) → Stands reach.old y → Stands reach.new y) }
 {
-    if reach.rows[x].is_empty() && !reach.next[x].is_empty() {
+    if reach.rows[x].is_empty() {
         let row = row_of(alloc, reach, x)?;
         reach.rows[x] = row;
     }
@@ -104,16 +106,11 @@ fn unsettled(alloc: Global, next: Vec<Vec<usize>>) -> Result<Reach, AllocError>
     ensures whole { IfOk result IsWhole }
     ensures next { IfOk result (λ r. r.next ≡ next) }
 {
-    let count = next.len();
-    let mut rows = Vec::with_capacity(alloc, count)?;
-    for _ in 0..count {
+    let mut rows = Vec::with_capacity(alloc, next.len())?;
+    for _ in 0..next.len() {
         rows.push(Vec::new(alloc))?;
     }
-    Ok(Reach {
-        next,
-        rows,
-        width: words_for(count),
-    })
+    Ok(Reach { next, rows })
 }
 
 // The vertices as a search in depth ends with them: each behind those that it leads to, but for
@@ -184,6 +181,22 @@ pub fn reach_all(alloc: Global, next: Vec<Vec<usize>>) -> Result<Reach, AllocErr
 }
 
 impl Reach {
+    // Where edges lead from a vertex.
+    fn targets(&self, a: usize) -> &[usize]
+        requires { a < length self.now.next.items }
+        ensures { result.now ≡ row_at self.now.next.items a }
+    {
+        self.next[a].as_slice()
+    }
+
+    // The flags of a vertex.
+    fn row(&self, a: usize) -> &[bool]
+        requires { a < length self.now.rows.items }
+        ensures { result.now ≡ row_at self.now.rows.items a }
+    {
+        self.rows[a].as_slice()
+    }
+
     /// Whether a vertex is the other, or edges lead there.
     pub fn leads(&self, from: usize, to: usize) -> bool
         requires finished { IsFinished self.now }
@@ -191,12 +204,7 @@ impl Reach {
         requires to { to < length self.now.next.items }
         ensures { IsTrue result ↔ Path self.now.next.items from to }
     {
-        let row = self.rows[from].as_slice();
-        if row.is_empty() {
-            from == to
-        } else {
-            has_bit(row, to)
-        }
+        self.row(from)[to]
     }
 
     /// Whether a vertex leads to another that leads back.
@@ -205,7 +213,7 @@ impl Reach {
         requires inside { own < length self.now.next.items }
         ensures { IsTrue result ↔ IsInRing self.now.next.items own }
     {
-        let targets = self.next[own].as_slice();
+        let targets = self.targets(own);
         for x in targets {
             if *x != own && self.leads(*x, own) {
                 return true;
@@ -214,70 +222,31 @@ impl Reach {
         false
     }
 
-    /// What the vertices lead to whose flag stands, as bits.
-    pub fn reached_from(&self, alloc: Global, flags: &[bool]) -> Result<Vec<u64>, AllocError>
-        requires finished { IsFinished self.now }
-        requires whole { length flags.now ≡ length self.now.next.items }
-        ensures len { IfOk result (λ bits. length bits.items ≡ self.now.width) }
-        ensures reached { IfOk result (λ bits. (b : ℕ) → HasBit bits.items b
-            ↔ ((a : ℕ) × IsFlagged flags.now a × Path self.now.next.items a b)) }
-    {
-        let mut bits = Vec::from_elem(alloc, 0, self.width)?;
-        for a in 0..flags.len() {
-            if flags[a] {
-                self.add_reached(&mut bits, a);
-            }
-        }
-        Ok(bits)
-    }
-
-    // Sets the bits of all that a vertex leads to.
-    fn add_reached(&self, bits: &mut Vec<u64>, a: usize)
+    /// Sets the flags of all that a vertex leads to.
+    pub fn add_reached(&self, flags: &mut Vec<bool>, a: usize)
         requires finished { IsFinished self.now }
         requires inside { a < length self.now.next.items }
-        requires wide { length bits.old.items ≡ self.now.width }
-        ensures len { length bits.new.items ≡ length bits.old.items }
-        ensures bits { (b : ℕ) → HasBit bits.new.items b
-            ↔ (HasBit bits.old.items b ⊎ Path self.now.next.items a b) }
+        requires wide { length flags.old.items ≡ length self.now.next.items }
+        ensures len { length flags.new.items ≡ length flags.old.items }
+        ensures flags { (b : ℕ) → IsFlagged flags.new.items b
+            ↔ (IsFlagged flags.old.items b ⊎ Path self.now.next.items a b) }
     {
-        let row = self.rows[a].as_slice();
-        if row.is_empty() {
-            set_bit(bits, a);
-        } else {
-            join(bits, row);
-        }
+        join(flags, self.row(a));
     }
 
-    /// The vertices to which another leads at once whose flag stands, as bits.
-    pub fn named_by(&self, alloc: Global, flags: &[bool]) -> Result<Vec<u64>, AllocError>
-        requires finished { IsFinished self.now }
-        requires whole { length flags.now ≡ length self.now.next.items }
-        ensures len { IfOk result (λ bits. length bits.items ≡ self.now.width) }
-        ensures named { IfOk result (λ bits. (b : ℕ) → HasBit bits.items b
-            ↔ ((a : ℕ) × IsFlagged flags.now a × (b ≢ a) × Leads self.now.next.items a b)) }
-    {
-        let mut bits = Vec::from_elem(alloc, 0, self.width)?;
-        for a in 0..flags.len() {
-            if flags[a] {
-                self.add_named(&mut bits, a);
-            }
-        }
-        Ok(bits)
-    }
-
-    // Sets the bits of the others to which a vertex leads at once.
-    fn add_named(&self, bits: &mut Vec<u64>, a: usize)
+    /// Sets the flags of the others to which a vertex leads at once.
+    pub fn add_named(&self, flags: &mut Vec<bool>, a: usize)
         requires finished { IsFinished self.now }
         requires inside { a < length self.now.next.items }
-        requires wide { length bits.old.items ≡ self.now.width }
-        ensures len { length bits.new.items ≡ length bits.old.items }
-        ensures bits { (b : ℕ) → HasBit bits.new.items b
-            ↔ (HasBit bits.old.items b ⊎ ((b ≢ a) × Leads self.now.next.items a b)) }
+        requires wide { length flags.old.items ≡ length self.now.next.items }
+        ensures len { length flags.new.items ≡ length flags.old.items }
+        ensures flags { (b : ℕ) → IsFlagged flags.new.items b
+            ↔ (IsFlagged flags.old.items b ⊎ ((b ≢ a) × Leads self.now.next.items a b)) }
     {
-        let targets = self.next[a].as_slice();
+        let targets = self.targets(a);
         for x in targets {
             if *x != a {
-                set_bit(bits, *x);
+                set_flag(flags, *x);
             }
         }
     }

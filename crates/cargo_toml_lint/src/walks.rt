@@ -1,14 +1,15 @@
 //! What is found of features that turn on one another.
-ghost use Rattle.std.specs.Prelude.{◌≡◌, ◌<◌, ◌*◌, ◌↔◌, ◌||◌, ◌⊎◌, [], IfOk, IsTrue, OnOk};
-ghost use Rattle.std.specs.Prelude.{length, map, not};
+ghost use Rattle.std.specs.Prelude.{◌≡◌, ◌<◌, ◌↔◌, ◌||◌, ◌⊎◌, ℕ, [], None, IfOk, IsTrue, OnOk};
+ghost use Rattle.std.specs.Prelude.{length};
 ghost use Rattle.cargo_toml.specs.Action.{Text};
-ghost use Rattle.cargo_toml_lint.specs.Bits.{HasBit};
+ghost use Rattle.cargo_toml.specs.Graph.{Table};
 ghost use Rattle.cargo_toml_lint.specs.Findings.{IsFound, is_hidden};
-ghost use Rattle.cargo_toml_lint.specs.Linked.{AreFound, AreWalks, is_default, name_at};
-ghost use Rattle.cargo_toml_lint.specs.Steps.{CountsAt, private_at};
+ghost use Rattle.cargo_toml_lint.specs.Linked.{AreFound, AreLed, AreLinks, AreWalks, Goes};
+ghost use Rattle.cargo_toml_lint.specs.Linked.{is_of, name_at};
+ghost use Rattle.cargo_toml_lint.specs.Reached.{IsFlagged};
+ghost use Rattle.cargo_toml_lint.specs.Steps.{CountsBy, private_at};
 ghost use Rattle.cargo_toml_lint.specs.declared.finding.Code.{Code};
 
-use crate::bits::has_bit;
 use crate::finding::{Code, Finding};
 use crate::gathering::add_if;
 use crate::graph::{FeatureMap, is_hidden, is_implied, is_private};
@@ -16,38 +17,64 @@ use crate::linking::Links;
 use std::alloc::{AllocError, Global};
 use std::hash::BuildHasher;
 
-// Whether each of the names isn't hidden.
-fn are_shown(alloc: Global, names: &[&str]) -> Result<Vec<bool>, AllocError>
-    ensures { IfOk result (λ flags.
-        flags.items ≡ map (λ t. not (is_hidden t.now)) names.now) }
-{
-    let mut flags = Vec::with_capacity(alloc, names.len())?;
-    for name in names {
-        flags.push(!is_hidden(*name))?;
-    }
-    Ok(flags)
+// Features that lead to others.
+#[derive(Copy, Clone)]
+enum Source {
+    // Those that aren't hidden, by any number of steps.
+    Shown,
+    // `default`, by one.
+    Default,
+    // Those of other names, by one.
+    Others,
 }
 
-// Whether each of the names is `default`, or where `wanted` isn't set, another.
-fn are_default(alloc: Global, names: &[&str], wanted: bool) -> Result<Vec<bool>, AllocError>
-    ensures { IfOk result (λ flags. flags.items ≡ map (λ t. is_default wanted t.now) names.now) }
-{
-    let mut flags = Vec::with_capacity(alloc, names.len())?;
-    for name in names {
-        flags.push((*name == "default") == wanted)?;
+impl Source {
+    fn has(self, name: &str) -> bool
+        ensures { result ≡ is_of self name.now }
+    {
+        match self {
+            Source::Shown => !is_hidden(name),
+            Source::Default => name == "default",
+            Source::Others => name != "default",
+        }
     }
-    Ok(flags)
+
+    // Sets the flags of the places to which the feature in this one goes.
+    fn add(self, flags: &mut Vec<bool>, links: &Links<'_>, a: usize)
+        requires found { AreFound links.now }
+        requires inside { a < length links.now.names.items }
+        requires wide { length flags.old.items ≡ length links.now.names.items }
+        ensures len { length flags.new.items ≡ length flags.old.items }
+        ensures added { (b : ℕ) → IsFlagged flags.new.items b
+            ↔ (IsFlagged flags.old.items b ⊎ Goes self links.now a b) }
+    {
+        match self {
+            Source::Shown => links.reach.add_reached(flags, a),
+            Source::Default | Source::Others => links.reach.add_named(flags, a),
+        }
+    }
+
+    // The flags of all places to which features go.
+    fn led(self, alloc: Global, links: &Links<'_>) -> Result<Vec<bool>, AllocError>
+        requires { AreFound links.now }
+        ensures { IfOk result (λ flags. AreLed self links.now flags.items) }
+    {
+        let mut flags = Vec::from_elem(alloc, false, links.names.len())?;
+        for a in 0..links.names.len() {
+            if self.has(links.name(a)) {
+                self.add(&mut flags, links, a);
+            }
+        }
+        Ok(flags)
+    }
 }
 
-/// What features lead to, as bits of their places.
+/// What features lead to, as flags of their places.
 #[derive(Drop)]
 pub(crate) struct Walks {
-    /// Those to which one leads that isn't hidden.
-    reached: Vec<u64>,
-    /// Those that `default` turns on in one step.
-    by_default: Vec<u64>,
-    /// Those that another feature does.
-    by_others: Vec<u64>,
+    reached: Vec<bool>,
+    by_default: Vec<bool>,
+    by_others: Vec<bool>,
 }
 
 /// What features lead to.
@@ -55,17 +82,10 @@ pub(crate) fn walks_of(alloc: Global, links: &Links<'_>) -> Result<Walks, AllocE
     requires { AreFound links.now }
     ensures { IfOk result (AreWalks links.now) }
 {
-    let names = links.names.as_slice();
-    let shown = are_shown(alloc, names)?;
-    let default = are_default(alloc, names, true)?;
-    let others = are_default(alloc, names, false)?;
-    let reached = links.reach.reached_from(alloc, shown.as_slice())?;
-    let by_default = links.reach.named_by(alloc, default.as_slice())?;
-    let by_others = links.reach.named_by(alloc, others.as_slice())?;
     Ok(Walks {
-        reached,
-        by_default,
-        by_others,
+        reached: Source::Shown.led(alloc, links)?,
+        by_default: Source::Default.led(alloc, links)?,
+        by_others: Source::Others.led(alloc, links)?,
     })
 }
 
@@ -77,20 +97,20 @@ fn is_internal<S: BuildHasher>(features: &FeatureMap<'_, S>, name: &str) -> bool
 }
 
 // Whether the first of two sets has the place, and the second hasn't.
-fn is_alone(first: &[u64], second: &[u64], place: usize) -> bool
-    requires first { place < 64 * length first.now }
-    requires second { place < 64 * length second.now }
-    ensures { IsTrue result ↔ (HasBit first.now place × (¬ HasBit second.now place)) }
+fn is_alone(first: &[bool], second: &[bool], place: usize) -> bool
+    requires first { place < length first.now }
+    requires second { place < length second.now }
+    ensures { IsTrue result ↔ (IsFlagged first.now place × (¬ IsFlagged second.now place)) }
 {
-    has_bit(first, place) && !has_bit(second, place)
+    first[place] && !second[place]
 }
 
-// Whether the feature in the place is hidden, and the bits don't have it.
-fn is_left_alone(reached: &[u64], name: &str, place: usize) -> bool
-    requires { place < 64 * length reached.now }
-    ensures { IsTrue result ↔ (IsTrue (is_hidden name.now) × (¬ HasBit reached.now place)) }
+// Whether the feature in the place is hidden, and the set doesn't have it.
+fn is_left_alone(reached: &[bool], name: &str, place: usize) -> bool
+    requires { place < length reached.now }
+    ensures { IsTrue result ↔ (IsTrue (is_hidden name.now) × (¬ IsFlagged reached.now place)) }
 {
-    is_hidden(name) && !has_bit(reached, place)
+    is_hidden(name) && !reached[place]
 }
 
 /// Adds what is found of the feature in the place.
@@ -104,11 +124,12 @@ pub(crate) fn add_place<'m, S: BuildHasher>(
     requires found { AreFound links.now }
     requires walks { AreWalks links.now walks.now }
     requires inside { place < length links.now.names.items }
-    ensures { OnOk result ((c : Code) (f t : Text) → IsFound found.new.items c f t
-        ↔ (IsFound found.old.items c f t ⊎ ((t ≡ []) × (name_at links.now place ≡ f)
-        × CountsAt features.now links.now c place))) }
+    ensures { OnOk result ((t : Table) → AreLinks t links.now → ((f k : Text) → t.action f k ≡ None)
+        → (c : Code) (f x : Text) → IsFound found.new.items c f x
+        ↔ (IsFound found.old.items c f x ⊎ ((x ≡ []) × (name_at links.now place ≡ f)
+        × CountsBy features.now t c f))) }
 {
-    let name = links.names[place];
+    let name = links.name(place);
     let is_internal = is_internal(features, name);
     let is_alone = is_alone(
         walks.by_default.as_slice(),

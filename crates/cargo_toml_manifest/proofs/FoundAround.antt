@@ -3,7 +3,7 @@ use Rattle.std.proofs.Common.{◌≡◌, Bool, true, false, cond, List, [], ◌�
 use Rattle.std.specs.Prelude.{unwrap_or}
 use Rattle.cargo_toml_parts.specs.{FaultValues.Fault, FaultValues.fault_of, Wrapping.wrap}
 use Rattle.cargo_toml_parts.specs.{InheritableValues.value_of, declared.error.Error.Error}
-use Rattle.cargo_toml_tables.specs.{Settings.flag, declared.settings.Edition.TheVariants.E2015}
+use Rattle.cargo_toml_parts.specs.{Settings.flag, declared.settings.Edition.TheVariants.E2015}
 use Rattle.cargo_toml_discovery.specs.Answers.{Answers, answer_at, filled_by, filled, around_in}
 use Rattle.cargo_toml_discovery.specs.Around.{named_by, named_at, each_named, entries_at, make_around, around, Around}
 use Rattle.cargo_toml_discovery.specs.{Found.Named, Names.Name, Names.in_folder, Names.is_source}

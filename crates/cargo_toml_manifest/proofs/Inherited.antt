@@ -3,8 +3,8 @@ use Rattle.std.proofs.Common.{◌≡◌, ◌⊎◌, inl, inr, refl, Result, Ok, 
 use Rattle.cargo_toml_parts.specs.{Answers.◌>>=◌, FaultValues.Fault, FaultValues.fault_of}
 use Rattle.cargo_toml_parts.specs.declared.error.Error.{Error, Memory}
 use Rattle.cargo_toml_parts.specs.declared.inheritable.Inheritable.{Inheritable}
-use Rattle.cargo_toml_dependencies.specs.Inheriting.{Entries, inherited_entries, inherited_target, inherited_targets}
-use Rattle.cargo_toml_dependencies.specs.Targets.{TargetMeaning}
+use Rattle.cargo_toml_package.specs.InheritedDependencies.{Entries, inherited_entries, inherited_target, inherited_targets}
+use Rattle.cargo_toml_package.specs.Targets.{TargetMeaning}
 use Rattle.cargo_toml_package.specs.{Packages.PackageMeaning, Templates.TemplateMeaning}
 use Rattle.cargo_toml_package.specs.Sharing.{LintsByTool, inherited_lints}
 use Rattle.cargo_toml_manifest.specs.Inheriting.{inherited_from, inherited_if_there, own_tables}

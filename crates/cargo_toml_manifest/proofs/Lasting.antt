@@ -6,10 +6,10 @@ use Rattle.cargo_toml_parts.specs.declared.inheritable.Inheritable.TheVariants.{
 use Rattle.cargo_toml_parts.specs.{Answers.◌>>=◌, Answers.beside, Answers.each, FaultValues.Fault}
 use Rattle.cargo_toml_parts.specs.{InheritableValues.is_set, Paths.workspace_folder}
 use Rattle.cargo_toml_parts.specs.declared.inheritable.Inheritable.{Inheritable}
-use Rattle.cargo_toml_dependencies.specs.Dependencies.{DependencyMeaning, InheritedMeaning, simple, inherited, detailed}
-use Rattle.cargo_toml_dependencies.specs.Inheriting.{Entries, adds_nothing, any_left, any_target_left, entry_at, from_template, inherited_entries, inherited_entry, inherited_target, inherited_targets, is_left, detail_of_requirement, target_left, with_entry}
-use Rattle.cargo_toml_dependencies.specs.Targets.{TargetMeaning}
-use Rattle.cargo_toml_dependencies.proofs.Lasting.{target-kept, targets-kept}
+use Rattle.cargo_toml_package.specs.Dependencies.{DependencyMeaning, InheritedMeaning, simple, inherited, detailed}
+use Rattle.cargo_toml_package.specs.InheritedDependencies.{Entries, adds_nothing, any_left, any_target_left, entry_at, from_template, inherited_entries, inherited_entry, inherited_target, inherited_targets, is_left, detail_of_requirement, target_left, with_entry}
+use Rattle.cargo_toml_package.specs.Targets.{TargetMeaning}
+use Rattle.cargo_toml_package.proofs.LastingDependencies.{target-kept, targets-kept}
 use Rattle.cargo_toml_discovery.{proofs.Again.discovered-again, specs.Names.Name, specs.Told.Told}
 use Rattle.cargo_toml_discovery.specs.Around.{Around, around}
 use Rattle.cargo_toml_discovery.specs.Discovering.{DiscoveredMeaning, StatedMeaning, discovered, restated}

@@ -2,8 +2,8 @@
 use Rattle.std.specs.Prelude.{false, Option, Some, None, unwrap_or}
 use Rattle.cargo_toml_parts.specs.InheritableValues.{value_of}
 use Rattle.cargo_toml_parts.specs.declared.inheritable.Inheritable.TheVariants.{Set}
-use Rattle.cargo_toml_tables.specs.Settings.{flag}
-use Rattle.cargo_toml_tables.specs.declared.settings.Edition.TheVariants.{E2015}
+use Rattle.cargo_toml_parts.specs.Settings.{flag}
+use Rattle.cargo_toml_parts.specs.declared.settings.Edition.TheVariants.{E2015}
 use Rattle.cargo_toml_discovery.specs.Around.{around}
 use Rattle.cargo_toml_discovery.specs.Discovering.{StatedMeaning, DiscoveredMeaning}
 use Rattle.cargo_toml_discovery.specs.Discovering.{discovered, discovered_meaning}

@@ -5,9 +5,10 @@ use Rattle.std.specs.Option.{option_map_or}
 use Rattle.cargo_toml_parts.specs.Answers.{◌>>=◌}
 use Rattle.cargo_toml_parts.specs.FaultValues.{Fault}
 use Rattle.cargo_toml_parts.specs.InheritableValues.{is_set}
-use Rattle.cargo_toml_dependencies.specs.Inheriting.{Entries, inherited_target, inherited_targets}
-use Rattle.cargo_toml_dependencies.specs.Inheriting.{any_left, any_target_left}
-use Rattle.cargo_toml_dependencies.specs.Targets.{TargetMeaning}
+use Rattle.cargo_toml_package.specs.InheritedDependencies.{Entries, inherited_target}
+use Rattle.cargo_toml_package.specs.InheritedDependencies.{inherited_targets}
+use Rattle.cargo_toml_package.specs.InheritedDependencies.{any_left, any_target_left}
+use Rattle.cargo_toml_package.specs.Targets.{TargetMeaning}
 use Rattle.cargo_toml_package.specs.Inheriting.{inherited_package, any_field_left}
 use Rattle.cargo_toml_package.specs.Packages.{PackageMeaning}
 use Rattle.cargo_toml_package.specs.Templates.{TemplateMeaning}

@@ -1,11 +1,11 @@
 -- A manifest, once what its workspace gives is put in.
 use Rattle.std.specs.Prelude.{Option, Some, None, option_map}
-use Rattle.cargo_toml_dependencies.specs.Replacing.{replaced_target, replaced_targets}
+use Rattle.cargo_toml_package.specs.Replacing.{replaced_target, replaced_targets}
 use Rattle.cargo_toml_package.specs.Installing.{put_field, installed_package}
 use Rattle.cargo_toml_package.specs.Packages.{PackageMeaning}
 use Rattle.cargo_toml_package.specs.declared.inheriting.NewFields.{NewFields}
 use Rattle.cargo_toml_parts.specs.Reads.{map_meaning}
-use Rattle.cargo_toml_tables.specs.Lints.{lint_meaning}
+use Rattle.cargo_toml_parts.specs.Lints.{lint_meaning}
 use Rattle.cargo_toml_manifest.specs.Finding.{with_found}
 use Rattle.cargo_toml_manifest.specs.Inheriting.{own_tables}
 use Rattle.cargo_toml_manifest.specs.Manifests.{ManifestMeaning}

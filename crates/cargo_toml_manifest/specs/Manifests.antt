@@ -5,20 +5,20 @@ use Rattle.toml.specs.Data.{Data, Members, no_members, as_table}
 use Rattle.cargo_toml_parts.specs.declared.error.Error.{Error}
 use Rattle.cargo_toml_parts.specs.declared.inheritable.Inheritable.{Inheritable}
 use Rattle.cargo_toml_parts.specs.declared.inheritable.Inheritable.TheVariants.{Set, Inherited}
-use Rattle.cargo_toml_tables.specs.Badges.{BadgesMeaning, badges_meaning, badges_of}
-use Rattle.cargo_toml_dependencies.specs.Dependencies.{DependencyMeaning}
-use Rattle.cargo_toml_dependencies.specs.Dependencies.{dependency_meaning, dependency_of}
-use Rattle.cargo_toml_dependencies.specs.Details.{Detail, detail_of}
-use Rattle.cargo_toml_dependencies.specs.Features.{features_of, no_features}
+use Rattle.cargo_toml_parts.specs.Badges.{BadgesMeaning, badges_meaning, badges_of}
+use Rattle.cargo_toml_package.specs.Dependencies.{DependencyMeaning}
+use Rattle.cargo_toml_package.specs.Dependencies.{dependency_meaning, dependency_of}
+use Rattle.cargo_toml_package.specs.Details.{Detail, detail_of}
+use Rattle.cargo_toml_package.specs.Features.{features_of, no_features}
 use Rattle.cargo_toml_parts.specs.Inherits.{inheritable_map, inheritable_of, InheritableRefuses}
-use Rattle.cargo_toml_tables.specs.Lints.{LintMeaning, lint_meaning, lint_of}
-use Rattle.cargo_toml_tables.specs.Products.{ProductMeaning, product_meaning, product_of}
-use Rattle.cargo_toml_tables.specs.Profiles.{ProfilesMeaning, profiles_meaning}
-use Rattle.cargo_toml_tables.specs.Profiles.{profiles_of, ProfilesFaults}
+use Rattle.cargo_toml_parts.specs.Lints.{LintMeaning, lint_meaning, lint_of}
+use Rattle.cargo_toml_parts.specs.Products.{ProductMeaning, product_meaning, product_of}
+use Rattle.cargo_toml_parts.specs.Profiles.{ProfilesMeaning, profiles_meaning}
+use Rattle.cargo_toml_parts.specs.Profiles.{profiles_of, ProfilesFaults}
 use Rattle.cargo_toml_parts.specs.Reads.{◌>>=◌, array_of, map_of, map_meaning, optional_at}
 use Rattle.cargo_toml_parts.specs.Reads.{given_at, map_at, FaultAt, TableRefuses, WrongShape}
-use Rattle.cargo_toml_tables.specs.Settings.{Registries, everywhere, among}
-use Rattle.cargo_toml_dependencies.specs.Targets.{TargetMeaning, target_meaning, target_of}
+use Rattle.cargo_toml_parts.specs.Settings.{Registries, everywhere, among}
+use Rattle.cargo_toml_package.specs.Targets.{TargetMeaning, target_meaning, target_of}
 use Rattle.cargo_toml_parts.specs.Versions.{Parts}
 use Rattle.cargo_toml_manifest.specs.declared.manifest.Manifest.{Manifest}
 use Rattle.cargo_toml_parts.specs.Keys.{inherited_at}

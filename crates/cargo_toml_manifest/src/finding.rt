@@ -3,8 +3,8 @@
 ghost use Rattle.std.specs.Prelude.{◌≡◌, IfOk, IfErr, IsNone, unwrap_or};
 ghost use Rattle.std.specs.Option.{option_copied};
 ghost use Rattle.cargo_toml_parts.specs.InheritableValues.{value_of};
-ghost use Rattle.cargo_toml_tables.specs.Settings.{file_meaning};
-ghost use Rattle.cargo_toml_tables.specs.declared.settings.Edition.TheVariants.{E2015};
+ghost use Rattle.cargo_toml_parts.specs.Settings.{file_meaning};
+ghost use Rattle.cargo_toml_parts.specs.declared.settings.Edition.TheVariants.{E2015};
 ghost use Rattle.cargo_toml_discovery.specs.Answers.{Answers, answers_of, around_in, filled};
 ghost use Rattle.cargo_toml_discovery.specs.Discovering.{discovered, discovered_meaning};
 ghost use Rattle.cargo_toml_discovery.specs.Folders.{IsListed, RefusesBy};
@@ -22,8 +22,7 @@ use cargo_toml_discovery::{Discovered, Stated, discover};
 use cargo_toml_package::Package;
 use cargo_toml_package::inheriting::NewFields;
 use cargo_toml_package::sharing::NewParts;
-use cargo_toml_parts::{Error, Inheritable};
-use cargo_toml_tables::{Edition, OptionalFile};
+use cargo_toml_parts::{Edition, Error, Inheritable, OptionalFile};
 use std::alloc::{AllocError, Global};
 
 /// What completion puts into a manifest.

@@ -3,12 +3,12 @@
 ghost use Rattle.std.specs.{Prelude.◌≡◌, Prelude.option_map, Option.option_copied};
 ghost use Rattle.cargo_toml_parts.specs.Answers.{Gives};
 ghost use Rattle.cargo_toml_parts.specs.Reads.{map_meaning};
-ghost use Rattle.cargo_toml_dependencies.specs.Dependencies.{dependency_meaning};
-ghost use Rattle.cargo_toml_dependencies.specs.Inheriting.{inherited_target};
-ghost use Rattle.cargo_toml_dependencies.specs.Replacing.{replaced_target};
+ghost use Rattle.cargo_toml_package.specs.Dependencies.{dependency_meaning};
+ghost use Rattle.cargo_toml_package.specs.InheritedDependencies.{inherited_target};
+ghost use Rattle.cargo_toml_package.specs.Replacing.{replaced_target};
 ghost use Rattle.cargo_toml_package.specs.Packages.{held_package};
 ghost use Rattle.cargo_toml_package.specs.Templates.{template_meaning};
-ghost use Rattle.cargo_toml_tables.specs.Lints.{lint_meaning};
+ghost use Rattle.cargo_toml_parts.specs.Lints.{lint_meaning};
 ghost use Rattle.cargo_toml_package.specs.Sharing.{shared_of};
 ghost use Rattle.cargo_toml_manifest.specs.Inheriting.{inherited_if_there, inherited_from};
 ghost use Rattle.cargo_toml_manifest.specs.Inheriting.{inherited_manifest, own_tables};
@@ -16,15 +16,13 @@ ghost use Rattle.cargo_toml_manifest.specs.Installing.{installed, installed_if_t
 ghost use Rattle.cargo_toml_manifest.specs.Manifests.{held};
 
 use crate::manifest::Manifest;
-use cargo_toml_dependencies::DepsSet;
-use cargo_toml_dependencies::inheriting::{
-    NewTarget, replace, replace_targets, replacements, target_replacements,
-};
 use cargo_toml_package::inheriting::{NewFields, install, new_fields};
 use cargo_toml_package::sharing::{NewParts, new_lints, put_lints};
-use cargo_toml_package::{Package, PackageTemplate, Workspace};
-use cargo_toml_parts::Error;
-use cargo_toml_tables::LintGroups;
+use cargo_toml_package::workspace_dependencies::{
+    NewTarget, replace, replace_targets, replacements, target_replacements,
+};
+use cargo_toml_package::{DepsSet, Package, PackageTemplate, Workspace};
+use cargo_toml_parts::{Error, LintGroups};
 use std::alloc::Global;
 
 // What the inherited dependencies of the manifest's own tables become.

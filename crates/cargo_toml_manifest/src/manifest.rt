@@ -15,16 +15,18 @@ ghost use Rattle.cargo_toml_manifest.specs.Texts.{IsTree, IsTreeOfBytes};
 mod questions;
 
 use crate::heap::keep_heap;
-use cargo_toml_dependencies::feature::take_features;
-use cargo_toml_dependencies::{DepsSet, FeatureDetails, FeatureSet, PatchSet, TargetDepsSet};
-use cargo_toml_package::{Package, Workspace};
+use cargo_toml_package::feature::take_features;
+use cargo_toml_package::{
+    DepsSet, FeatureDetails, FeatureSet, Package, PatchSet, TargetDepsSet, Workspace,
+};
 use cargo_toml_parts::copying::Copying;
 use cargo_toml_parts::floats::table_has_no_float;
 use cargo_toml_parts::read::{Read, into_table};
 use cargo_toml_parts::reading::{Reading, put_fault};
 use cargo_toml_parts::value::floats_unsupported;
-use cargo_toml_parts::{Error, FromValue, Inheritable};
-use cargo_toml_tables::{Badges, LintGroups, Product, Profiles, Publish};
+use cargo_toml_parts::{
+    Badges, Error, FromValue, Inheritable, LintGroups, Product, Profiles, Publish,
+};
 use std::alloc::{AllocError, Global};
 use std::collections::BTreeMap;
 use std::str;
@@ -147,44 +149,27 @@ impl<Metadata: Clone> Clone for Manifest<Metadata> {
     fn clone(&self) -> Result<Manifest<Metadata>, AllocError> {
         let alloc = *self.bin.allocator();
         let mut copying = Copying::new();
-        let package = copying.of(&self.package, None);
-        let workspace = copying.of(&self.workspace, None);
-        let dependencies = copying.of(&self.dependencies, BTreeMap::new(alloc));
-        let dev_dependencies = copying.of(&self.dev_dependencies, BTreeMap::new(alloc));
-        let build_dependencies = copying.of(&self.build_dependencies, BTreeMap::new(alloc));
-        let target = copying.of(&self.target, BTreeMap::new(alloc));
-        let features = copying.of(&self.features, BTreeMap::new(alloc));
-        let replace = copying.of(&self.replace, BTreeMap::new(alloc));
-        let patch = copying.of(&self.patch, BTreeMap::new(alloc));
-        let lib = copying.of(&self.lib, None);
-        let profile = copying.of(&self.profile, Profiles::default(alloc));
-        let badges = copying.of(&self.badges, Badges::default());
-        let bin = copying.of(&self.bin, Vec::new(alloc));
-        let bench = copying.of(&self.bench, Vec::new(alloc));
-        let test = copying.of(&self.test, Vec::new(alloc));
-        let example = copying.of(&self.example, Vec::new(alloc));
-        let lints = copying.of(&self.lints, Inheritable::Inherited);
-        let feature_details = copying.of(&self.feature_details, BTreeMap::new(alloc));
-        copying.finish(Manifest {
-            package,
-            workspace,
-            dependencies,
-            dev_dependencies,
-            build_dependencies,
-            target,
-            features,
-            replace,
-            patch,
-            lib,
-            profile,
-            badges,
-            bin,
-            bench,
-            test,
-            example,
-            lints,
-            feature_details,
-        })
+        let copy = Manifest {
+            package: copying.of(&self.package, None),
+            workspace: copying.of(&self.workspace, None),
+            dependencies: copying.of(&self.dependencies, BTreeMap::new(alloc)),
+            dev_dependencies: copying.of(&self.dev_dependencies, BTreeMap::new(alloc)),
+            build_dependencies: copying.of(&self.build_dependencies, BTreeMap::new(alloc)),
+            target: copying.of(&self.target, BTreeMap::new(alloc)),
+            features: copying.of(&self.features, BTreeMap::new(alloc)),
+            replace: copying.of(&self.replace, BTreeMap::new(alloc)),
+            patch: copying.of(&self.patch, BTreeMap::new(alloc)),
+            lib: copying.of(&self.lib, None),
+            profile: copying.of(&self.profile, Profiles::default(alloc)),
+            badges: copying.of(&self.badges, Badges::default()),
+            bin: copying.of(&self.bin, Vec::new(alloc)),
+            bench: copying.of(&self.bench, Vec::new(alloc)),
+            test: copying.of(&self.test, Vec::new(alloc)),
+            example: copying.of(&self.example, Vec::new(alloc)),
+            lints: copying.of(&self.lints, Inheritable::Inherited),
+            feature_details: copying.of(&self.feature_details, BTreeMap::new(alloc)),
+        };
+        copying.finish(copy)
     }
 }
 
@@ -307,10 +292,6 @@ impl<Metadata: FromValue> Read for Manifest<Metadata> {
     ghost reads = { manifest_reads Metadata.from_tree };
 
     ghost refuses = { ManifestRefuses Metadata.from_tree Metadata.from_refuses };
-
-    fn read(alloc: Global, value: &Value) -> Result<Manifest<Metadata>, Error> {
-        Manifest::read_owned(alloc, value.clone()?)
-    }
 
     fn read_owned(alloc: Global, value: Value) -> Result<Manifest<Metadata>, Error> {
         read_table(alloc, into_table(value)?)

@@ -5,7 +5,7 @@ use Rattle.cargo_toml_parts.specs.declared.inheritable.Inheritable.{Inheritable}
 use Rattle.cargo_toml_parts.specs.declared.inheritable.Inheritable.TheVariants.{Set, Inherited}
 use Rattle.cargo_toml_parts.specs.InheritableValues.{value_of}
 use Rattle.cargo_toml_parts.specs.Inherits.{inheritable_map}
-use Rattle.cargo_toml_tables.specs.Settings.{File}
+use Rattle.cargo_toml_parts.specs.Settings.{File}
 use Rattle.cargo_toml_package.specs.Inheriting.{IsFilled, any_field_left, filled_field, filled_if_there, inherited_package, field_is_left, is_left_there, with_template, with_template_if_there}
 use Rattle.cargo_toml_package.specs.PackageAnswers.{is_known}
 use Rattle.cargo_toml_package.specs.Packages.{PackageMeaning, held_package}

@@ -8,7 +8,7 @@ use Rattle.cargo_toml_parts.specs.FaultValues.{Fault, workspace_integrity}
 use Rattle.cargo_toml_parts.specs.declared.inheritable.Inheritable.{Inheritable}
 use Rattle.cargo_toml_parts.specs.declared.inheritable.Inheritable.TheVariants.{Set, Inherited}
 use Rattle.cargo_toml_parts.specs.InheritableValues.{is_set, value_of}
-use Rattle.cargo_toml_tables.specs.Settings.{File, flag, path}
+use Rattle.cargo_toml_parts.specs.Settings.{File, flag, path}
 use Rattle.cargo_toml_package.specs.PackageAnswers.{is_known}
 use Rattle.cargo_toml_package.specs.Packages.{PackageMeaning}
 use Rattle.cargo_toml_package.specs.Templates.{TemplateMeaning}

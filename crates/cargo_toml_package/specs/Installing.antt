@@ -3,7 +3,7 @@ use Rattle.std.specs.Prelude.{◌≡◌, map, Bool, false, Option, Some, None, o
 use Rattle.semver.specs.Identifiers.{parts_of}
 use Rattle.cargo_toml_parts.specs.declared.inheritable.Inheritable.{Inheritable}
 use Rattle.cargo_toml_parts.specs.declared.inheritable.Inheritable.TheVariants.{Set}
-use Rattle.cargo_toml_tables.specs.Settings.{file_meaning, publish_meaning}
+use Rattle.cargo_toml_parts.specs.Settings.{file_meaning, publish_meaning}
 use Rattle.cargo_toml_package.specs.Packages.{PackageMeaning}
 use Rattle.cargo_toml_package.specs.declared.inheriting.NewFields.{NewFields}
 

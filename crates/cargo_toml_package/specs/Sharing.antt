@@ -3,9 +3,9 @@ use Rattle.std.specs.Prelude.{ℕ, List, codes, Option, Some, None, option_map, 
 use Rattle.cargo_toml_parts.specs.FaultValues.{Fault, workspace_integrity}
 use Rattle.cargo_toml_parts.specs.declared.inheritable.Inheritable.{Inheritable}
 use Rattle.cargo_toml_parts.specs.declared.inheritable.Inheritable.TheVariants.{Set, Inherited}
-use Rattle.cargo_toml_dependencies.specs.Inheriting.{Entries}
+use Rattle.cargo_toml_package.specs.InheritedDependencies.{Entries}
 use Rattle.cargo_toml_package.specs.Templates.{TemplateMeaning}
-use Rattle.cargo_toml_tables.specs.Lints.{LintMeaning}
+use Rattle.cargo_toml_parts.specs.Lints.{LintMeaning}
 use Rattle.cargo_toml_package.specs.Workspaces.{WorkspaceMeaning, workspace_meaning}
 use Rattle.cargo_toml_package.specs.declared.workspace.Workspace.{Workspace}
 

@@ -3,14 +3,14 @@ use Rattle.std.specs.Prelude.{◌⊎◌, ℕ, List, map, Option, Some}
 use Rattle.std.specs.Prelude.{option_map, option_and_then, string_bytes}
 use Rattle.toml.specs.Data.{Data, Members, as_table}
 use Rattle.cargo_toml_parts.specs.declared.error.Error.{Error}
-use Rattle.cargo_toml_tables.specs.declared.settings.Resolver.{Resolver}
-use Rattle.cargo_toml_dependencies.specs.Dependencies.{DependencyMeaning}
-use Rattle.cargo_toml_dependencies.specs.Dependencies.{dependency_meaning, dependency_of}
-use Rattle.cargo_toml_tables.specs.Lints.{LintMeaning, lint_meaning, lint_of}
+use Rattle.cargo_toml_parts.specs.declared.settings.Resolver.{Resolver}
+use Rattle.cargo_toml_package.specs.Dependencies.{DependencyMeaning}
+use Rattle.cargo_toml_package.specs.Dependencies.{dependency_meaning, dependency_of}
+use Rattle.cargo_toml_parts.specs.Lints.{LintMeaning, lint_meaning, lint_of}
 use Rattle.cargo_toml_parts.specs.Reads.{◌>>=◌, list_of, map_of, map_meaning, optional_at}
 use Rattle.cargo_toml_parts.specs.Reads.{list_at, map_at, FaultAt, TableRefuses, WrongShape}
 use Rattle.cargo_toml_package.specs.declared.workspace.Workspace.{Workspace}
-use Rattle.cargo_toml_tables.specs.Settings.{resolver_reads}
+use Rattle.cargo_toml_parts.specs.Settings.{resolver_reads}
 use Rattle.cargo_toml_package.specs.Templates.{TemplateMeaning, template_meaning, template_reads}
 
 -- what a workspace holds, whose metadata are M

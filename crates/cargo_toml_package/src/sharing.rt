@@ -6,14 +6,13 @@ ghost use Rattle.cargo_toml_parts.specs.Answers.{Gives};
 ghost use Rattle.cargo_toml_parts.specs.Inherits.{inheritable_map};
 ghost use Rattle.cargo_toml_parts.specs.Reads.{map_meaning};
 ghost use Rattle.cargo_toml_package.specs.Installing.{put_field};
-ghost use Rattle.cargo_toml_tables.specs.Lints.{lint_meaning};
+ghost use Rattle.cargo_toml_parts.specs.Lints.{lint_meaning};
 ghost use Rattle.cargo_toml_package.specs.Sharing.{inherited_lints};
 
 use crate::inheriting::NewFields;
-use cargo_toml_dependencies::inheriting::NewTarget;
-use cargo_toml_parts::{Error, Inheritable};
-use cargo_toml_tables::LintGroups;
-use cargo_toml_tables::lint::duplicate_lints;
+use crate::workspace_dependencies::NewTarget;
+use cargo_toml_parts::lint::duplicate_lints;
+use cargo_toml_parts::{Error, Inheritable, LintGroups};
 use std::alloc::Global;
 
 /// What a manifest takes from its workspace, in place of what it left to it.

@@ -7,13 +7,11 @@ ghost use Rattle.cargo_toml_package.specs.Workspaces.{WorkspaceMeaning, workspac
 ghost use Rattle.cargo_toml_package.specs.Workspaces.{workspace_of, WorkspaceFaults};
 ghost use Rattle.cargo_toml_package.specs.Workspaces.{workspace_reads, WorkspaceRefuses};
 
-use crate::PackageTemplate;
-use cargo_toml_dependencies::DepsSet;
+use crate::{DepsSet, PackageTemplate};
 use cargo_toml_parts::copying::Copying;
 use cargo_toml_parts::read::{Read, into_table};
 use cargo_toml_parts::reading::{Reading, ended};
-use cargo_toml_parts::{Error, FromValue};
-use cargo_toml_tables::{LintGroups, Resolver};
+use cargo_toml_parts::{Error, FromValue, LintGroups, Resolver};
 use std::alloc::{AllocError, Global};
 use std::collections::BTreeMap;
 use toml::{Table, Value};
@@ -139,10 +137,6 @@ impl<Metadata: FromValue> Read for Workspace<Metadata> {
     ghost reads = { workspace_reads Metadata.from_tree };
 
     ghost refuses = { WorkspaceRefuses Metadata.from_tree Metadata.from_refuses };
-
-    fn read(alloc: Global, value: &Value) -> Result<Workspace<Metadata>, Error> {
-        Workspace::read_owned(alloc, value.clone()?)
-    }
 
     #[tactic(auto, unfolding(crate::specs::Workspaces::workspace_reads, crate::specs::Workspaces::WorkspaceRefuses))]
     fn read_owned(alloc: Global, value: Value) -> Result<Workspace<Metadata>, Error> {

@@ -1,8 +1,10 @@
 -- Keys that are read into places, one after the other, each taken out of the table.
-use Rattle.std.proofs.Common.{◌≡◌, ◌⊎◌, ◌∷◌, ◌++◌, [], ℕ, false, List, Option, Some, None, option_and_then, option_map, inl, inr, refl, subst, ap, ◌∙◌}
+use Rattle.std.proofs.Common.{◌≡◌, ◌⊎◌, ◌∷◌, ◌++◌, [], ℕ, false, List, Option, Some, None, option_and_then, option_map, inl, inr, refl, subst, ap, ◌∙◌, map, string_bytes}
 use Rattle.toml.specs.Data.{Data, Members, no_members, member, get_member}
+use Rattle.toml.specs.View.{view, members_view}
+use Rattle.toml.proofs.Views.{Entry}
 use Rattle.cargo_toml_parts.specs.declared.error.Error.{Error}
-use Rattle.cargo_toml_parts.specs.Reads.{Faulty, given_of, is_among, optional_of, required_of}
+use Rattle.cargo_toml_parts.specs.Reads.{Faulty, given_of, is_among, optional_of, others_read, required_of}
 use Rattle.cargo_toml_parts.specs.Readings.{Goes, Loses, RequiredFault, kept_of, without}
 use Rattle.cargo_toml_parts.proofs.Chain.{then, then_told, last, done, retold}
 use Rattle.cargo_toml_parts.proofs.Taken.{stays, without_both}
@@ -154,3 +156,12 @@ means_none f g (Some x) is = absurd cc
 -- what a place holds is what its option holds
 pub held_in : {A : Type 0} (x y : A) → Some x ≡ Some y → y ≡ x
 held_in x y is = cc
+
+-- what is left of a table once all keys that are known were taken out of it: the whole rest, which is known without reading
+pub all_left : (es : List Entry) → others_read [] Some (members_view es) ≡ Some (map (λ e. (string_bytes e.0, view e.1)) es)
+all_left [] = refl
+all_left (e ∷ es) = rw (all_left es) refl
+
+pub known : {M : Type 0} (a : Option Error) (o : Option M) (m : M) (blames : Error → Type 0) → o ≡ Some m → Goes a a o m blames
+known None o m blames h = (refl, h)
+known (Some e) o m blames h = inl refl

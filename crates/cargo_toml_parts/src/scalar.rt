@@ -28,8 +28,8 @@ impl<T: Scalar> Read for T {
 
     ghost takes_memory = { ⊥ };
 
-    fn read(_alloc: Global, value: &Value) -> Result<T, Error> {
-        match T::said(value) {
+    fn read_owned(_alloc: Global, value: Value) -> Result<T, Error> {
+        match T::said(&value) {
             Some(x) => Ok(x),
             None => Err(wrong_shape()),
         }

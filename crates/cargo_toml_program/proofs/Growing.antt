@@ -1,16 +1,7 @@
 -- A text that grows by a piece for each element, and what is told of each.
-use Rattle.std.proofs.Common.{◌≡◌, ◌++◌, ◌∙◌, IfSome, List, [], ◌∷◌, None, Option, Some}
-use Rattle.std.proofs.Common.{ap, append-nil, append_assoc, inl, inr, is_some, refl, subst, sym, true}
-use Rattle.std.proofs.lemmas.Bool.{false≢true, or_cases}
-use Rattle.std.proofs.lemmas.Map.Text.{is_eq-slice_cmp}
-use Rattle.std.proofs.lemmas.Slice.Eq.{bytes_eq-Decides}
-use Rattle.std.specs.Borrow.{Bor}
-use Rattle.std.specs.BTreeMap.{is_at}
-use Rattle.std.specs.BTreeSet.{BTreeSet}
-use Rattle.std.specs.Cmp.Lexicographic.{slice_cmp}
-use Rattle.std.specs.HashMap.{HashMap}
-use Rattle.std.specs.List.{AllByRecursion, flat_map, list_any}
-use Rattle.std.specs.Ordering.{nat_cmp}
+use Rattle.std.proofs.Common.{◌≡◌, ◌++◌, ◌∙◌, IfSome, List, [], ◌∷◌, None, Option, Some, ap, append-nil, append_assoc, inl, inr, is_some, refl, subst, sym, true}
+use Rattle.std.proofs.{lemmas.Bool.false≢true, lemmas.Bool.or_cases, lemmas.Map.Text.is_eq-slice_cmp, lemmas.Slice.Eq.bytes_eq-Decides}
+use Rattle.std.specs.{Borrow.Bor, BTreeMap.is_at, BTreeSet.BTreeSet, Cmp.Lexicographic.slice_cmp, HashMap.HashMap, List.AllByRecursion, List.flat_map, List.list_any, Ordering.nat_cmp}
 use Rattle.cargo_toml_features.specs.Views.{set_has, value_at}
 use Rattle.cargo_toml_graph.specs.Action.{Text}
 use Rattle.cargo_toml_program.specs.Lines.{AddsLines, TextsAscend, line_at}

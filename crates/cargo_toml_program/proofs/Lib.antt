@@ -1,3 +1,2 @@
 mod Growing
 mod Products
-mod Unfiltered

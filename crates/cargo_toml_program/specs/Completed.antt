@@ -1,6 +1,5 @@
 -- The lines that are printed of a completed manifest.
-use Rattle.std.specs.Prelude.{◌++◌, [], ◌∷◌, Option, Some, None, codes, option_map}
-use Rattle.std.specs.Prelude.{unwrap_or}
+use Rattle.std.specs.Prelude.{◌++◌, [], ◌∷◌, Option, Some, None, codes, option_map, unwrap_or}
 use Rattle.std.specs.List.{flat_map}
 use Rattle.cargo_toml_graph.specs.Action.{Text}
 use Rattle.cargo_toml_manifest.specs.Manifests.{ManifestMeaning}
@@ -8,9 +7,9 @@ use Rattle.cargo_toml_package.specs.Packages.{PackageMeaning}
 use Rattle.cargo_toml_parts.specs.declared.inheritable.Inheritable.{Inheritable}
 use Rattle.cargo_toml_parts.specs.declared.inheritable.Inheritable.TheVariants.{Set, Inherited}
 use Rattle.cargo_toml_program.specs.Lines.{between_commas}
-use Rattle.cargo_toml_tables.specs.SettingAnswers.{shown}
-use Rattle.cargo_toml_tables.specs.Settings.{File}
-use Rattle.cargo_toml_tables.specs.Products.{ProductMeaning}
+use Rattle.cargo_toml_parts.specs.SettingAnswers.{shown}
+use Rattle.cargo_toml_parts.specs.Settings.{File}
+use Rattle.cargo_toml_parts.specs.Products.{ProductMeaning}
 
 -- what follows in a line, or "-" where it isn't known
 abbrev pub cell_text : Option Text → Text

@@ -1,17 +1,11 @@
 -- The lines that are printed of resolved features.
-use Rattle.std.specs.Prelude.{◌≡◌, ◌++◌, Bool, true, false, IfSome, List, [], ◌∷◌}
-use Rattle.std.specs.Prelude.{codes, is_some}
-use Rattle.std.specs.Borrow.{Bor}
-use Rattle.std.specs.BTreeMap.{BTreeMap}
-use Rattle.std.specs.BTreeMap as tree
-use Rattle.std.specs.BTreeSet.{BTreeSet}
-use Rattle.std.specs.BTreeSet as sorted
-use Rattle.std.specs.Cmp.Lexicographic.{slice_cmp}
-use Rattle.std.specs.HashMap.{HashMap}
+use Rattle.std.specs.Prelude.{◌≡◌, ◌++◌, Bool, true, false, IfSome, List, [], ◌∷◌, codes, is_some}
 use Rattle.std.specs.List.{AllByRecursion, flat_map, join_by}
-use Rattle.std.specs.Option.{option_map_or}
-use Rattle.std.specs.Ordering.{nat_cmp}
-use Rattle.std.specs.declared.cmp.Ordering.{Ordering}
+use Rattle.std.specs.{Borrow.Bor, BTreeMap.BTreeMap, BTreeSet.BTreeSet, Cmp.Lexicographic.slice_cmp}
+use Rattle.std.specs.{HashMap.HashMap, Option.option_map_or, Ordering.nat_cmp}
+use Rattle.std.specs.{declared.cmp.Ordering.Ordering}
+use Rattle.std.specs.BTreeMap as tree
+use Rattle.std.specs.BTreeSet as sorted
 use Rattle.cargo_toml_features.specs.declared.features.DepAction.{DepAction}
 use Rattle.cargo_toml_features.specs.declared.features.Feature.{Feature}
 use Rattle.cargo_toml_features.specs.declared.features.Features.{Features}

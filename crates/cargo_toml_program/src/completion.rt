@@ -1,25 +1,21 @@
 //! What the program writes of a completed manifest.
 ghost use Rattle.std.specs.Prelude.{◌≡◌, ◌++◌, IfErr, IfOk, OnOk, map, option_map, string_bytes};
-ghost use Rattle.std.specs.List.{flat_map};
-ghost use Rattle.std.specs.Io.KnownBytes.{Appends};
-ghost use Rattle.std.specs.Option.{option_copied};
-ghost use Rattle.cargo_toml_program.specs.Completed.{cell_text, completion_text};
-ghost use Rattle.cargo_toml_program.specs.Completed.{library_text, package_text};
-ghost use Rattle.cargo_toml_program.specs.Completed.{place_text, product_line};
+ghost use Rattle.std.specs.{List.flat_map, Io.KnownBytes.Appends, Option.option_copied};
+ghost use Rattle.cargo_toml_program.specs.Completed.{cell_text, completion_text, library_text};
+ghost use Rattle.cargo_toml_program.specs.Completed.{package_text, place_text, product_line};
 ghost use Rattle.cargo_toml_program.specs.Completed.{readme_of, required_text};
 ghost use Rattle.cargo_toml_manifest.specs.Manifests.{held};
 ghost use Rattle.cargo_toml_package.specs.Packages.{held_package};
 ghost use Rattle.cargo_toml_parts.specs.Inherits.{inheritable_map};
 ghost use Rattle.cargo_toml_program.specs.Lines.{between_commas};
 ghost use Rattle.cargo_toml_program.specs.Printing.{IsOfOutput};
-ghost use Rattle.cargo_toml_tables.specs.SettingAnswers.{shown};
-ghost use Rattle.cargo_toml_tables.specs.Settings.{file_meaning};
-ghost use Rattle.cargo_toml_tables.specs.Products.{product_meaning};
+ghost use Rattle.cargo_toml_parts.specs.SettingAnswers.{shown};
+ghost use Rattle.cargo_toml_parts.specs.Settings.{file_meaning};
+ghost use Rattle.cargo_toml_parts.specs.Products.{product_meaning};
 
 use cargo_toml_manifest::Manifest;
 use cargo_toml_package::Package;
-use cargo_toml_parts::{Error, Inheritable};
-use cargo_toml_tables::{OptionalFile, Product};
+use cargo_toml_parts::{Error, Inheritable, OptionalFile, Product};
 use std::alloc::{AllocError, Global};
 use std::io::Write;
 

@@ -3,7 +3,8 @@ ghost use Rattle.std.specs.Prelude.{◌≡◌, ◌++◌, IfErr, IfOk, IfSome, On
 ghost use Rattle.cargo_toml_features.specs.Views.{value_at};
 ghost use Rattle.cargo_toml_graph.specs.Action.{Text};
 ghost use Rattle.cargo_toml_parts.specs.declared.error.Error.{Memory};
-ghost use Rattle.cargo_toml_program.specs.Lines.{AddsLines, AreAllLines, FeaturesAscend, AskedAscend};
+ghost use Rattle.cargo_toml_program.specs.Lines.{AddsLines, AreAllLines, AskedAscend};
+ghost use Rattle.cargo_toml_program.specs.Lines.{FeaturesAscend};
 ghost use Rattle.cargo_toml_program.specs.Lines.{FeatureAscends, KeysAscend, TextsAscend};
 ghost use Rattle.cargo_toml_program.specs.Lines.{action_text, between_commas, detail_text};
 ghost use Rattle.cargo_toml_program.specs.Lines.{feature_line, head_text, line_at, links_text};
@@ -30,99 +31,82 @@ pub fn feature_lines<S: BuildHasher>(
     ensures refused { IfErr result (λ e. e ≡ Memory) }
 {
     let mut text = String::new(alloc);
-    write_features(alloc, &mut text, &features.features)?;
-    write_hidden(alloc, &mut text, &features.hidden_features)?;
+    write_all(alloc, &mut text, &features.features)?;
+    write_all(alloc, &mut text, &features.hidden_features)?;
     Ok(text)
 }
 
-fn write_features<S: BuildHasher>(
+// What a map holds under names, each with a line of its own.
+trait Shown {
+    // its line under a name
+    ghost line: { Text → Self → Text };
+
+    // what it lists stands in byte order, each once
+    ghost ascends: { Self → Type 0 };
+
+    fn show(&self, text: &mut String, name: &str) -> Result<(), AllocError>
+        ensures lines { OnOk result (string_bytes text.new ≡ string_bytes text.old
+            ++ line name.now self.now) }
+        ensures in_order { OnOk result (ascends self.now) };
+}
+
+impl Shown for Feature<'_> {
+    ghost line = { λ _. feature_line };
+
+    ghost ascends = { FeatureAscends };
+
+    fn show(&self, text: &mut String, _name: &str) -> Result<(), AllocError> {
+        write_head(text, self)?;
+        write_links(text, self)?;
+        write_detail(text, self)?;
+        text.push_str("\n")
+    }
+}
+
+impl Shown for BTreeSet<&str> {
+    ghost line = { redirect_line };
+
+    ghost ascends = { TextsAscend };
+
+    fn show(&self, text: &mut String, name: &str) -> Result<(), AllocError> {
+        text.push_str("hidden ")?;
+        text.push_str(name)?;
+        write_names(text, " | ", self)?;
+        text.push_str("\n")
+    }
+}
+
+// The lines of all that a map holds.
+fn write_all<T: Shown, S: BuildHasher>(
     alloc: Global,
     text: &mut String,
-    features: &HashMap<&str, Feature<'_>, S>,
+    held: &HashMap<&str, T, S>,
 ) -> Result<(), AllocError>
-    ensures lines { OnOk result (AddsLines (λ _. feature_line) features.now
+    ensures lines { OnOk result (AddsLines T.line held.now
         (string_bytes text.old) (string_bytes text.new)) }
-    ensures in_order { OnOk result ((f : Text) → IfSome (value_at features.now f) FeatureAscends) }
+    ensures in_order { OnOk result ((f : Text) → IfSome (value_at held.now f) T.ascends) }
 {
-    let names = keys_in_order(alloc, features)?;
+    let names = keys_in_order(alloc, held)?;
     for name in &names {
-        write_feature_of(text, features, *name)?;
+        write_one(text, held, *name)?;
     }
     Ok(())
 }
 
-// The line of the feature of this name, if there is one.
-fn write_feature_of<S: BuildHasher>(
+// The line of what the map holds under this name, if anything.
+fn write_one<T: Shown, S: BuildHasher>(
     text: &mut String,
-    features: &HashMap<&str, Feature<'_>, S>,
+    held: &HashMap<&str, T, S>,
     name: &str,
 ) -> Result<(), AllocError>
     ensures lines { OnOk result (string_bytes text.new ≡ string_bytes text.old
-        ++ line_at (λ _. feature_line) features.now name.now) }
-    ensures in_order { OnOk result (IfSome (value_at features.now name.now) FeatureAscends) }
+        ++ line_at T.line held.now name.now) }
+    ensures in_order { OnOk result (IfSome (value_at held.now name.now) T.ascends) }
 {
-    match features.get(name) {
-        Some(feature) => write_feature(text, feature),
+    match held.get(name) {
+        Some(shown) => shown.show(text, name),
         None => Ok(()),
     }
-}
-
-fn write_hidden<S: BuildHasher>(
-    alloc: Global,
-    text: &mut String,
-    hidden: &HashMap<&str, BTreeSet<&str>, S>,
-) -> Result<(), AllocError>
-    ensures lines { OnOk result (AddsLines redirect_line hidden.now
-        (string_bytes text.old) (string_bytes text.new)) }
-    ensures in_order { OnOk result ((f : Text) → IfSome (value_at hidden.now f) TextsAscend) }
-{
-    let names = keys_in_order(alloc, hidden)?;
-    for name in &names {
-        write_redirect_of(text, hidden, *name)?;
-    }
-    Ok(())
-}
-
-// The line of the removed feature of this name, if there is one.
-fn write_redirect_of<S: BuildHasher>(
-    text: &mut String,
-    hidden: &HashMap<&str, BTreeSet<&str>, S>,
-    name: &str,
-) -> Result<(), AllocError>
-    ensures lines { OnOk result (string_bytes text.new ≡ string_bytes text.old
-        ++ line_at redirect_line hidden.now name.now) }
-    ensures in_order { OnOk result (IfSome (value_at hidden.now name.now) TextsAscend) }
-{
-    match hidden.get(name) {
-        Some(stands_for) => write_redirect(text, name, stands_for),
-        None => Ok(()),
-    }
-}
-
-fn write_redirect(
-    text: &mut String,
-    name: &str,
-    stands_for: &BTreeSet<&str>,
-) -> Result<(), AllocError>
-    ensures lines { OnOk result (string_bytes text.new ≡ string_bytes text.old
-        ++ redirect_line name.now stands_for.now) }
-    ensures in_order { OnOk result (TextsAscend stands_for.now) }
-{
-    text.push_str("hidden ")?;
-    text.push_str(name)?;
-    write_names(text, " | ", stands_for)?;
-    text.push_str("\n")
-}
-
-fn write_feature(text: &mut String, feature: &Feature<'_>) -> Result<(), AllocError>
-    ensures lines { OnOk result (string_bytes text.new ≡ string_bytes text.old
-        ++ feature_line feature.now) }
-    ensures in_order { OnOk result (FeatureAscends feature.now) }
-{
-    write_head(text, feature)?;
-    write_links(text, feature)?;
-    write_detail(text, feature)?;
-    text.push_str("\n")
 }
 
 // The name, and whether the manifest lists the feature.

@@ -1,9 +1,7 @@
 //! What the program writes of a manifest in a file, completed from the files around it.
 ghost use Rattle.std.specs.Prelude.{◌⊎◌, IfErr, IfOk, IsSome, OnOk, string_bytes};
-ghost use Rattle.std.specs.Io.KnownBytes.{Appends, Keeps};
-ghost use Rattle.std.specs.Path.{path_parent};
-ghost use Rattle.cargo_toml_program.specs.Printed.{IsOfCompleted};
-ghost use Rattle.cargo_toml_program.specs.Printed.{IsFileFault, IsSpelled};
+ghost use Rattle.std.specs.{Io.KnownBytes.Appends, Io.KnownBytes.Keeps, Path.path_parent};
+ghost use Rattle.cargo_toml_program.specs.Printed.{IsOfCompleted, IsFileFault, IsSpelled};
 ghost use Rattle.cargo_toml_graph.specs.Action.{Text};
 ghost use Rattle.cargo_toml_program.specs.Printing.{IsOfManifest, IsOfOutput};
 

@@ -1,6 +1,5 @@
 //! How a run of the program ends, and what it writes on standard error then.
-ghost use Rattle.std.specs.Fmt.{DisplaysOnOk};
-ghost use Rattle.std.specs.Prelude.{◌≡◌};
+ghost use Rattle.std.specs.{Fmt.DisplaysOnOk, Prelude.◌≡◌};
 ghost use Rattle.cargo_toml_parts.specs.OwnWords.{WritesSome};
 ghost use Rattle.cargo_toml_program.specs.Outcomes.{HasOutcomeWords, IsOfWords, outcome_of};
 ghost use Rattle.cargo_toml_program.specs.Outcomes.{exit_status, text_of_outcome};

@@ -1,49 +1,149 @@
--- What the graph of numbers leaves to features is what removal leaves.
-use Rattle.std.proofs.Common.{◌≡◌, ◌↔◌, ◌<◌, ◌⊎◌, ℕ, Bool, true, false, List, length, Option, Some, None, Bor, IsTrue, is_some, refl, sym, ap, subst, inl, inr, ◌∙◌, arith}
-use Rattle.std.proofs.lemmas.Bool.{cases_Bool, false≢true}
-use Rattle.std.specs.{HashMap.HashMap, List.slice_get, Option.IsSomeAnd, Option.option_and_then, Option.option_map_or}
-use Rattle.cargo_toml_graph.specs.{Action.Text, Action.Action, Action.IsJoin, Graph.Table, Graph.IsKept, Graph.IsResolved, Graph.IsEnabledBy, Graph.KeepsName, Graph.ReachesThrough, Graph.Says}
-use Rattle.cargo_toml_graph.specs.{Reach.Reaches, Reach.Reaches.edge, Reach.Reaches.through}
-use Rattle.cargo_toml_graph.proofs.Joins.{join_alike}
-use Rattle.cargo_toml_resolve.specs.{Numbers.IsPassed, Numbers.IsWanted, Numbers.PassesAny, Enabling.EnablesThrough, NumberedTables.HasNumber, NumberedTables.IsNaming, NumberedTables.IsNumbered}
-use Rattle.cargo_toml_resolve.specs.{KeptFeatures.IsKeptFeature, Holding.Holds, Holding.action_by}
-use Rattle.cargo_toml_features.specs.{Places.nth_text, declared.features.Feature.Feature, InOrder.AreInOrder, InOrder.AreTable, InOrder.feature_at, InOrder.names_of, Views.action_at, Views.set_has}
-use Rattle.cargo_toml_features.specs.Views.{resolution_of, value_at}
-use Rattle.cargo_toml_resolve.proofs.NumberedTables as numbered
-use Rattle.cargo_toml_resolve.proofs.InPlace.{name_in, stands_found, stands_in}
+-- What holds of a graph of numbers holds of the table that it stands for, and so do its features.
+use Rattle.std.proofs.Common.{◌≡◌, ◌⊎◌, ◌↔◌, ◌<◌, ℕ, Bool, true, false, List, length, IsTrue, Some, refl, sym, subst, arith, Option, None, Bor, is_some, ap, inl, inr, ◌∙◌}
+use Rattle.std.{proofs.lemmas.Bool.cases_Bool, proofs.lemmas.Bool.false≢true, specs.HashMap.HashMap, specs.Option.IsSomeAnd, specs.Option.option_map_or}
+use Rattle.cargo_toml_graph.specs.{Action.Text, Action.Action, Action.IsJoin, Admitted.is_below, Graph.Table, Graph.Edge, Graph.ReachesThrough, Graph.KeepsName, Graph.IsEnabledBy, Graph.Says, Graph.IsKept, Graph.IsResolved, Reach.Reaches}
+use Rattle.cargo_toml_graph.{specs.Reach.Gathers, specs.Reach.GathersLabel, specs.Reach.Reaches.edge, specs.Reach.Reaches.through, specs.Redirects.RedirectsTo, proofs.OneRemoval.target, proofs.Joins.join_alike}
+use Rattle.cargo_toml_resolve.specs.{Numbers.Leads, Numbers.IsWanted, Numbers.IsPassed, Numbers.IsUnder, Numbers.IsRedirect, Numbers.KeepsLabel, Numbers.PassesAny, NumberedTables.HasNumber, NumberedTables.IsNaming}
+use Rattle.cargo_toml_resolve.specs.{NumberedTables.IsNumbered, Enabling.EnablesThrough, Parts.deeds_of, Parts.place_action, Parts.place_deeds, Parts.place_enabler, Parts.place_names, KeptFeatures.IsKeptFeature, KeptFeatures.StandFor}
+use Rattle.cargo_toml_resolve.{specs.Holding.Holds, proofs.InPlace.actions_at, proofs.InPlace.names_at}
+use Rattle.cargo_toml_features.{specs.Places.nth_text, specs.declared.features.Feature.Feature, specs.Views.action_at, specs.Views.set_has, specs.Views.resolution_of, specs.Views.value_at, proofs.ByPlace.lower_place}
+
+module _ (t : Table) (Removed : Text → Type 0) (texts : List Text) (edges names : List (List ℕ)) (flags : List Bool)
+    (h : IsNumbered t Removed texts edges names flags) where
+  -- S is the set of the numbers whose texts are in T
+  module _ (S : ℕ → Type 0) (T : Text → Type 0) (same : (i : ℕ) → i < length edges → S i ↔ T (nth_text texts i)) where
+    to_texts : {i j : ℕ} → i < length edges → Reaches (Leads edges) S i j → (j < length edges) × Reaches (Edge t) T (nth_text texts i) (nth_text texts j)
+    to_texts {i} {j} below (edge e) = let d = (h.leads i j below).0 e in (d.0, edge d.1)
+    to_texts {i} {j} below (through {b} e s p) =
+        let d = (h.leads i b below).0 e in
+        let rest = to_texts d.0 p in
+        (rest.0, through d.1 ((same b d.0).0 s) rest.1)
+
+    to_numbers : {v w : Text} → Reaches (Edge t) T v w → (i j : ℕ) → i < length edges → j < length edges → nth_text texts i ≡ v → nth_text texts j ≡ w → Reaches (Leads edges) S i j
+    to_numbers {v} {w} (edge e) i j below below' at at' =
+        edge ((h.leads i j below).1 (below', subst (λ x. Edge t (nth_text texts i) x) (sym at') (subst (λ x. Edge t x w) (sym at) e)))
+    to_numbers (through {b} e s p) i j below below' at at' =
+        let k = (h.vertex b).0 e.target in
+        let first : Edge t (nth_text texts i) (nth_text texts k.0) = subst (λ x. Edge t (nth_text texts i) x) (sym k.2) (subst (λ x. Edge t x b) (sym at) e) in
+        through ((h.leads i k.0 below).1 (k.1, first)) ((same k.0 k.1).1 (subst T (sym k.2) s)) (to_numbers p k.0 j k.1 below' k.2 at')
+
+    -- a path of numbers is a path of texts
+    pub reaches_between : (i j : ℕ) → i < length edges → j < length edges → Reaches (Leads edges) S i j ↔ Reaches (Edge t) T (nth_text texts i) (nth_text texts j)
+    reaches_between i j below below' = (λ p. (to_texts below p).1, λ p. to_numbers p i j below below' refl refl)
+
+    -- a number's walk stays among vertices
+    pub reaches_inside : (i j : ℕ) → i < length edges → Reaches (Leads edges) S i j → j < length edges
+    reaches_inside i j below p = (to_texts below p).0
+
+    pub gathers_inside : (i b : ℕ) → i < length edges → Gathers (Leads edges) S i b → b < length edges
+    gathers_inside i b below p = grind (arith, reaches_inside)
+
+    gathers_to : (i b : ℕ) → i < length edges → Gathers (Leads edges) S i b → Gathers (Edge t) T (nth_text texts i) (nth_text texts b)
+    gathers_to i b below p = grind (arith, to_texts)
+
+    gathers_from : (i : ℕ) (v : Text) → i < length edges → Gathers (Edge t) T (nth_text texts i) v → HasNumber texts (length edges) (Gathers (Leads edges) S i) v
+    gathers_from i v below p = grind (arith, target, to_numbers)
+
+    -- a vertex gathers the labels of what it gathers as a number
+    pub gathers_each : {X : Type 0} (Has : Text → X → Type 0) (i : ℕ) (x : X) → i < length edges
+        → GathersLabel (Edge t) T Has (nth_text texts i) x ↔ GathersLabel (Leads edges) S (λ b y. Has (nth_text texts b) y) i x
+    gathers_each Has i x below = grind (arith, gathers_from, gathers_to)
+
+    pub gathers_label : (i : ℕ) (x : Text) → i < length edges → ((k : ℕ) → Gathers (Leads edges) S i k → IsNaming edges flags k)
+        → GathersLabel (Edge t) T (λ b y. IsTrue (t.names b y)) (nth_text texts i) x ↔ HasNumber texts (length texts) (GathersLabel (Leads edges) S (Leads names) i) x
+    gathers_label i x below asked = (
+      λ l. grind (arith, gathers_from i l.0 below l.1),
+      λ n.
+          let b = n.3.0 in
+          (nth_text texts b, gathers_to i b below n.3.1, (h.labels b x (gathers_inside i b below n.3.1) (asked b n.3.1)).1 (n.0, n.1, n.2, n.3.2)),
+    )
+
+  pub vertex_flag : (i : ℕ) → i < length edges → IsWanted flags true i ↔ Removed (nth_text texts i)
+  vertex_flag i below = h.flagged i (let fits = h.count in omega arith)
+
+  pub reaches_text : (i j : ℕ) → i < length edges → j < length edges
+      → Reaches (Leads edges) (IsWanted flags true) i j ↔ ReachesThrough t Removed (nth_text texts i) (nth_text texts j)
+  reaches_text i j below below' = reaches_between (IsWanted flags true) Removed vertex_flag i j below below'
+
+  -- a number whose flag doesn't stand is the text of nothing removed
+  pub unflagged : (j : ℕ) → j < length texts → IsWanted flags false j ↔ (¬ Removed (nth_text texts j))
+  unflagged j below = grind (arith, cases_Bool)
+
+  -- what one of these gathers is asked for its names too
+  all_asked : (i : ℕ) → IsNaming edges flags i → (k : ℕ) → Gathers (Leads edges) (IsWanted flags true) i k → IsNaming edges flags k
+  all_asked i asked k p = grind arith
+
+  pub keeps_name : (i : ℕ) (x : Text) → i < length edges → IsNaming edges flags i → KeepsName t Removed (nth_text texts i) x ↔ HasNumber texts (length texts) (KeepsLabel edges flags names i) x
+  keeps_name i x below asked = (
+    λ n.
+        let l = (gathers_label (IsWanted flags true) Removed vertex_flag i x below (all_asked i asked)).0 n.0 in
+        (l.0, l.1, l.2, (l.3, (unflagged l.0 l.1).1 (λ r. n.1 (subst Removed l.2 r)))),
+    λ l. (
+      (gathers_label (IsWanted flags true) Removed vertex_flag i x below (all_asked i asked)).1 (l.0, l.1, l.2, l.3.0),
+      λ r. (unflagged l.0 l.1).0 l.3.1 (subst Removed (sym l.2) r),
+    ),
+  )
+
+  pub is_enabled_by : (f : ℕ) (e : Text) → f < length edges
+      → IsEnabledBy t Removed (nth_text texts f) e ↔ HasNumber texts (length edges) (λ j. IsWanted flags false j × Reaches (Leads edges) (IsWanted flags true) j f) e
+  is_enabled_by f e below = grind (arith, unflagged, to_numbers, vertex_flag, reaches_text)
+
+  pub says : (i : ℕ) (k : Text) (a : Action) → i < length edges
+      → Says t Removed (nth_text texts i) k a ↔ ((b : ℕ) × ((b ≡ i) ⊎ IsPassed edges flags i b) × (t.action (nth_text texts b) k ≡ Some a))
+  says i k a below = gathers_each (IsWanted flags true) Removed vertex_flag (λ b x. t.action b k ≡ Some x) i a below
+
+  -- the removed texts below that of r
+  abbrev pub Lower : ℕ → Text → Type 0
+  Lower r s = Removed s × IsTrue (is_below s (nth_text texts r))
+
+  pub under : (r : ℕ) → r < length edges → (j : ℕ) → j < length texts → IsUnder edges flags r j ↔ Lower r (nth_text texts j)
+  under r below j inside = grind (arith, lower_place)
+
+  pub vertex_under : (r : ℕ) → r < length edges → (i : ℕ) → i < length edges → IsUnder edges flags r i ↔ Lower r (nth_text texts i)
+  vertex_under r below i vertex = under r below i (let fits = h.count in omega arith)
+
+  under_asked : (r : ℕ) → IsWanted flags true r → (k : ℕ) → Gathers (Leads edges) (IsUnder edges flags r) r k → IsNaming edges flags k
+  under_asked r gone k p = grind arith
+
+  pub redirects_to : (r : ℕ) (x : Text) → r < length edges → IsWanted flags true r
+      → RedirectsTo t Removed (λ a b. IsTrue (is_below a b)) (nth_text texts r) x ↔ HasNumber texts (length texts) (IsRedirect edges flags names r) x
+  redirects_to r x below gone = (
+    λ n.
+        let l = (gathers_label (IsUnder edges flags r) (Lower r) (vertex_under r below) r x below (under_asked r gone)).0 n.0 in
+        (l.0, l.1, l.2, (l.3, λ u. n.1 (subst (Lower r) l.2 ((under r below l.0 l.1).0 u)))),
+    λ l. (
+      (gathers_label (IsUnder edges flags r) (Lower r) (vertex_under r below) r x below (under_asked r gone)).1 (l.0, l.1, l.2, l.3.0),
+      λ u. l.3.1 ((under r below l.0 l.1).1 (subst (Lower r) (sym l.2) u)),
+    ),
+  )
 
 -- a path to one of S begins by an edge to one
 first_step : {E : ℕ → ℕ → Type 0} {S : ℕ → Type 0} {a f : ℕ} → Reaches E S a f → S f → (b : ℕ) × E a b × S b
 first_step {f} (edge e) s = (f, e, s)
 first_step (through {b} e s p) last = (b, e, s)
 
-module _ (t : Table) (removed : Text → Bool) (vs : List Feature) (same : AreTable t vs) (up : AreInOrder vs)
-    (texts : List Text) (edges names : List (List ℕ)) (flags : List Bool) (h : IsNumbered t (λ v. IsTrue (removed v)) texts edges names flags)
-    (count : length edges ≡ length vs) (vertices : (i : ℕ) → i < length vs → nth_text texts i ≡ nth_text (names_of vs) i) where
+module _ (t : Table) (removed : Text → Bool) (vs : List Feature) (texts : List Text) (edges names : List (List ℕ)) (flags : List Bool) (stand : StandFor t removed vs texts edges names flags) where
   abbrev R : Text → Type 0
   R v = IsTrue (removed v)
+
+  abbrev h : IsNumbered t R texts edges names flags
+  h = stand.numbered
 
   fits : (i : ℕ) → i < length edges → i < length texts
   fits i lt = let c = h.count in omega (arith, c, lt)
 
   inside : (i : ℕ) → i < length edges → i < length vs
-  inside i lt = subst (λ n. i < n) count lt
+  inside i lt = subst (λ n. i < n) stand.count lt
 
   -- the table's own words of the feature in place i
-  in_table : (i : ℕ) (v : Feature) → i < length edges → slice_get vs i ≡ Some v → feature_at vs (nth_text texts i) ≡ Some v
-  in_table i v lt is = subst (λ f. feature_at vs f ≡ Some v) (sym (vertices i (inside i lt) ∙ name_in vs i v is)) (stands_found vs up i v is)
+  pub named_by : (i : ℕ) → i < length edges → (x : Text) → place_names vs i x ≡ t.names (nth_text texts i) x
+  named_by i lt x = names_at t vs stand.table stand.in_order i (inside i lt) x ∙ ap (λ f. t.names f x) (sym (stand.vertices i (inside i lt)))
 
-  named_by : (i : ℕ) (v : Feature) → i < length edges → slice_get vs i ≡ Some v → (x : Text) → set_has v.enables_features x ≡ t.names (nth_text texts i) x
-  named_by i v lt is x = sym (ap (λ o. option_map_or (λ (w : Feature). set_has w.enables_features x) o false) (in_table i v lt is)) ∙ same.names (nth_text texts i) x
-
-  acts_by : (b : ℕ) (k : Text) → b < length edges → action_by vs b k ≡ t.action (nth_text texts b) k
-  acts_by b k lt =
-      let v = stands_in vs b (inside b lt) in
-      ap (λ o. option_and_then (λ (w : Feature). action_at w.enables_deps k) o) v.1
-      ∙ sym (ap (λ o. option_map_or (λ (w : Feature). action_at w.enables_deps k) o None) (in_table b v.0 lt v.1)) ∙ same.action (nth_text texts b) k
+  acts_by : (i : ℕ) → i < length edges → (k : Text) → place_action vs i k ≡ t.action (nth_text texts i) k
+  acts_by i lt k = actions_at t vs stand.table stand.in_order i (inside i lt) k ∙ ap (λ f. t.action f k) (sym (stand.vertices i (inside i lt)))
 
   kept_text : (i : ℕ) → i < length edges → IsWanted flags false i → ¬ R (nth_text texts i)
-  kept_text i lt kept = (numbered.unflagged t R texts edges names flags h i (fits i lt)).0 kept
+  kept_text i lt kept = (unflagged t R texts edges names flags h i (fits i lt)).0 kept
 
   -- a kept vertex that passes none names nothing removed, and reaches nothing
   module _ (i : ℕ) (lt : i < length edges) (kept : IsWanted flags false i) where
@@ -51,7 +151,7 @@ module _ (t : Table) (removed : Text → Bool) (vs : List Feature) (same : AreTa
     no_step none b gone path =
         let k = (h.vertex b).0 (h.removed b gone) in
         let r : R (nth_text texts k.0) = subst R (sym k.2) gone in
-        let p = (numbered.reaches_text t R texts edges names flags h i k.0 lt k.1).1 (subst (λ v. ReachesThrough t R (nth_text texts i) v) (sym k.2) path) in
+        let p = (reaches_text t R texts edges names flags h i k.0 lt k.1).1 (subst (λ v. ReachesThrough t R (nth_text texts i) v) (sym k.2) path) in
         none (k.0, ((h.flagged k.0 (fits k.0 k.1)).1 r, p))
 
     plain_names : (¬ PassesAny edges flags i) → (x : Text) → IsTrue (t.names (nth_text texts i) x) ↔ KeepsName t R (nth_text texts i) x
@@ -72,36 +172,38 @@ module _ (t : Table) (removed : Text → Bool) (vs : List Feature) (same : AreTa
     asked : PassesAny edges flags i → IsNaming edges flags i
     asked some = inr (first_step some.1.1 some.1.0)
 
-    saying : (k : Text) (a : Action) → ((b : ℕ) × ((b ≡ i) ⊎ IsPassed edges flags i b) × (action_by vs b k ≡ Some a)) ↔ Says t R (nth_text texts i) k a
+    saying : (k : Text) (a : Action) → ((b : ℕ) × ((b ≡ i) ⊎ IsPassed edges flags i b) × (place_action vs b k ≡ Some a)) ↔ Says t R (nth_text texts i) k a
     saying k a = (
-      λ d. (numbered.says t R texts edges names flags h i k a lt).1 (d.0, d.1, sym (acts_by d.0 k (of d.0 d.1)) ∙ d.2),
-      λ s. let d = (numbered.says t R texts edges names flags h i k a lt).0 s in (d.0, d.1, acts_by d.0 k (of d.0 d.1) ∙ d.2),
+      λ d. (says t R texts edges names flags h i k a lt).1 (d.0, d.1, sym (acts_by d.0 (of d.0 d.1) k) ∙ d.2),
+      λ s. let d = (says t R texts edges names flags h i k a lt).0 s in (d.0, d.1, acts_by d.0 (of d.0 d.1) k ∙ d.2),
     )
       where
         of : (b : ℕ) → (b ≡ i) ⊎ IsPassed edges flags i b → b < length edges
         of b (inl e) = subst (λ n. n < length edges) (sym e) lt
-        of b (inr p) = numbered.reaches_inside t R texts edges names flags h (IsWanted flags true) R (numbered.vertex_flag t R texts edges names flags h) i b lt p.1
+        of b (inr p) = reaches_inside t R texts edges names flags h (IsWanted flags true) R (vertex_flag t R texts edges names flags h) i b lt p.1
 
-    module _ (v w : Feature) (is : slice_get vs i ≡ Some v) (holds : Holds edges names flags texts vs i v w)
-        (learnt : (e : Text) → IsTrue (set_has w.enabled_by e) ↔ HasNumber texts (length edges) (EnablesThrough edges flags i) e) where
-      holds_names : (x : Text) → IsTrue (set_has w.enables_features x) ↔ KeepsName t R (nth_text texts i) x
+    module _ (left : List Feature) (holds : Holds edges names flags texts i vs left)
+        (learnt : (e : Text) → IsTrue (place_enabler left i e) ↔ HasNumber texts (length edges) (EnablesThrough edges flags i) e) where
+      holds_names : (x : Text) → IsTrue (place_names left i x) ↔ KeepsName t R (nth_text texts i) x
       holds_names x = elim (holds.names) [
         | inl some ↦
-            let p = numbered.keeps_name t R texts edges names flags h i x lt (asked some.0) in
+            let p = keeps_name t R texts edges names flags h i x lt (asked some.0) in
             (λ y. p.1 ((some.1 x).0 y), λ n. (some.1 x).1 (p.0 n))
-        | inr none ↦ grind (arith, named_by, plain_names none.0 x)
+        | inr none ↦ grind (arith, none.1 x, named_by i lt x, plain_names none.0 x)
       ]
 
-      holds_enablers : (e : Text) → IsTrue (set_has w.enabled_by e) ↔ IsEnabledBy t R (nth_text texts i) e
+      holds_enablers : (e : Text) → IsTrue (place_enabler left i e) ↔ IsEnabledBy t R (nth_text texts i) e
       holds_enablers e =
-          let is = numbered.is_enabled_by t R texts edges names flags h i e lt in
+          let is = is_enabled_by t R texts edges names flags h i e lt in
           (λ y. is.1 ((learnt e).0 y), λ k. (learnt e).1 (is.0 k))
 
-      holds_actions : (k : Text) → IsJoin (Says t R (nth_text texts i) k) (action_at w.enables_deps k)
-      holds_actions k = join_alike (saying k) (action_at w.enables_deps k) (holds.actions k)
-
-      pub is_kept_feature : IsKeptFeature t R (nth_text texts i) w
-      is_kept_feature = record { names = holds_names; enabled_by = holds_enablers; action = holds_actions }
+      -- so does what stands there by then
+      pub is_kept_feature : (w : Feature) → place_deeds left i ≡ Some (deeds_of w) → ((e : Text) → place_enabler left i e ≡ set_has w.enabled_by e) → IsKeptFeature t R (nth_text texts i) w
+      is_kept_feature w does by = record {
+        names = λ x. subst (λ b. IsTrue b ↔ KeepsName t R (nth_text texts i) x) (ap (λ o. option_map_or (λ d. set_has d.0 x) o false) does) (holds_names x);
+        enabled_by = λ e. subst (λ b. IsTrue b ↔ IsEnabledBy t R (nth_text texts i) e) (by e) (holds_enablers e);
+        action = λ k. subst (IsJoin (Says t R (nth_text texts i) k)) (ap (λ o. option_map_or (λ d. action_at d.1 k) o None) does) (join_alike (saying k) (place_action left i k) (holds.actions k));
+      }
 
 -- a map that has each kept feature under its name, and nothing else, is resolved
 module _ {S : Type 0} (t : Table) (removed : Text → Bool) (m : HashMap (Bor Text) Feature S)

@@ -1,14 +1,12 @@
 -- Binaries that are put into the lists of features, and that removed places pass on, turn after turn.
-use Rattle.std.proofs.Common.{◌≡◌, ◌⊎◌, ◌<◌, ◌≤◌, ◌+◌, ◌&&◌, ◌||◌, ℕ, zero, suc, true, false, Bool, List, [], ◌∷◌, cond, length, map, nat_eq, not, take, Bor, refl, sym, ap, subst, inl, inr, ◌∙◌, arith, eq-eqb, eqb-true, ◌++◌, slice_get, Some, bytes_eq, IsTrue, ◌↔◌, get_or, Option, if◌then◌else◌}
-use Rattle.std.proofs.Math.Bool.{or-false}
-use Rattle.std.proofs.lemmas.{Bool.cases_Bool, Bool.false≢true, Bool.or_cases, Bool.or_left, Bool.or_right, Bool.cases_eq, Bool.Decides.nat_tests, Slice.Eq.bytes_eq-Decides, Option.slice_get_read, List.map_more}
-use Rattle.std.specs.{List.list_any, List.slice_index_or, List.zip, BTreeSet.BTreeSet, BTreeSet.btree_set_len, Option.option_map_or}
-use Rattle.cargo_toml_graph.specs.{Action.Text, Reach.Among, Removal.put_each, Removal.lists_text}
-use Rattle.cargo_toml_graph.proofs.BinLists.{among-true, put_puts}
-use Rattle.cargo_toml_features.specs.{declared.features.Feature.Feature, Views.set_has}
-use Rattle.cargo_toml_resolve.specs.{Numbers.IsWanted, Numbers.Leads, Passing.bins_of, Passing.passed_below, Passing.passed_from, Passing.Knows, Passing.MayKnow, Passing.IsSameButBins, Passing.AreSameButBins, Passing.Puts}
-use Rattle.cargo_toml_resolve.specs.{Texts.texts_now}
-use Rattle.cargo_toml_resolve.proofs.TakingOver.{does_itself, each_itself, then_does, then_each}
+use Rattle.std.proofs.Common.{◌≡◌, ◌⊎◌, ◌<◌, ◌≤◌, ◌+◌, ◌&&◌, ◌||◌, ℕ, zero, suc, true, false, Bool, List, [], ◌∷◌, cond, length, map, nat_eq, not, take, Bor, refl, sym, ap, subst, inl, inr, ◌∙◌, arith, eq-eqb, eqb-true, ◌++◌, slice_get}
+use Rattle.std.proofs.Common.{Some, bytes_eq, IsTrue, ◌↔◌, get_or, set, length-set, Option, OnOk, Result, if◌then◌else◌}
+use Rattle.{std.proofs.Math.Bool.or-false, std.proofs.Math.Seq.map-set_same, cargo_toml_features.specs.declared.features.Feature.Feature, cargo_toml_features.specs.Views.set_has}
+use Rattle.std.proofs.lemmas.{Bool.cases_Bool, Bool.false≢true, Bool.or_cases, Bool.or_left, Bool.or_right, Bool.cases_eq, Bool.Decides.nat_tests, Slice.Eq.bytes_eq-Decides, Option.same_Some, Option.slice_get_read, List.map_more}
+use Rattle.std.{proofs.lemmas.List.Folds.list_any-append, specs.List.list_any, specs.List.slice_index_or, specs.List.zip, specs.BTreeSet.BTreeSet, specs.BTreeSet.btree_set_len, specs.Option.option_map_or}
+use Rattle.cargo_toml_graph.{specs.Action.Text, specs.Reach.Among, specs.Removal.put_each, specs.Removal.lists_text, proofs.BinLists.among-true, proofs.BinLists.put_puts}
+use Rattle.cargo_toml_resolve.specs.{Numbers.IsWanted, Numbers.Leads, Passing.AreKnown, Passing.bins_of, Passing.passed_below, Passing.passed_from, Passing.Knows, Passing.MayKnow, Passing.Puts, Texts.texts_now, Parts.but_bins}
+use Rattle.cargo_toml_resolve.{specs.Parts.with_said, proofs.InPlace.alike_len, proofs.InPlace.set_here, proofs.InPlace.set_others}
 
 -- a test tells whether a number stands in a list
 pub stands_true : (xs : List ℕ) (y : ℕ) → Among xs y → list_any (nat_eq y) xs ≡ true
@@ -75,12 +73,8 @@ module _ (rows : List (List ℕ)) (flags : List Bool) (own : ℕ → List Text) 
       ((y : ℕ) → y < size → (Leads rows i y × (lists' y ≡ put_each (lists y) (take 10 (lists i)))) ⊎ ((¬ Leads rows i y) × (lists' y ≡ lists y))) → Turned (i + 1) lists'
   one_turn i inside gone lists lists' t puts = grind (arith, next i lists', stands_true, stands_false)
 
-or_more : (a b c : Bool) → (a || (b || c)) ≡ ((a || b) || c)
-or_more a b c = grind arith
-
 among_last : (xs : List Text) (k x : Text) → lists_text (xs ++ k ∷ []) x ≡ (lists_text xs x || bytes_eq x k)
-among_last [] k x = or-false (bytes_eq x k)
-among_last (y ∷ xs) k x = ap (λ t. bytes_eq x y || t) (among_last xs k x) ∙ or_more (bytes_eq x y) (lists_text xs x) (bytes_eq x k)
+among_last xs k x = list_any-append (bytes_eq x) xs (k ∷ []) ∙ ap (λ t. lists_text xs x || t) (or-false (bytes_eq x k))
 
 -- a text that is there already makes no difference
 among_again : (xs : List Text) (k x : Text) → lists_text xs k ≡ true → (lists_text xs x || bytes_eq x k) ≡ lists_text xs x
@@ -114,21 +108,44 @@ put_none xs (y ∷ ys) there = ap (λ b. put_each (cond b xs (xs ++ y ∷ [])) y
 put_again : (xs ys : List Text) → put_each (put_each xs ys) ys ≡ put_each xs ys
 put_again xs ys = put_none (put_each xs ys) ys (λ x i. put_puts xs ys x i)
 
-pub same_features : (vs : List Feature) → AreSameButBins vs vs
-same_features vs = each_itself IsSameButBins (λ v. record { does = does_itself v; enabled_by = refl }) vs
-
-pub then_same : (vs ws us : List Feature) → AreSameButBins vs ws → AreSameButBins ws us → AreSameButBins vs us
-then_same vs ws us a b = then_each IsSameButBins (λ v w u s t. record { does = then_does v w u s.does t.does; enabled_by = t.enabled_by ∙ s.enabled_by }) vs ws us a b
-
 abbrev list_in : Option Feature → List Text
 list_in o = option_map_or (λ v. texts_now v.required_by_bins.items) o []
 
 pub bins_read : (vs : List Feature) (i : ℕ) (v : Feature) → i < length vs → v ≡ get_or vs i v → bins_of vs i ≡ texts_now v.required_by_bins.items
 bins_read vs i v lt is = ap list_in (slice_get_read vs (length vs) i v refl lt is)
 
+-- a feature gets these binaries, and the set of its place knows them
+module _ (vs : List Feature) (i : ℕ) (w : Feature) (lt : i < length vs) where
+  pub put_one : (v : Feature) (bins : List Text) → v ≡ get_or vs i v → with_said but_bins w ≡ with_said but_bins v →
+      texts_now w.required_by_bins.items ≡ put_each (texts_now v.required_by_bins.items) bins → Puts (λ y. y ≡ i) bins vs (set vs i w)
+  put_one v bins read alike put = record {
+    same = map-set_same (with_said but_bins) vs i w v (alike ∙ ap (with_said but_bins) read);
+    lists = λ y below. elim (cases_eq y i) [
+      | inl e ↦ inl (
+        e,
+        subst (λ j. bins_of (set vs i w) j ≡ put_each (bins_of vs j) bins) (sym e)
+            (ap list_in (set_here vs i w lt) ∙ put ∙ ap (λ xs. put_each xs bins) (sym (bins_read vs i v lt read))),
+      )
+      | inr ne ↦ inr (ne, ap list_in (set_others vs i y w ne))
+    ];
+  }
+
+  pub know_one : (known : List (BTreeSet (Bor Text))) (s : BTreeSet (Bor Text)) → AreKnown known vs → Knows s (texts_now w.required_by_bins.items) → AreKnown (set known i s) (set vs i w)
+  know_one known s h is = record {
+    len = length-set known i s ∙ h.len ∙ sym (length-set vs i w);
+    each = λ y u at. elim (cases_eq y i) [
+      | inl e ↦ (let same : s ≡ u = same_Some s u (sym (set_here known i s (subst (λ n. i < n) (sym h.len) lt)) ∙ ap (slice_get (set known i s)) (sym e) ∙ at) in
+          subst (λ z. MayKnow z (bins_of (set vs i w) y)) same (inr (subst (Knows s) (sym (ap (bins_of (set vs i w)) e ∙ ap list_in (set_here vs i w lt))) is)))
+      | inr ne ↦ subst (MayKnow u) (sym (ap list_in (set_others vs i y w ne))) (h.each y u (sym (set_others known i y s ne) ∙ at))
+    ];
+  }
+
+pub on_ok_weaker : {X Y : Type 0} (r : Result X Y) (A Q : Type 0) → (A → Q) → OnOk r A → OnOk r Q
+on_ok_weaker r A Q f a = grind arith
+
 -- no place is named
 pub put_nowhere : (bins : List Text) (vs : List Feature) → Puts (λ y. ⊥) bins vs vs
-put_nowhere bins vs = record { same = same_features vs; lists = λ y below. inr (λ n. n, refl) }
+put_nowhere bins vs = record { same = refl; lists = λ y below. inr (λ n. n, refl) }
 
 decided_among : (xs : List ℕ) (y : ℕ) → Among xs y ⊎ (¬ Among xs y)
 decided_among [] y = inr (λ i. i)
@@ -136,13 +153,13 @@ decided_among (x ∷ xs) y = grind (arith, cases_eq y x, decided_among xs y)
 
 -- no binary is put
 pub put_nothing : (row : List ℕ) (ks : List (Bor Text)) (bins : List Text) (vs : List Feature) → length ks ≡ 0 → texts_now ks ≡ bins → Puts (Among row) bins vs vs
-put_nothing row [] bins vs none are = subst (λ xs. Puts (Among row) xs vs vs) are (record { same = same_features vs; lists = λ y below. elim (decided_among row y) [ inl i ↦ inl (i, refl) | inr n ↦ inr (n, refl) ] })
+put_nothing row [] bins vs none are = subst (λ xs. Puts (Among row) xs vs vs) are (record { same = refl; lists = λ y below. elim (decided_among row y) [ inl i ↦ inl (i, refl) | inr n ↦ inr (n, refl) ] })
 put_nothing row (k ∷ ks) bins vs none are = absurd (omega arith)
 
 module _ (A B C : ℕ → Type 0) (bins : List Text) (vs ws : List Feature) (old : Puts A bins vs ws) where
   -- into these lists, then into those
   pub then_put : (us : List Feature) → ((y : ℕ) → C y ↔ (A y ⊎ B y)) → Puts B bins ws us → Puts C bins vs us
-  then_put us both new = grind (arith, then_same, put_again)
+  then_put us both new = record { same = new.same ∙ old.same; lists = λ y below. grind (arith, put_again, both y, old.lists y below, new.lists y (subst (λ n. y < n) (sym (alike_len but_bins vs ws old.same)) below)) }
 
   -- those are no places of features
   pub put_past : ((y : ℕ) → C y ↔ (A y ⊎ B y)) → ((y : ℕ) → B y → length vs ≤ y) → Puts C bins vs ws

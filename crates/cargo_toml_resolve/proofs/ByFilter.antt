@@ -1,15 +1,12 @@
 -- Features that the filter refuses, by their flags, and answers without them.
 use Rattle.std.proofs.Common.{◌≡◌, ◌↔◌, ◌&&◌, ◌||◌, ◌<◌, not, ℕ, suc, Bool, true, false, List, [], ◌∷◌, length, Bor, Option, Some, None, IfSome, IsTrue, bytes_eq, codes, nat_eq, arith, refl, sym, inl, inr}
 use Rattle.std.proofs.lemmas.{Bool.false≢true, Bool.and_from, Bool.and_parts, Bool.or_cases, Bool.or_left, Bool.or_right, Slice.Eq.bytes_eq-Decides}
-use Rattle.std.specs.List.{slice_index_or, starts_with}
+use Rattle.{std.specs.List.slice_index_or, std.specs.List.starts_with, cargo_toml_resolve.proofs.InPlace.has_place}
 use Rattle.cargo_toml_graph.specs.{Action.Text, Admitted.Listed, Admitted.is_below, Graph.Table, Graph.IsKept, Redirects.RedirectsTo, Removal.is_removed}
 use Rattle.cargo_toml_graph.proofs.{Members.label_within, Members.resolved_alike, PassedBins.grown_weaker, PassedBins.passed_alike}
-use Rattle.cargo_toml_features.specs.{declared.features.Feature.Feature, InOrder.AreInOrder, InOrder.AreTable, InOrder.names_of, InOrder.table_among, Marks.NamedDetails, Marks.details_listed, Recorded.Entry}
-use Rattle.cargo_toml_features.specs.{Resolved.Answer, Resolved.IsAnswer, Resolved.IsAnswerWithout, Resolved.table_of, Places.nth_text}
-use Rattle.cargo_toml_features.proofs.Marked.{told_by_listed}
-use Rattle.cargo_toml_resolve.specs.{Numbers.IsWanted, Filter.Answers, Filter.Asked, Filter.HasNameFilter, Filter.IsFlagOf, Filter.IsHiddenName, Filter.FilterTells, Numbering.IsFlagged}
-use Rattle.cargo_toml_resolve.specs.Removed.{IsAnswerBy, IsRemovedBy}
-use Rattle.cargo_toml_resolve.proofs.InPlace.{has_place}
+use Rattle.cargo_toml_features.specs.{declared.features.Feature.Feature, InOrder.AreInOrder, InOrder.AreTable, InOrder.names_of, InOrder.table_among, Marks.NamedDetails, Marks.details_listed, Recorded.Entry, Resolved.Answer}
+use Rattle.cargo_toml_features.{specs.Resolved.IsAnswer, specs.Resolved.IsAnswerWithout, specs.Resolved.table_of, specs.Places.nth_text, proofs.Agreement.told_by_listed}
+use Rattle.cargo_toml_resolve.specs.{Numbers.IsWanted, Filter.Answers, Filter.Asked, Filter.HasNameFilter, Filter.IsFlagOf, Filter.IsHiddenName, Filter.FilterTells, Numbering.IsFlagged, Removed.IsAnswerBy, Removed.IsRemovedBy}
 
 -- the flag of the feature of this name, by looking it up
 abbrev pub flag_at : List Feature → List Bool → Text → Bool

@@ -1,103 +1,56 @@
--- Hashed maps get one kept feature, one redirect or one value after another.
-use Rattle.std.proofs.Common.{◌≡◌, ◌<◌, ◌+◌, ℕ, zero, suc, Bool, true, false, cond, List, [], ◌∷◌, length, drop, Option, Some, None, Bor, IsSome, bytes_eq, is_some, slice_get, refl, sym, ap, subst, inl, inr, ◌∙◌, arith, if◌then◌else◌, get_or, set, length-set}
-use Rattle.std.proofs.Math.Seq.{drop-cons}
-use Rattle.std.proofs.lemmas.{Bool.cases_Bool, Bool.cases_eq, Bool.false_from_ne_true, List.length-drop, Slice.Eq.bytes_eq-Decides, Option.same_Some, Option.slice_get_read}
-use Rattle.std.specs.{HashMap.HashMap, BTreeSet.BTreeSet, Option.IsSomeAnd, Option.option_or}
-use Rattle.cargo_toml_graph.specs.{Action.Text, Reach.Among, Ascending.Ascend}
-use Rattle.cargo_toml_graph.proofs.{RedirectsInOrder.below_one_way, SortedTexts.first_below, SortedTexts.others_ascend}
-use Rattle.cargo_toml_features.specs.{declared.features.Feature.Feature, Reached.IsKeyed, Views.value_at, Places.nth_text}
-use Rattle.cargo_toml_full.specs.Slots.{held_among}
-use Rattle.cargo_toml_resolve.specs.{Numbers.IsWanted, Numbers.row_items, Holding.HasTextsOf, Texts.texts_now, Holding.HandsOver}
-use Rattle.cargo_toml_resolve.proofs.{Placing.place_inside, InPlace.some_same, TakingOver.set_here, TakingOver.set_others, TakingOver.there_too}
+-- Hashed maps get one value after another.
+use Rattle.std.proofs.Common.{◌≡◌, ◌<◌, ◌+◌, ℕ, zero, suc, Bool, true, false, cond, List, [], ◌∷◌, length, drop, Option, Some, None, Bor, bytes_eq, is_some, slice_get, refl, sym, ap, subst, inl, inr, ◌∙◌, arith, if◌then◌else◌, get_or, ◌≤◌}
+use Rattle.std.{proofs.Math.Seq.drop-cons, specs.HashMap.HashMap, specs.Option.option_or}
+use Rattle.std.proofs.lemmas.{Bool.cases_Bool, Bool.cases_eq, Bool.false_from_ne_true, List.length-drop, Slice.Eq.bytes_eq-Decides, Option.slice_get_read}
+use Rattle.cargo_toml_graph.{specs.Action.Text, specs.Reach.Among, specs.Ascending.Ascend, proofs.RedirectsInOrder.below_one_way, proofs.SortedTexts.first_below, proofs.SortedTexts.others_ascend}
+use Rattle.cargo_toml_features.specs.{declared.features.Feature.Feature, InOrder.AreInOrder, InOrder.feature_at, InOrder.names_of, Views.value_at, Slots.held_among}
+use Rattle.cargo_toml_resolve.{specs.Placed.HasThose, specs.Texts.texts_now, proofs.InPlace.one_place}
 
-no_element : (v : Feature) (ws : List Feature) → v ∷ ws ≡ [] → ⊥
-no_element v ws same = grind arith
+-- the map has what is said of the features in the places below n of which Here holds
+module _ {V S : Type 0} (vs : List Feature) (Here : ℕ → Type 0) (Is : ℕ → Feature → V → Type 0) (n : ℕ) (m : HashMap (Bor Text) V S) where
+  pub none_put : ((f : Text) → value_at m f ≡ None) → HasThose vs Here Is 0 m
+  none_put empty = record { there = λ i v lt. absurd (omega (arith, lt)); only = λ f y. grind (arith, empty f) }
 
--- what comes next in a list
-pub next_there : (vs : List Feature) (n : ℕ) (v : Feature) (ws : List Feature) → v ∷ ws ≡ drop n vs → (slice_get vs n ≡ Some v) × (ws ≡ drop (suc n) vs)
-next_there [] zero v ws e = absurd (no_element v ws e)
-next_there [] (suc n) v ws e = absurd (no_element v ws e)
-next_there (x ∷ vs) zero v ws e = grind arith
-next_there (x ∷ vs) (suc n) v ws e = next_there vs n v ws e
+  pub not_put : ¬ Here n → HasThose vs Here Is n m → HasThose vs Here Is (n + 1) m
+  not_put absent h = record {
+    there = λ i v lt at here. elim (cases_eq i n) [ inl e ↦ absurd (absent (subst Here e here)) | inr ne ↦ h.there i v (omega (arith, lt, ne)) at here ];
+    only = h.only;
+  }
 
--- where nothing comes any more, each that stands there came before
-pub all_dropped : (vs : List Feature) (n : ℕ) → drop n vs ≡ [] → (i : ℕ) (v : Feature) → slice_get vs i ≡ Some v → i < n
-all_dropped vs n none i v at = grind (arith, place_inside vs i v, length-drop n vs)
-
-module _ {S : Type 0} (vs : List Feature) (flags : List Bool) where
-  -- the map has the features without a flag in the places below n, and nothing else
-  pub record HasKept (n : ℕ) (m : HashMap (Bor Text) Feature S) : Type 0 where
-    pub kept : (i : ℕ) (v : Feature) → i < n → slice_get vs i ≡ Some v → IsWanted flags false i → value_at m v.key.now ≡ Some v
-    pub only : (f : Text) → IsSome (value_at m f) → (i : ℕ) × (v : Feature) × (slice_get vs i ≡ Some v) × IsWanted flags false i × (v.key.now ≡ f)
-
-  -- one with a flag is left out
-  pub kept_left : (n : ℕ) (m : HashMap (Bor Text) Feature S) → IsWanted flags true n → HasKept n m → HasKept (n + 1) m
-  kept_left n m on h = grind (arith, cases_eq)
-
-  -- and one without is put under its name
-  pub kept_put : (n : ℕ) (m m' : HashMap (Bor Text) Feature S) (w : Feature) → slice_get vs n ≡ Some w → IsWanted flags false n →
-      ((i j : ℕ) (v u : Feature) → slice_get vs i ≡ Some v → slice_get vs j ≡ Some u → v.key.now ≡ u.key.now → i ≡ j) →
-      ((k : Text) → value_at m' k ≡ cond (bytes_eq k w.key.now) (Some w) (value_at m k)) → HasKept n m → HasKept (n + 1) m'
-  kept_put n m m' w here off once put h = record {
-    kept = λ i v lt at unflagged. grind (arith, cases_eq i n, bytes_eq-Decides, false_from_ne_true);
+  pub one_put : AreInOrder vs → (w : Feature) (x : V) (m' : HashMap (Bor Text) V S) → slice_get vs n ≡ Some w → Here n → Is n w x →
+      ((k : Text) → value_at m' k ≡ cond (bytes_eq k w.key.now) (Some x) (value_at m k)) → HasThose vs Here Is n m → HasThose vs Here Is (n + 1) m'
+  one_put up w x m' here on is put h = record {
+    there = λ i v lt at that. elim (cases_eq i n) [
+      | inl e ↦ grind (arith, bytes_eq-Decides)
+      | inr ne ↦ grind (arith, bytes_eq-Decides, false_from_ne_true, one_place vs up i n v w at here)
+    ];
     only = λ f y. elim (cases_Bool (bytes_eq f w.key.now)) [
-      | inl same ↦ (n, w, here, off, sym ((bytes_eq-Decides f w.key.now).0 same))
-      | inr apart ↦ h.only f (sym (ap is_some (put f ∙ ap (λ b. cond b (Some w) (value_at m f)) apart)) ∙ y)
+      | inl same ↦ (n, w, here, on, sym ((bytes_eq-Decides f w.key.now).0 same))
+      | inr apart ↦ h.only f (sym (ap is_some (put f ∙ ap (λ b. cond b (Some x) (value_at m f)) apart)) ∙ y)
     ];
   }
 
-  -- one way or the other
-  pub kept_turn : (n : ℕ) (m m' : HashMap (Bor Text) Feature S) (w : Feature) (flag : Bool) → slice_get vs n ≡ Some w → IsWanted flags flag n →
-      ((i j : ℕ) (v u : Feature) → slice_get vs i ≡ Some v → slice_get vs j ≡ Some u → v.key.now ≡ u.key.now → i ≡ j) →
-      ((k : Text) → value_at m' k ≡ cond flag (value_at m k) (cond (bytes_eq k w.key.now) (Some w) (value_at m k))) → HasKept n m → HasKept (n + 1) m'
-  kept_turn n m m' w flag here off once put h = grind (arith, kept_put, kept_left)
+-- once none comes any more
+pub all_those : {V S : Type 0} (vs : List Feature) (Here : ℕ → Type 0) (Is : ℕ → Feature → V → Type 0) (n : ℕ) (m : HashMap (Bor Text) V S) → drop n vs ≡ [] → HasThose vs Here Is n m → HasThose vs Here Is (length vs) m
+all_those vs Here Is n m done h =
+    let all : length vs ≤ n = omega (arith, length-drop n vs, ap length done) in
+    record { there = λ i v lt. h.there i v (omega (arith, lt, all)); only = h.only }
 
--- each stands under its own key
-pub keyed_kept : {S : Type 0} (vs : List Feature) (flags : List Bool) (m : HashMap (Bor Text) Feature S) →
-    ((i : ℕ) (v : Feature) → slice_get vs i ≡ Some v → IsWanted flags false i → value_at m v.key.now ≡ Some v) →
-    ((f : Text) → IsSome (value_at m f) → (i : ℕ) × (v : Feature) × (slice_get vs i ≡ Some v) × IsWanted flags false i × (v.key.now ≡ f)) → IsKeyed m
-keyed_kept vs flags m kept only f = grind (arith, some_same)
+-- what does not stand among features isn't found
+none_found : (vs : List Feature) (f : Text) → ¬ Among (names_of vs) f → feature_at vs f ≡ None
+none_found [] f apart = refl
+none_found (v ∷ vs) f apart = grind (arith, none_found vs f (λ i. apart (inr i)), bytes_eq-Decides f v.key.now)
 
-module _ {S : Type 0} (redirects : List (List ℕ)) (flags : List Bool) (texts : List (Bor Text)) where
-  -- the map has the redirects of the flagged numbers below n, and nothing else
-  pub record HasRedirects (n : ℕ) (m : HashMap (Bor Text) (BTreeSet (Bor Text)) S) : Type 0 where
-    pub there : (i : ℕ) → i < n → IsWanted flags true i → IsSomeAnd (value_at m (nth_text (texts_now texts) i)) (HasTextsOf (texts_now texts) (row_items redirects i))
-    pub only : (r : Text) → IsSome (value_at m r) → (i : ℕ) × (i < n) × (nth_text (texts_now texts) i ≡ r) × IsWanted flags true i
-
-  -- one that has no flag is left out
-  pub redirect_skipped : (n : ℕ) (m : HashMap (Bor Text) (BTreeSet (Bor Text)) S) → IsWanted flags false n → HasRedirects n m → HasRedirects (n + 1) m
-  redirect_skipped n m off h = grind (arith, cases_eq)
-
-  -- and one that has is put under its name
-  pub redirect_put : (n : ℕ) (m m' : HashMap (Bor Text) (BTreeSet (Bor Text)) S) (name : Bor Text) (set : BTreeSet (Bor Text)) → n < length redirects → n < length texts → name.now ≡ nth_text (texts_now texts) n → IsWanted flags true n →
-      ((i j : ℕ) → i < length redirects → j < length texts → nth_text (texts_now texts) i ≡ nth_text (texts_now texts) j → i ≡ j) →
-      HasTextsOf (texts_now texts) (row_items redirects n) set → ((k : Text) → value_at m' k ≡ (if bytes_eq k name.now then Some set else value_at m k)) → HasRedirects n m → HasRedirects (n + 1) m'
-  redirect_put n m m' name set vertex lt named on once has put h = grind (arith, cases_eq, bytes_eq-Decides, false_from_ne_true, cases_Bool)
-
--- the flagged places below n
-abbrev pub HandsBelow : List Bool → ℕ → ℕ → Type 0
-HandsBelow flags n i = IsWanted flags true i × (i < n)
-
-pub none_handed : (Named : ℕ → Type 0) (vs : List Feature) → HandsOver Named vs vs
-none_handed Named vs = grind (arith, same_Some)
-
-pub as_handed : (A B : ℕ → Type 0) (vs ws : List Feature) → ((i : ℕ) → A i → B i) → HandsOver A vs ws → HandsOver B vs ws
-as_handed A B vs ws in_b h = record { len = h.len; keys = h.keys; others = λ i n. h.others i (λ a. n (in_b i a)) }
-
--- one more of these
-module _ (flags : List Bool) (r : ℕ) (vs ws : List Feature) (h : HandsOver (HandsBelow flags r) vs ws) where
-  pub skips_handed : HandsOver (HandsBelow flags (r + 1)) vs ws
-  skips_handed = as_handed (HandsBelow flags r) (HandsBelow flags (r + 1)) vs ws (λ i a. (a.0, let lt = a.1 in omega (arith, lt))) h
-
-  pub one_handed : IsWanted flags true r → (us : List Feature) → HandsOver (λ i. i ≡ r) ws us → HandsOver (HandsBelow flags (r + 1)) vs us
-  one_handed on us g = grind (arith, there_too)
-
-  -- the next one stands as it stood
-  pub not_yet : slice_get ws r ≡ slice_get vs r
-  not_yet = h.others r (λ a. absurd (let lt = a.1 in omega (arith, lt)))
-
-pub set_handed : (vs : List Feature) (r p : ℕ) (v w : Feature) → p ≡ r → r < length vs → v ≡ get_or vs p v → w.key ≡ v.key → HandsOver (λ i. i ≡ r) vs (set vs p w)
-set_handed vs r p v w at lt read key = grind (arith, length-set vs r w, cases_eq, slice_get_read vs (length vs) r v refl lt (subst (λ n. v ≡ get_or vs n v) at read), same_Some, set_here vs r w lt, set_others)
+-- the first of them goes into the map
+pub feature_turn : (v : Feature) (vs : List Feature) (f : Text) (o : Option Feature) → AreInOrder (v ∷ vs) →
+    option_or (feature_at (v ∷ vs) f) o ≡ option_or (feature_at vs f) (if bytes_eq f v.key.now then Some v else o)
+feature_turn v vs f o up = go (bytes_eq f v.key.now) refl
+  where
+    go : (b : Bool) → bytes_eq f v.key.now ≡ b → option_or (cond b (Some v) (feature_at vs f)) o ≡ option_or (feature_at vs f) (cond b (Some v) o)
+    go true same = sym (ap (λ x. option_or x (Some v)) (none_found vs f (λ i.
+        let b = first_below v.key.now (names_of vs) up v.key.now (subst (Among (names_of vs)) ((bytes_eq-Decides f v.key.now).0 same) i) in
+        below_one_way v.key.now v.key.now b b)))
+    go false apart = refl
 
 -- what does not stand among names has no value there
 none_held : {V : Type 0} (ns : List Text) (vs : List (Option V)) (k : Text) → ¬ Among ns k → held_among ns vs k ≡ None
@@ -116,16 +69,14 @@ ascend_later [] (suc n) up = up
 ascend_later (x ∷ ns) zero up = up
 ascend_later (x ∷ ns) (suc n) up = ascend_later ns n (others_ascend x.now (texts_now ns) up)
 
-abbrev tail_or : {X : Type 0} → List X → List X → List X
-tail_or d [] = d
-tail_or d (y ∷ ys) = ys
-
 -- what comes next in a list
-pub comes_next : {X : Type 0} (xs : List X) (n : ℕ) (v : X) (ws : List X) → v ∷ ws ≡ drop n xs → (n < length xs) × (ws ≡ drop (suc n) xs)
+pub comes_next : {X : Type 0} (xs : List X) (n : ℕ) (v : X) (ws : List X) → v ∷ ws ≡ drop n xs → (n < length xs) × (slice_get xs n ≡ Some v) × (ws ≡ drop (suc n) xs)
 comes_next xs n v ws e =
     let long : suc (length ws) ≡ length (drop n xs) = ap length e in
     let below : n < length xs = omega (arith, long, length-drop n xs) in
-    (below, ap (tail_or ws) (e ∙ drop-cons xs n v below))
+    let split = e ∙ drop-cons xs n v below in
+    let first : v ≡ get_or xs n v = cc in
+    (below, slice_get_read xs (length xs) n v refl below first, cc)
 
 module _ {V S : Type 0} (names : List (Bor Text)) (values : List (Option V)) where
   -- the map has the values of the places below n

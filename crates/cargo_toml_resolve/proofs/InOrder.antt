@@ -2,11 +2,9 @@
 use Rattle.std.proofs.Common.{arith, ◌≡◌, ◌↔◌, List, [], ◌∷◌, map, IsTrue, Result, Ok, Err, IfOk, Vec, Global, Bor, subst, sym, inl, inr, ◌∙◌, ◌⊎◌, ◌++◌, ◌<◌, ℕ, length, get_or, bytes_eq, refl, ap}
 use Rattle.std.proofs.lemmas.{Bool.false≢true, Bool.or_left, Bool.or_right, Bool.or_cases, Map.Text.is_eq-slice_cmp, Slice.Eq.bytes_eq-Decides, List.map_push, List.length-map}
 use Rattle.std.specs.{BTreeMap.is_at, BTreeSet.BTreeSet, Cmp.Lexicographic.slice_cmp, List.list_any, List.Sorted.IsStrictlySortedBy, Ordering.nat_cmp}
-use Rattle.cargo_toml_graph.specs.{Action.Text, Reach.Among, Ascending.Ascend}
-use Rattle.cargo_toml_graph.proofs.{SortedTexts.texts_ascend, BinLists.is_among-true, BinLists.among-true}
+use Rattle.cargo_toml_graph.{specs.Action.Text, specs.Reach.Among, specs.Ascending.Ascend, proofs.SortedTexts.texts_ascend, proofs.BinLists.is_among-true, proofs.BinLists.among-true}
 use Rattle.cargo_toml_features.specs.{Views.set_has, Places.nth_text}
-use Rattle.cargo_toml_resolve.specs.{Texts.texts_now, Holding.HasTextsOf, Holding.IsTextOf}
-use Rattle.cargo_toml_resolve.proofs.Steps.{among_at, item_at}
+use Rattle.cargo_toml_resolve.{specs.Texts.texts_now, specs.Holding.HasTextsOf, specs.Holding.IsTextOf, proofs.Steps.among_at, proofs.Steps.among_push, proofs.Steps.item_at}
 
 abbrev texts : List (Bor Text) → List Text
 texts xs = map (λ t. t.now) xs
@@ -30,21 +28,6 @@ pub taken_in_order : {E : Type 0} (r : Result (Vec (Bor Text) Global) E) (ks : L
     → IfOk r (λ v. Ascend (texts v.items))
 taken_in_order (Ok v) ks ordered e = subst (λ xs. Ascend (texts xs)) (sym e) (texts_ascend (λ (t : Bor Text). t.now) ks ordered)
 taken_in_order (Err _) ks ordered e = tt
-
-pub among_push : {K : Type 0} (xs : List K) (y x : K) → Among (xs ++ y ∷ []) x ↔ (Among xs x ⊎ (x ≡ y))
-among_push {K} xs y x = (into xs, out xs)
-  where
-    into : (xs : List K) → Among (xs ++ y ∷ []) x → Among xs x ⊎ (x ≡ y)
-    into [] (inl is) = inr is
-    into [] (inr i) = absurd i
-    into (z ∷ xs) (inl is) = inl (inl is)
-    into (z ∷ xs) (inr i) = elim (into xs i) [ inl j ↦ inl (inr j) | inr is ↦ inr is ]
-
-    out : (xs : List K) → Among xs x ⊎ (x ≡ y) → Among (xs ++ y ∷ []) x
-    out [] (inl i) = absurd i
-    out [] (inr is) = inl is
-    out (z ∷ xs) (inl i) = elim (i) [ inl is ↦ inl is | inr j ↦ inr (out xs (inl j)) ]
-    out (z ∷ xs) (inr is) = inr (out xs (inr is))
 
 pub text_push : (ts : List (Bor Text)) (t : Bor Text) (x : Text) → Among (texts_now (ts ++ t ∷ [])) x ↔ (Among (texts_now ts) x ⊎ (x ≡ t.now))
 text_push ts t x = subst (λ xs. Among xs x ↔ (Among (texts_now ts) x ⊎ (x ≡ t.now))) (sym (map_push (λ (t : Bor Text). t.now) ts t)) (among_push (texts_now ts) t.now x)

@@ -1,25 +1,15 @@
-mod Steps
+pub mod Steps
 mod Spans
-mod Labelled
-mod RowsInOrder
+pub mod RowsInOrder
 mod Tabled
-mod Closing
 pub mod Sets
 pub mod InOrder
-mod NumberRows
-mod ReadRows
+pub mod NumberRows
 pub mod AgainstAll
-mod InPlace
-pub mod NumberingGraph
-mod Answered
-mod PassedPlaces
-mod Placing
-mod TakingOver
+pub mod InPlace
+pub mod Answered
 mod HashedKept
-mod FromPlaces
-pub mod AnsweringKept
 pub mod ByFilter
 pub mod BinTurns
 pub mod Learning
-mod TakenOver
-pub mod NumberedTables
+pub mod TakenOver

@@ -1,13 +1,15 @@
 -- Texts that get numbers, and rows of numbers, one after another.
-use Rattle.std.proofs.Common.{◌≡◌, ◌≢◌, ◌↔◌, ◌⊎◌, ◌<◌, ◌≤◌, ◌+◌, ℕ, zero, suc, Bool, true, false, List, [], ◌∷◌, ◌++◌, length, map, take, get_or, replicate, slice_get, IsTrue, Option, Some, is_some, option_map, Bor, refl, sym, ap, subst, inl, inr, ◌∙◌, arith}
-use Rattle.std.proofs.lemmas.{Bool.false≢true, Bool.cases_lt, List.length-map, List.map_push, List.take_all, List.get_or-take, List.get_or_append_left, List.length-append, List.length-take-le, List.take-map, List.take-take}
-use Rattle.std.proofs.lemmas.{List.take_at, Map.Made.is_some-lookup}
-use Rattle.std.specs.{BTreeMap.BTreeMap, BTreeSet.BTreeSet, BTreeSet.btree_set_len, Map.Iter.deref_pair}
+use Rattle.std.proofs.Common.{◌≡◌, ◌≢◌, ◌↔◌, ◌⊎◌, ◌<◌, ◌≤◌, ◌+◌, ℕ, zero, suc, Bool, true, false, List, [], ◌∷◌, ◌++◌, length, map, take, get_or, replicate, slice_get, IsTrue, Option, Some, None, is_some, option_map, Bor, refl, sym, ap}
+use Rattle.std.proofs.Common.{subst, inl, inr, ◌∙◌, arith, if◌then◌else◌}
+use Rattle.std.proofs.lemmas.{Bool.false≢true, Bool.cases_lt, Bool.cases_eq, List.length-map, List.map_push, List.take_all, List.get_or-take, List.get_or_append_left, List.length-append, List.length-take-le, List.take-map, List.take-take}
+use Rattle.std.{proofs.lemmas.List.take_at, proofs.lemmas.List.get_or_past, proofs.lemmas.Map.Made.is_some-lookup, proofs.Math.Seq.get_or-append_seam}
+use Rattle.std.specs.{BTreeMap.BTreeMap, BTreeSet.BTreeSet, BTreeSet.btree_set_len, Map.Iter.deref_pair, Option.option_map_or}
 use Rattle.cargo_toml_graph.specs.{Ascending.Ascend, Action.Text, Graph.IsPlain, Reach.Among}
 use Rattle.cargo_toml_features.specs.{Places.nth_text, declared.features.DepAction.DepAction, declared.features.Feature.Feature, Views.action_at, Views.action_of, Views.set_has, InOrder.names_of}
-use Rattle.cargo_toml_features.proofs.{Places.among_at, Places.once, TextKeys.none_in}
-use Rattle.cargo_toml_resolve.specs.{Numbers.IsWanted, Enabling.LeadsTo, Numbering.Gains, Numbering.HasNames, Numbering.IsTarget, Numbering.AreTextsOf, Numbering.Extends, Numbering.IsNodeOf, Texts.texts_now}
-use Rattle.cargo_toml_resolve.proofs.{Steps.among_all, Steps.among_more, Steps.among_taken, InOrder.among_keys, InOrder.all_seen, InOrder.among_push, InOrder.seen, InOrder.seen_push, Learning.no_keys}
+use Rattle.cargo_toml_features.proofs.{ByPlace.among_at, ByPlace.once, TextKeys.none_in}
+use Rattle.cargo_toml_resolve.specs.{Numbers.IsWanted, Numbers.Leads, Numbers.row_items, Enabling.LeadsTo, Numbering.Gains, Numbering.HasNames, Numbering.IsTarget, Numbering.AreTextsOf, Numbering.Extends, Numbering.IsNodeOf}
+use Rattle.cargo_toml_resolve.specs.{Numbering.AreRead, Parts.deeds_of, Parts.place_names, Texts.texts_now, NumberedTables.IsNaming}
+use Rattle.cargo_toml_resolve.proofs.{Steps.among_more, Steps.among_push, InOrder.among_keys, InOrder.all_seen, InOrder.seen, InOrder.seen_push, Learning.no_keys}
 
 -- nothing is gained
 pub none_gained : (n own : ℕ) (P : ℕ → Type 0) (row : List ℕ) → ((x : ℕ) → ¬ P x) → Gains n own P row row
@@ -32,9 +34,6 @@ module _ (n own : ℕ) (nodes : List ℕ) (i node : ℕ) (old row : List ℕ) (l
 
   pub node_left : ¬ ((node < n) × (node ≢ own)) → Gains n own (Among (take (i + 1) nodes)) old row
   node_left bad x = grind (arith, among_more)
-
-pub nodes_gained : (n own : ℕ) (nodes : List ℕ) (i : ℕ) (old new : List ℕ) → length nodes ≤ i → Gains n own (Among (take i nodes)) old new → Gains n own (Among nodes) old new
-nodes_gained n own nodes i old new le h x = grind (arith, among_taken, among_all)
 
 -- rows that gain features
 module _ (keys : List (Bor Text)) (own : ℕ) where
@@ -120,7 +119,7 @@ all_kept flags first mid new size k fits none joined filled i = grind (arith, ta
 -- the row of one feature is that of its place
 pub target_is : (vs : List Feature) (keys : List Text) (own : ℕ) (v : Feature) (row : List ℕ) → slice_get vs own ≡ Some v
     → Gains (length vs) own (λ x. LeadsTo v (nth_text keys x)) [] row → (x : ℕ) → Among row x ↔ ((x < length vs) × IsTarget vs keys own x)
-target_is vs keys own v row there h x = grind arith
+target_is vs keys own v row there h x = subst (λ o. Among row x ↔ ((x < length vs) × ((x ≢ own) × (IsTrue (option_map_or (λ d. set_has d.0 (nth_text keys x)) (option_map deeds_of o) false) ⊎ IsPlain (option_map_or (λ d. action_at d.1 (nth_text keys x)) (option_map deeds_of o) None))))) (sym there) (grind (arith, h x))
 
 pub extends_none : (n : ℕ) (ts : List Text) → Extends n ts ts
 extends_none n ts = record { front = take_all (length ts) ts (omega arith); apart = λ j le lt. absurd (omega (arith, le, lt)) }
@@ -159,12 +158,8 @@ extends_push n ts name other = record {
   front = take_at ts (name ∷ []) (length ts) refl;
   apart = λ j le lt.
       let at : j ≡ length ts = omega (arith, length-append ts (name ∷ []), le, lt) in
-      subst (λ k. ¬ Among (take n ts) k) (sym (ap (nth_text (ts ++ name ∷ [])) at ∙ last ts)) other;
+      subst (λ k. ¬ Among (take n ts) k) (sym (ap (nth_text (ts ++ name ∷ [])) at ∙ get_or-append_seam ts name [] [])) other;
 }
-  where
-    last : (us : List Text) → nth_text (us ++ name ∷ []) (length us) ≡ name
-    last [] = refl
-    last (u ∷ us) = last us
 
 -- the node of a name is that of a key, or stands at the end
 pub node_found : (n : ℕ) (ts : List Text) (name : Text) (i : ℕ) → n ≤ length ts → Ascend (take n ts) → i < n → nth_text ts i ≡ name → IsNodeOf n ts name i
@@ -173,13 +168,9 @@ node_found n ts name i fits up lt is = grind (arith, length-take-le n ts fits, o
 pub node_pushed : (n : ℕ) (ts : List Text) (name : Text) → n ≤ length ts → ¬ Among (take n ts) name → IsNodeOf n (ts ++ name ∷ []) name (length ts)
 node_pushed n ts name fits other = record {
   inside = let long = length-append ts (name ∷ []) in omega (arith, long);
-  text = last ts;
+  text = get_or-append_seam ts name [] [];
   key = λ i lt is. grind (arith, get_or-take n ts i, get_or_append_left ts (name ∷ []), among_at (take n ts) i, length-take-le n ts fits);
 }
-  where
-    last : (us : List Text) → nth_text (us ++ name ∷ []) (length us) ≡ name
-    last [] = refl
-    last (u ∷ us) = last us
 
 -- no name yet, one more, and all of a set
 pub names_none : (n : ℕ) (ts : List Text) (row : List ℕ) → row ≡ [] → HasNames n ts (Among (seen [])) row
@@ -207,3 +198,104 @@ module _ (vs : List Feature) (texts : List Text) (h : AreTextsOf vs texts) where
   -- a feature's number is its place
   pub key_text : (i : ℕ) → i < length vs → nth_text texts i ≡ nth_text (names_of vs) i
   key_text i lt = sym (get_or-take (length vs) texts i [] lt) ∙ ap (λ ks. nth_text ks i) h.keys
+
+-- ---- rows that are put one after another, and those of features
+-- what stands in a row once one more is put at the end
+list_push : (rows : List (List ℕ)) (row : List ℕ) (a b : ℕ) → Leads (rows ++ row ∷ []) a b ↔ (((a < length rows) × Leads rows a b) ⊎ ((a ≡ length rows) × Among row b))
+list_push rows row a b = grind (arith, cases_lt a (length rows), cases_eq a (length rows), get_or_append_left rows (row ∷ []), get_or-append_seam rows row [], get_or_past (rows ++ row ∷ []) a, length-append rows (row ∷ []))
+
+-- the first n rows hold what P says
+abbrev pub IsFilled : (ℕ → ℕ → Type 0) → ℕ → List (List ℕ) → Type 0
+IsFilled P n rows = (length rows ≡ n) × ((a b : ℕ) → a < n → Leads rows a b ↔ P a b)
+
+pub none_filled : (P : ℕ → ℕ → Type 0) (rows : List (List ℕ)) → rows ≡ [] → IsFilled P 0 rows
+none_filled P rows is = (ap length is, λ a b lt. absurd (omega (arith, lt)))
+
+pub one_more_filled : (P : ℕ → ℕ → Type 0) (n : ℕ) (rows : List (List ℕ)) (row : List ℕ) → IsFilled P n rows → ((b : ℕ) → Among row b ↔ P n b) → IsFilled P (n + 1) (rows ++ row ∷ [])
+one_more_filled P n rows row h is = grind (arith, length-append rows (row ∷ []), list_push, cases_eq)
+
+-- where the features lead
+abbrev pub Targets : List Feature → ℕ → ℕ → Type 0
+Targets vs i x = (x < length vs) × IsTarget vs (names_of vs) i x
+
+-- what the feature in place i names
+abbrev pub Names : List Feature → ℕ → Text → Type 0
+Names vs i k = IsTrue (place_names vs i k)
+
+-- the rows of the first n features
+pub record RowsSoFar (vs : List Feature) (flags : List Bool) (n : ℕ) (texts : List Text) (edges names : List (List ℕ)) : Type 0 where
+  pub texts_of : AreTextsOf vs texts
+  pub edges_are : IsFilled (Targets vs) n edges
+  pub names_len : length names ≡ n
+  pub names_are : (i : ℕ) → i < n → IsNaming edges flags i → HasNames (length vs) texts (Names vs i) (row_items names i)
+  pub inside : (i x : ℕ) → Leads names i x → x < length texts
+
+row_push : (rows : List (List ℕ)) (row : List ℕ) (i : ℕ) → i ≡ length rows → row_items (rows ++ row ∷ []) i ≡ row
+row_push rows row i at = ap (row_items (rows ++ row ∷ [])) at ∙ get_or-append_seam rows row [] []
+
+row_old : (rows : List (List ℕ)) (row : List ℕ) (i : ℕ) → i < length rows → row_items (rows ++ row ∷ []) i ≡ row_items rows i
+row_old rows row i lt = get_or_append_left rows (row ∷ []) [] i lt
+
+pub no_rows : (vs : List Feature) (flags : List Bool) (texts : List Text) (edges names : List (List ℕ)) → texts ≡ names_of vs → edges ≡ [] → names ≡ [] → RowsSoFar vs flags 0 texts edges names
+no_rows vs flags texts edges names are none none' = grind (arith, length-map, take_all, none_filled)
+
+module _ (vs : List Feature) (flags : List Bool) (n : ℕ) (texts : List Text) (edges names : List (List ℕ)) (h : RowsSoFar vs flags n texts edges names) (v : Feature) (below : n < length vs) (there : slice_get vs n ≡ Some v) where
+  fits : length vs ≤ length texts
+  fits = keys_fit vs texts h.texts_of
+
+  names_here : (k : Text) → IsTrue (set_has v.enables_features k) ↔ Names vs n k
+  names_here k = subst (λ o. IsTrue (set_has v.enables_features k) ↔ IsTrue (option_map_or (λ d. set_has d.0 k) (option_map deeds_of o) false)) (sym there) (λ y. y, λ y. y)
+
+  -- one more, whose names are put if they are asked for
+  pub one_more_read : (new : List Text) (row named : List ℕ) (is_asked : Bool) → Extends (length vs) texts new → Gains (length vs) n (λ x. LeadsTo v (nth_text texts x)) [] row
+      → HasNames (length vs) new (λ k. IsTrue (set_has v.enables_features k)) named → (IsWanted flags true n ⊎ ((x : ℕ) × Among row x × IsWanted flags true x) → IsTrue is_asked)
+      → RowsSoFar vs flags (n + 1) new (edges ++ row ∷ []) (names ++ (if is_asked then named else []) ∷ [])
+  one_more_read new row named is_asked more gains has asked = record {
+    texts_of = record {
+      keys = front_still (length vs) texts new more fits ∙ h.texts_of.keys;
+      apart = λ j le lt. elim (cases_lt j (length texts)) [
+        | inl early ↦ subst (λ k. ¬ Among (names_of vs) k) (sym (nth_still (length vs) texts new more j early)) (h.texts_of.apart j le early)
+        | inr late ↦ subst (λ ks. ¬ Among ks (nth_text new j)) h.texts_of.keys (more.apart j late lt)
+      ];
+    };
+    edges_are = one_more_filled (Targets vs) n edges row h.edges_are (target_is vs (names_of vs) n v row there
+        (gained_alike (length vs) (length vs) n (λ x. LeadsTo v (nth_text texts x)) (λ x. LeadsTo v (nth_text (names_of vs) x)) [] row refl
+        (λ x lt. subst (λ k. LeadsTo v (nth_text texts x) ↔ LeadsTo v k) (key_text vs texts h.texts_of x lt) (λ l. l, λ l. l)) gains));
+    names_len = let l = length-append names ((if is_asked then named else []) ∷ []) in let e = h.names_len in omega (arith, l, e);
+    names_are = λ i lt is. elim (cases_eq i n) [
+      | inl at ↦
+          let yes : is_asked ≡ true = asked (elim is [
+            | inl w ↦ inl (subst (IsWanted flags true) at w)
+            | inr b ↦ inr (b.0, subst (λ r. Among r b.0) (row_push edges row i (at ∙ sym h.edges_are.0)) b.1, b.2)
+          ]) in
+          subst (HasNames (length vs) new (Names vs i)) (sym (row_push names (if is_asked then named else []) i (at ∙ sym h.names_len)))
+          (subst (λ k. HasNames (length vs) new (Names vs k) (if is_asked then named else [])) (sym at)
+          (subst (λ b. HasNames (length vs) new (Names vs n) (if b then named else [])) (sym yes) (names_alike (length vs) new (λ k. IsTrue (set_has v.enables_features k)) (Names vs n) named names_here has)))
+      | inr other ↦
+          let early : i < n = omega (arith, lt, other) in
+          let old = h.names_are i early (elim is [
+            | inl w ↦ inl w
+            | inr b ↦ inr (b.0, subst (λ r. Among r b.0) (row_old edges row i (subst (λ k. i < k) (sym h.edges_are.0) early)) b.1, b.2)
+          ]) in
+          subst (HasNames (length vs) new (Names vs i)) (sym (row_old names (if is_asked then named else []) i (subst (λ k. i < k) (sym h.names_len) early)))
+          (names_still (length vs) texts new more (Names vs i) (row_items names i) fits old)
+    ];
+    inside = λ i x l. elim (cases_lt i (length names)) [
+      | inl early ↦ let lt = h.inside i x (subst (λ r. Among r x) (row_old names (if is_asked then named else []) i early) l) in let long = longer (length vs) texts new more in omega (arith, lt, long)
+      | inr late ↦ grind (arith, cases_eq, row_push, length-append, get_or_past)
+    ];
+  }
+    where
+      bound : (b : Bool) (x : ℕ) → Among (if b then named else []) x → x < length new
+      bound b x i = grind arith
+
+  -- one that leads nowhere
+  pub none_read : ((x : Text) → ¬ LeadsTo v x) → RowsSoFar vs flags (n + 1) texts (edges ++ [] ∷ []) (names ++ [] ∷ [])
+  none_read none = one_more_read texts [] [] true (extends_none (length vs) texts)
+      (λ x. (λ i. inl i, elim [ inl i ↦ i | inr t ↦ absurd (none (nth_text texts x) t.2) ]))
+      (record { inside = λ x i. absurd i; only = λ x i. absurd i; all = λ k y. absurd (none k (inl y)); keys = λ x lt y. absurd (none (nth_text texts x) (inl y)) })
+      (λ w. refl)
+
+-- all of them
+pub all_read : (vs : List Feature) (flags : List Bool) (texts : List Text) (edges names : List (List ℕ)) → RowsSoFar vs flags (length vs) texts edges names → AreRead vs flags texts edges names
+all_read vs flags texts edges names h = grind arith

@@ -1,9 +1,7 @@
 -- Rows in one list stay while more is put at its end.
-use Rattle.std.proofs.Common.{◌≡◌, ◌-◌, ◌<◌, ◌≤◌, ℕ, zero, suc, List, [], ◌∷◌, ◌++◌, length, get_or, set, refl, sym, ap, subst, ◌∙◌, arith, length-append, length-drop}
-use Rattle.std.proofs.lemmas.List.{take-append-le, drop-append-le, map-append, map-set, length-map, take_all}
-use Rattle.std.proofs.Math.Seq.{drop-append_seam}
-use Rattle.std.specs.List.{slice_range}
-use Rattle.cargo_toml_resolve.specs.{declared.span.Span.Span, Spans.AreInside, Spans.rows_in}
+use Rattle.std.proofs.Common.{◌≡◌, ◌<◌, ◌≤◌, ℕ, zero, suc, List, [], ◌∷◌, ◌++◌, length, get_or, set, refl, sym, ap, subst, ◌∙◌, arith, length-append, length-drop}
+use Rattle.std.{proofs.lemmas.List.take-append-le, proofs.lemmas.List.drop-append-le, proofs.lemmas.List.map-append, proofs.lemmas.List.map-set, proofs.lemmas.List.length-map, proofs.lemmas.List.take_all, proofs.Math.Seq.drop-append_seam}
+use Rattle.{std.specs.List.slice_range, cargo_toml_resolve.specs.declared.span.Span.Span, cargo_toml_resolve.specs.Spans.AreInside, cargo_toml_resolve.specs.Spans.rows_in}
 
 inside_more : (n m : ℕ) (ss : List Span) → n ≤ m → AreInside n ss → AreInside m ss
 inside_more n m [] le h = tt

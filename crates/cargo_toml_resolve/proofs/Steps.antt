@@ -1,65 +1,30 @@
 -- Steps of a walk over numbers, by marks, and the walk.
-use Rattle.std.proofs.Common.{◌≡◌, ◌≢◌, ◌⊎◌, ◌↔◌, ◌<◌, ◌≤◌, ◌+◌, ℕ, zero, suc, Bool, true, false, List, [], ◌∷◌, ◌++◌, take, length, get_or, set, Vec, refl, sym, ap, subst, inl, inr, ◌∙◌, arith, add-one, length-append, length-set, map, replicate, nat_eq}
-use Rattle.std.proofs.lemmas.{Bool.cases_eq, List.get_or-set_same, List.get_or-set_other, List.take-append-le, List.map-set, List.Sums.sum_by-set, Bool.Decides.nat_tests}
-use Rattle.cargo_toml_graph.specs.{Reach.Among, Reach.Reaches, Reach.Reaches.edge, Reach.Reaches.through}
-use Rattle.cargo_toml_graph.proofs.Closure.{chained}
-use Rattle.cargo_toml_resolve.specs.{Bits.words_of, Numbers.AreMarked, Numbers.FindsNamed, Numbers.IsWanted, Numbers.Leads, Numbers.IsPassed}
+use Rattle.std.proofs.Common.{◌≡◌, ◌≢◌, ◌⊎◌, ◌↔◌, ◌<◌, ◌≤◌, ◌+◌, ℕ, zero, suc, Bool, true, false, List, [], ◌∷◌, ◌++◌, take, length, get_or, set, Vec, refl, sym, ap, subst, inl, inr, ◌∙◌, arith, length-append, length-set, map, replicate}
+use Rattle.{std.proofs.Common.nat_eq, std.proofs.lemmas.Option.get_or_from_slice_get, std.proofs.lemmas.Option.slice_get_read, std.specs.Option.option_map_or}
+use Rattle.std.proofs.lemmas.{Bool.cases_eq, Bool.cases_lt, List.get_or-set_same, List.get_or-set_other, List.get_or_past, List.take-append-le, List.take_all, List.take_more, List.map-set, List.Sums.sum_by-set, Bool.Decides.nat_tests}
+use Rattle.cargo_toml_graph.specs.{Reach.Among, Reach.Reaches, Reach.GathersLabel, Reach.Gathers, Reach.Reaches.edge, Reach.Reaches.through}
+use Rattle.cargo_toml_graph.proofs.{BinLists.among-either, BinLists.among-first, BinLists.among-second, Closure.chained}
+use Rattle.cargo_toml_resolve.specs.{Bits.words_of, Numbers.AreMarked, Numbers.FindsNamed, Numbers.IsWanted, Numbers.Leads, Numbers.IsPassed, Numbers.HasLabel}
+use Rattle.cargo_toml_features.proofs.ByPlace as places
 
-pub among_first : (xs ys : List ℕ) (x : ℕ) → Among xs x → Among (xs ++ ys) x
-among_first [] ys x i = absurd i
-among_first (z ∷ xs) ys x (inl i) = inl i
-among_first (z ∷ xs) ys x (inr i) = inr (among_first xs ys x i)
-
-pub among_last : (xs : List ℕ) (x : ℕ) → Among (xs ++ x ∷ []) x
-among_last [] x = inl refl
-among_last (z ∷ xs) x = inr (among_last xs x)
-
-pub among_either : (xs : List ℕ) (y x : ℕ) → Among (xs ++ y ∷ []) x → Among xs x ⊎ (x ≡ y)
-among_either [] y x (inl i) = inr i
-among_either [] y x (inr i) = absurd i
-among_either (z ∷ xs) y x (inl i) = inl (inl i)
-among_either (z ∷ xs) y x (inr i) = elim (among_either xs y x i) [ inl j ↦ inl (inr j) | inr j ↦ inr j ]
-
-more_by_suc : (xs : List ℕ) (i v : ℕ) → i < length xs → Among (take (suc i) xs) v ↔ (Among (take i xs) v ⊎ (v ≡ get_or xs i 0))
-more_by_suc [] i v lt = absurd (omega arith)
-more_by_suc (x ∷ xs) zero v lt = (elim [ inl e ↦ inr e | inr a ↦ absurd a ], elim [ inl a ↦ absurd a | inr e ↦ inl e ])
-more_by_suc (x ∷ xs) (suc i) v lt =
-    let more = more_by_suc xs i v (omega arith) in (
-      elim [ inl e ↦ inl (inl e) | inr a ↦ elim (more.0 a) [ inl a ↦ inl (inr a) | inr e ↦ inr e ] ],
-      elim [ inl a ↦ elim a [ inl e ↦ inl e | inr a ↦ inr (more.1 (inl a)) ] | inr e ↦ inr (more.1 (inr e)) ],
-    )
+pub among_push : {K : Type 0} (xs : List K) (y x : K) → Among (xs ++ y ∷ []) x ↔ (Among xs x ⊎ (x ≡ y))
+among_push xs y x = (
+  λ i. elim (among-either xs (y ∷ []) x i) [ inl j ↦ inl j | inr j ↦ elim j [ inl e ↦ inr e | inr n ↦ absurd n ] ],
+  elim [ inl j ↦ among-first xs (y ∷ []) x j | inr e ↦ among-second xs (y ∷ []) x (inl e) ],
+)
 
 pub among_more : (xs : List ℕ) (i v : ℕ) → i < length xs → Among (take (i + 1) xs) v ↔ (Among (take i xs) v ⊎ (v ≡ get_or xs i 0))
-among_more xs i v lt = subst (λ n. Among (take n xs) v ↔ (Among (take i xs) v ⊎ (v ≡ get_or xs i 0))) (sym (add-one i)) (more_by_suc xs i v lt)
+among_more xs i v lt = subst (λ ys. Among ys v ↔ (Among (take i xs) v ⊎ (v ≡ get_or xs i 0))) (sym (take_more xs i 0 lt)) (among_push (take i xs) (get_or xs i 0) v)
 
 pub among_at : (xs : List ℕ) (i : ℕ) → i < length xs → Among xs (get_or xs i 0)
-among_at [] i lt = absurd (omega arith)
-among_at (x ∷ xs) zero lt = inl refl
-among_at (x ∷ xs) (suc i) lt = inr (among_at xs i (omega arith))
-
--- the whole list
-pub among_all : (xs : List ℕ) (n v : ℕ) → length xs ≤ n → Among xs v → Among (take n xs) v
-among_all [] n v le i = absurd i
-among_all (x ∷ xs) zero v le i = absurd (omega arith)
-among_all (x ∷ xs) (suc n) v le (inl e) = inl e
-among_all (x ∷ xs) (suc n) v le (inr i) = inr (among_all xs n v (omega arith) i)
-
-pub among_taken : (xs : List ℕ) (n v : ℕ) → Among (take n xs) v → Among xs v
-among_taken xs zero v i = absurd i
-among_taken [] (suc n) v i = absurd i
-among_taken (x ∷ xs) (suc n) v (inl e) = inl e
-among_taken (x ∷ xs) (suc n) v (inr i) = inr (among_taken xs n v i)
+among_at xs i lt = places.among_at xs i 0 lt
 
 -- what is read within a list is what stands there, whatever the default
 pub read_at : {X : Type 0} (xs : List X) (i : ℕ) (d x : X) → i < length xs → x ≡ get_or xs i x → get_or xs i d ≡ x
-read_at [] i d x lt e = absurd (omega arith)
-read_at (y ∷ ys) zero d x lt e = sym e
-read_at (y ∷ ys) (suc i) d x lt e = read_at ys i d x (omega arith) e
+read_at xs i d x lt e = get_or_from_slice_get xs i x d (slice_get_read xs (length xs) i x refl lt e)
 
 pub list_read : {Z : Type 0} (edges : List (Vec ℕ Z)) (i : ℕ) (v : Vec ℕ Z) → i < length edges → v ≡ get_or edges i v → words_of edges i ≡ v.items
-list_read [] i v lt e = absurd (omega arith)
-list_read (y ∷ ys) zero v lt e = ap (λ w. w.items) (sym e)
-list_read (y ∷ ys) (suc i) v lt e = list_read ys i v (omega arith) e
+list_read edges i v lt e = ap (λ o. option_map_or (λ w. w.items) o []) (slice_get_read edges (length edges) i v refl lt e)
 
 -- an element of a list, and its place
 pub item_is : (xs : List ℕ) (i x : ℕ) → i < length xs → x ≡ get_or xs i x → x ≡ get_or xs i 0
@@ -74,9 +39,7 @@ row_read rows i p v lt at is = list_read rows i v lt (subst (λ n. v ≡ get_or 
 
 -- a row past the end is empty
 pub has_row : (rows : List (List ℕ)) (a b : ℕ) → Leads rows a b → a < length rows
-has_row [] a b i = absurd i
-has_row (y ∷ rows) zero b i = omega arith
-has_row (y ∷ rows) (suc a) b i = let lt = has_row rows a b i in omega (arith, lt)
+has_row rows a b i = grind (arith, cases_lt a (length rows), get_or_past rows a)
 
 pub no_visit : (found : List ℕ) (marks : List Bool) → AreMarked found marks → FindsNamed (λ y. ⊥) found found marks marks
 no_visit found marks are = grind arith
@@ -84,7 +47,7 @@ no_visit found marks are = grind arith
 module _ (x : ℕ) (found : List ℕ) (met : List Bool) (marks : AreMarked found met) (inside : x < length met) where
   -- x was not met
   pub is_new : get_or met x false ≡ false → (met' : List Bool) → met' ≡ set met x true → FindsNamed (λ y. y ≡ x) found (found ++ x ∷ []) met met'
-  is_new new met' is = grind (arith, cases_eq, among_either, among_first, among_last, take-append-le, length-append, length-set, get_or-set_same, get_or-set_other, sum_by-set)
+  is_new new met' is = grind (arith, cases_eq, among_push, take-append-le, length-append, length-set, get_or-set_same, get_or-set_other, sum_by-set)
 
 -- one visit after another
 pub then_visit : (A B C : ℕ → Type 0) (f0 f1 f2 : List ℕ) (m0 m1 m2 : List Bool) → ((y : ℕ) → C y ↔ (A y ⊎ B y)) → FindsNamed A f0 f1 m0 m1 → FindsNamed B f1 f2 m1 m2 → FindsNamed C f0 f2 m0 m2
@@ -148,7 +111,7 @@ module _ (edges : List (List ℕ)) (flags : List Bool) (start : ℕ) where
     where
       all : {a b : ℕ} → ((y : ℕ) → Leads edges a y → IsWanted flags true y → Among found y) → Reaches (Leads edges) (IsWanted flags true) a b → IsWanted flags true b → Among found b
       all {b} out (edge l) r = out b l r
-      all out (through {b = c} l s p) r = all (λ y m t. w.closed c y (among_all found next c le (out c l s)) m t) p r
+      all out (through {b = c} l s p) r = all (λ y m t. w.closed c y (subst (λ ys. Among ys c) (sym (take_all next found le)) (out c l s)) m t) p r
 
 -- where a path ends
 pub path_inside : {E : ℕ → ℕ → Type 0} {S : ℕ → Type 0} {a b : ℕ} (bound : ℕ) → ((a b : ℕ) → E a b → b < bound) → Reaches E S a b → b < bound
@@ -177,3 +140,41 @@ none_at_first (suc n) = ap (λ l. false ∷ l) (none_at_first n)
 
 pub one_marked : (ss : List ℕ) (x s e : ℕ) → s ≡ e → marks_at e (set ss x s) ≡ set (marks_at e ss) x true
 one_marked ss x s e is = grind (arith, nat_tests, map-set (λ z. nat_eq z e) ss x s)
+
+-- ---- the labels of a list of vertices, one vertex after another, and a path by its last edge
+module _ {K : Type 0} (E : K → K → Type 0) (S : K → Type 0) where
+  -- a path is its last edge, from a gathered vertex
+  pub last_edge : {a f : K} → Reaches E S a f → (b : K) × Gathers E S a b × E b f
+  last_edge {a} (edge e) = (a, inl refl, e)
+  last_edge {a} (through {b = c} e s p) =
+      let l = last_edge p in
+      (l.0, elim (l.1) [ inl same ↦ inr (subst S (sym same) s, subst (λ v. Reaches E S a v) (sym same) (edge e)) | inr g ↦ inr (g.0, through e s g.1) ], l.2)
+
+  pub with_last : {a b f : K} → Gathers E S a b → E b f → Reaches E S a f
+  with_last {f} (inl same) l = edge (subst (λ v. E v f) same l)
+  with_last (inr g) l = chained S g.1 g.0 (edge l)
+
+module _ (labels : List (List ℕ)) (flags : List Bool) (wanted : Bool) where
+  abbrev pub Labelled : (ℕ → Type 0) → ℕ → Type 0
+  Labelled From x = ((b : ℕ) × From b × Leads labels b x) × IsWanted flags wanted x
+
+  module _ (passed : List ℕ) (i : ℕ) where
+    pub one_more_list : i < length passed → (f0 f1 f2 : List ℕ) (m0 m1 m2 : List Bool) → FindsNamed (Labelled (Among (take i passed))) f0 f1 m0 m1
+        → FindsNamed (λ y. Leads labels (get_or passed i 0) y × IsWanted flags wanted y) f1 f2 m1 m2 → FindsNamed (Labelled (Among (take (i + 1) passed))) f0 f2 m0 m2
+    one_more_list lt f0 f1 f2 m0 m1 m2 v w = grind (arith, then_visit, among_more)
+
+  pub begin_list : (passed found : List ℕ) (met : List Bool) → AreMarked found met → FindsNamed (Labelled (Among (take 0 passed))) found found met met
+  begin_list passed found met marks = alike (λ y. ⊥) (Labelled (Among (take 0 passed))) found found met met (λ y. (λ n. absurd n, λ n. absurd n.0.1)) (no_visit found met marks)
+
+-- what a vertex and those that it passes have, it gathers along its paths
+module _ (edges : List (List ℕ)) (flags : List Bool) (labels : List (List ℕ)) (Passed : ℕ → Type 0) (a : ℕ) (is : (b : ℕ) → Passed b ↔ IsPassed edges flags a b) (x : ℕ) where
+  pub gathered : HasLabel Passed labels flags a x ↔ (GathersLabel (Leads edges) (IsWanted flags true) (Leads labels) a x × IsWanted flags false x)
+  gathered = grind arith
+
+-- those that a vertex and the ones that it passes lead to, it reaches
+pub reached : (edges : List (List ℕ)) (flags : List Bool) (Passed : ℕ → Type 0) (a : ℕ) → ((b : ℕ) → Passed b ↔ IsPassed edges flags a b) → (x : ℕ) → HasLabel Passed edges flags a x ↔ (IsWanted flags false x × Reaches (Leads edges) (IsWanted flags true) a x)
+reached edges flags Passed a is x =
+    let g = gathered edges flags edges Passed a is x in (
+      λ h. let k = g.0 h in (k.1, with_last (Leads edges) (IsWanted flags true) k.0.1 k.0.2),
+      λ p. g.1 (last_edge (Leads edges) (IsWanted flags true) p.1, p.0),
+    )

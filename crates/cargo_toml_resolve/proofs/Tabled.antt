@@ -1,12 +1,10 @@
 -- Bits of words, and tables of bits, row after row.
-use Rattle.std.proofs.Common.{◌≡◌, ◌≢◌, ◌↔◌, ◌⊎◌, ◌<◌, ◌≤◌, ◌+◌, ◌*◌, ℕ, zero, suc, Bool, List, [], ◌∷◌, ◌++◌, take, length, get_or, set, Vec, refl, sym, ap, subst, inl, inr, ◌∙◌, arith, length-append, length-set, ◌/◌, ◌%◌, ◌^◌, max, w64}
-use Rattle.std.proofs.lemmas.{Bool.cases_eq, Bool.cases_lt, List.get_or_past, List.get_or-set_same, List.get_or-set_other, Nat.Bits.bit_at_or, Nat.Bits.bit_at-zero, Nat.Bits.bit_at-lt, Nat.Bits.bit_at_set_same}
-use Rattle.std.proofs.lemmas.{Nat.Bits.bit_at_set_other}
-use Rattle.std.specs.Int.{bit_at}
-use Rattle.std.specs.Prelude.{bit_or}
+use Rattle.std.proofs.Common.{◌≡◌, ◌≢◌, ◌↔◌, ◌⊎◌, ◌<◌, ◌≤◌, ◌+◌, ◌*◌, ℕ, Bool, List, [], ◌∷◌, ◌++◌, take, length, get_or, set, Vec, sym, ap, subst, inl, inr, ◌∙◌, arith, length-append, length-set, ◌/◌, ◌%◌, ◌^◌, max, w64}
+use Rattle.std.proofs.lemmas.{Bool.cases_eq, Bool.cases_lt, List.get_or_past, List.get_or-set_same, List.get_or-set_other, List.get_or_append_left, Nat.Bits.bit_at_or, Nat.Bits.bit_at-zero, Nat.Bits.bit_at-lt, Nat.Bits.bit_at_set_same}
+use Rattle.std.{proofs.lemmas.Nat.Bits.bit_at_set_other, proofs.lemmas.Option.slice_get-get_or, proofs.lemmas.Option.slice_get_past, proofs.Math.Seq.get_or-append_seam, specs.Option.option_map_or, specs.Int.bit_at, specs.Prelude.bit_or}
 use Rattle.cargo_toml_graph.specs.Reach.{Among}
 use Rattle.cargo_toml_resolve.specs.{Bits.AreWide, Bits.Gains, Bits.HasBit, Bits.Holds, Bits.words_of, Dense.IsTable, Numbers.IsWanted}
-use Rattle.cargo_toml_resolve.proofs.Steps.{among_more, row_read, among_either, among_first, among_last, read_at}
+use Rattle.cargo_toml_resolve.proofs.{InPlace.set_here, InPlace.set_others, Steps.among_more, Steps.among_push, Steps.read_at, Steps.row_read}
 
 -- past the last word there is no bit
 pub no_bit_past : (words : List ℕ) (x : ℕ) → length words ≤ x / 64 → ¬ HasBit words x
@@ -65,37 +63,26 @@ put_at words x p old at inside is = grind (arith, read_at words (x / 64) 0 old i
 -- the numbers below n of which P holds, once n is looked at
 module _ (P : ℕ → Type 0) (row : List ℕ) (n : ℕ) (is : (y : ℕ) → Among row y ↔ ((y < n) × P y)) where
   pub one_more_held : P n → (y : ℕ) → Among (row ++ n ∷ []) y ↔ ((y < n + 1) × P y)
-  one_more_held p y = grind (arith, among_either, cases_eq, among_last, among_first)
+  one_more_held p y = grind (arith, among_push, cases_eq)
 
   pub none_more_held : ¬ P n → (y : ℕ) → Among row y ↔ ((y < n + 1) × P y)
   none_more_held lacks y = grind (arith, cases_eq)
 
 -- a row past the end has no bit
 pub holds_inside : {Z : Type 0} (table : List (Vec ℕ Z)) (a x : ℕ) → Holds table a x → a < length table
-holds_inside [] a x h = absurd (no_bit_past [] x (omega arith) h)
-holds_inside (r ∷ rs) zero x h = omega arith
-holds_inside (r ∷ rs) (suc a) x h = let lt = holds_inside rs a x h in omega (arith, lt)
+holds_inside table a x h = elim (cases_lt a (length table)) [
+  | inl lt ↦ lt
+  | inr ge ↦ absurd (no_bit_past [] x (omega arith) (subst (λ o. HasBit (option_map_or (λ v. v.items) o []) x) (slice_get_past table a ge) h))
+]
 
-pub push_old : {Z : Type 0} (rows : List (Vec ℕ Z)) (v : Vec ℕ Z) (a : ℕ) → a < length rows → words_of (rows ++ v ∷ []) a ≡ words_of rows a
-push_old [] v a lt = absurd (omega arith)
-push_old (r ∷ rs) v zero lt = refl
-push_old (r ∷ rs) v (suc a) lt = push_old rs v a (omega arith)
+words_in : {Z : Type 0} (table : List (Vec ℕ Z)) (a : ℕ) (d : Vec ℕ Z) → a < length table → words_of table a ≡ (get_or table a d).items
+words_in table a d lt = ap (λ o. option_map_or (λ v. v.items) o []) (slice_get-get_or table a d lt)
 
-pub push_new : {Z : Type 0} (rows : List (Vec ℕ Z)) (v : Vec ℕ Z) → words_of (rows ++ v ∷ []) (length rows) ≡ v.items
-push_new [] v = refl
-push_new (r ∷ rs) v = push_new rs v
+push_old : {Z : Type 0} (rows : List (Vec ℕ Z)) (v : Vec ℕ Z) (a : ℕ) → a < length rows → words_of (rows ++ v ∷ []) a ≡ words_of rows a
+push_old rows v a lt = words_in (rows ++ v ∷ []) a v (omega (arith, lt, length-append rows (v ∷ []))) ∙ ap (λ w. w.items) (get_or_append_left rows (v ∷ []) v a lt) ∙ sym (words_in rows a v lt)
 
-pub set_here : {Z : Type 0} (rows : List (Vec ℕ Z)) (v : Vec ℕ Z) (i : ℕ) → i < length rows → words_of (set rows i v) i ≡ v.items
-set_here [] v i lt = absurd (omega arith)
-set_here (r ∷ rs) v zero lt = refl
-set_here (r ∷ rs) v (suc i) lt = set_here rs v i (omega arith)
-
-pub set_other : {Z : Type 0} (rows : List (Vec ℕ Z)) (v : Vec ℕ Z) (i a : ℕ) → a ≢ i → words_of (set rows i v) a ≡ words_of rows a
-set_other [] v i a ne = refl
-set_other (r ∷ rs) v zero zero ne = absurd (ne refl)
-set_other (r ∷ rs) v zero (suc a) ne = refl
-set_other (r ∷ rs) v (suc i) zero ne = refl
-set_other (r ∷ rs) v (suc i) (suc a) ne = set_other rs v i a (λ e. ne (ap suc e))
+push_new : {Z : Type 0} (rows : List (Vec ℕ Z)) (v : Vec ℕ Z) → words_of (rows ++ v ∷ []) (length rows) ≡ v.items
+push_new rows v = words_in (rows ++ v ∷ []) (length rows) v (omega (arith, length-append rows (v ∷ []))) ∙ ap (λ w. w.items) (get_or-append_seam rows v [] v)
 
 -- a table of n rows, which have the bits of which P holds
 pub record IsTabled {Z : Type 0} (P : ℕ → ℕ → Type 0) (width n : ℕ) (table : List (Vec ℕ Z)) : Type 0 where
@@ -131,7 +118,7 @@ module _ {Z : Type 0} (P : ℕ → ℕ → Type 0) (width n : ℕ) (table : List
 module _ {Z : Type 0} (named : List ℕ) (i : ℕ) (Bits : ℕ → Type 0) (t0 t : List (Vec ℕ Z)) (g : Gains (Among (take i named)) Bits t0 t) (lt : i < length named) where
   pub gains_more : (at : ℕ) → at ≡ get_or named i 0 → at < length t → (v : Vec ℕ Z) → length v.items ≡ length (words_of t at) → ((x : ℕ) → HasBit v.items x ↔ (Holds t at x ⊎ Bits x))
       → Gains (Among (take (i + 1) named)) Bits t0 (set t at v)
-  gains_more at is inside v len bits = grind (arith, length-set, cases_eq, set_other, among_more, set_here)
+  gains_more at is inside v len bits = grind (arith, length-set, cases_eq, set_others t at, among_more, set_here t at v inside)
 
 -- a row that is read in its place
 pub row_seen : {Z : Type 0} (table : List (Vec ℕ Z)) (own p : ℕ) (v : Vec ℕ Z) (bits : List ℕ) → p ≡ own → own < length table → v ≡ get_or table p v → bits ≡ v.items → bits ≡ words_of table own

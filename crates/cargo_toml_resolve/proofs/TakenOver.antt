@@ -1,36 +1,76 @@
--- What kept features take over, and what enables them, one feature after another.
-use Rattle.std.proofs.Common.{◌≡◌, ◌≢◌, ◌⊎◌, ◌↔◌, ◌<◌, ◌≤◌, ◌+◌, ℕ, Bool, true, false, List, [], length, get_or, Some, Bor, IsTrue, refl, sym, ap, subst, inl, inr, ◌∙◌, arith}
-use Rattle.std.proofs.lemmas.{Bool.cases_Bool, Bool.cases_eq, Bool.cases_lt, Bool.false≢true, List.get_or-map, Option.same_Some, Option.slice_get_past}
-use Rattle.std.specs.{BTreeSet.BTreeSet, List.slice_get}
-use Rattle.cargo_toml_graph.specs.{Action.Text, Reach.Among, Reach.Reaches, Reach.Reaches.edge, Reach.Reaches.through}
-use Rattle.cargo_toml_graph.proofs.Joins.{join_alike}
-use Rattle.cargo_toml_features.specs.{Places.nth_text, declared.features.Feature.Feature, InOrder.AreInOrder, InOrder.HaveNoEnablers, Views.set_has}
-use Rattle.cargo_toml_features.proofs.TextKeys.{none_in}
-use Rattle.cargo_toml_resolve.specs.{Numbers.IsPassed, Numbers.IsWanted, Numbers.KeepsLabel, Numbers.Leads, Numbers.PassesAny, Enabling.EnablesThrough, Enabling.GainEnabler, Enabling.LearnThrough}
-use Rattle.cargo_toml_resolve.specs.Holding.{AllTakeOver, HasActions, HasTextsOf, Holds, HoldsTheSame, KeepsOwn, SaysTheSame, TakesOver}
-use Rattle.cargo_toml_resolve.specs.{Holding.action_by, NumberedTables.HasNumber, Holding.ChangesIn, Holding.ComesToHold, Texts.texts_now}
-use Rattle.cargo_toml_resolve.proofs.{InPlace.stands_found, InPlace.stands_in, Learning.nobody_learns, Learning.then_learn, TakingOver.own_actions, TakingOver.there_too, RowsInOrder.none_among}
+-- One feature of a list takes over what those that it passes do.
+use Rattle.std.proofs.Common.{◌≡◌, ◌↔◌, ◌<◌, ◌⊎◌, ℕ, List, [], length, set, get_or, Some, Bor, refl, sym, ap, subst, inl, inr, ◌∙◌, arith, length-set, slice_get, ◌+◌, take, Option, None, false, option_map, ◌≢◌, ◌≤◌, Bool, true}
+use Rattle.std.{proofs.Math.Seq.map-set_same, proofs.lemmas.Option.slice_get_read, proofs.lemmas.Bool.cases_Bool, proofs.lemmas.Bool.cases_eq, proofs.lemmas.Bool.false≢true, proofs.lemmas.List.get_or-map}
+use Rattle.{std.specs.Option.option_map_or, std.specs.BTreeMap.BTreeMap, std.specs.BTreeSet.BTreeSet, cargo_toml_resolve.specs.Texts.texts_now}
+use Rattle.cargo_toml_graph.specs.{Action.Text, Action.Action, Action.IsJoin, Action.join_option, Reach.Among, Reach.Reaches, Reach.Reaches.edge, Reach.Reaches.through}
+use Rattle.cargo_toml_graph.proofs.Joins.{join_alike, join_one, join_halves}
+use Rattle.cargo_toml_features.specs.{declared.features.DepAction.DepAction, declared.features.Feature.Feature, Views.action_at, Views.set_has, Places.nth_text}
+use Rattle.cargo_toml_resolve.specs.{Holding.DoesAt, Holding.ComesToHold, Holding.AllTakeOver, Holding.HasTextsOf, Holding.Holds, Holding.TakesOver, Parts.but_deeds, Parts.deeds_of, Parts.place_action, Parts.place_deeds, Parts.with_said}
+use Rattle.cargo_toml_resolve.specs.{Parts.but_enablers, Parts.place_enabler, Numbers.IsPassed, Numbers.IsWanted, Numbers.KeepsLabel, Numbers.Leads, Numbers.PassesAny, Enabling.EnablesThrough, Enabling.GainEnabler, NumberedTables.HasNumber}
+use Rattle.cargo_toml_resolve.proofs.{InPlace.set_here, InPlace.set_others, InPlace.alike_at, InPlace.alike_len, InPlace.alike_place, InPlace.still_alike, Steps.among_more, Learning.then_each, RowsInOrder.none_among}
+
+-- what stands in a place does
+pub acts_there : (vs : List Feature) (b : ℕ) (v : Feature) → slice_get vs b ≡ Some v → (k : Text) → place_action vs b k ≡ action_at v.enables_deps k
+acts_there vs b v is k = ap (λ o. option_map_or (λ d. action_at d.1 k) (option_map deeds_of o) None) is
+
+-- its map of actions is taken out, the others' are joined to it, and it is put back with other names
+module _ (vs : List Feature) (i : ℕ) (passed : List ℕ) (apart : ¬ Among passed i) (v w : Feature) (lt : i < length vs) (read : v ≡ get_or vs i v)
+    (empty first own : BTreeMap (Bor Text) DepAction) (names : BTreeSet (Bor Text)) (seen : List Feature) (was : first ≡ v.enables_deps) (sees : seen ≡ set vs i (record v { enables_deps = empty }))
+    (again : w ≡ get_or (set vs i (record v { enables_deps = empty })) i w) (joined : (k : Text) → IsJoin (λ a. (action_at first k ≡ Some a) ⊎ DoesAt seen (Among passed) k a) (action_at own k)) where
+  abbrev emptied : Feature
+  emptied = record v { enables_deps = empty }
+
+  abbrev mid : List Feature
+  mid = set vs i emptied
+
+  abbrev put_back : Feature
+  put_back = record w { enables_deps = own; enables_features = names }
+
+  abbrev new : List Feature
+  new = set mid i put_back
+
+  inside : i < length mid
+  inside = subst (λ n. i < n) (sym (length-set vs i emptied)) lt
+
+  here : place_deeds new i ≡ Some (names, own)
+  here = ap (option_map deeds_of) (set_here mid i put_back inside)
+
+  pub comes_to_hold : ComesToHold i passed names vs new
+  comes_to_hold = record {
+    same = map-set_same (with_said but_deeds) mid i put_back w (ap (with_said but_deeds) again)
+        ∙ map-set_same (with_said but_deeds) vs i emptied v (ap (with_said but_deeds) read);
+    names = λ x. ap (λ o. option_map_or (λ d. set_has d.0 x) o false) here;
+    actions = λ k. subst (IsJoin (DoesAt vs (λ b. (b ≡ i) ⊎ Among passed b) k)) (sym (ap (λ o. option_map_or (λ d. action_at d.1 k) o None) here)) (join_alike (same k) (action_at own k) (joined k));
+    others = λ j ne. ap (option_map deeds_of) (set_others mid i j put_back ne ∙ set_others vs i j emptied ne);
+  }
+    where
+      did : (k : Text) → place_action vs i k ≡ action_at first k
+      did k = acts_there vs i v (slice_get_read vs (length vs) i v refl lt read) k ∙ ap (λ m. action_at m k) (sym was)
+
+      there : (k : Text) (b : ℕ) → Among passed b → place_action seen b k ≡ place_action vs b k
+      there k b p = ap (λ us. place_action us b k) sees ∙ ap (λ o. option_map_or (λ d. action_at d.1 k) (option_map deeds_of o) None) (set_others vs i b emptied (λ e. apart (subst (Among passed) e p)))
+
+      same : (k : Text) (a : Action) → ((action_at first k ≡ Some a) ⊎ DoesAt seen (Among passed) k a) ↔ DoesAt vs (λ b. (b ≡ i) ⊎ Among passed b) k a
+      same k a = grind (arith, did k, there k)
+
+module _ (vs : List Feature) (passed : List ℕ) (k : Text) (first : Option Action) where
+  abbrev Does : List ℕ → Action → Type 0
+  Does places a = (first ≡ Some a) ⊎ DoesAt vs (Among places) k a
+
+  pub begin_join : IsJoin (Does []) first
+  begin_join = join_alike (λ a. (inl, elim [ inl e ↦ e | inr d ↦ absurd d.1 ])) first (join_one first)
+
+  pub next_join : (i : ℕ) (v : Feature) (own own' : Option Action) → i < length passed → slice_get vs (get_or passed i 0) ≡ Some v →
+      IsJoin (Does (take i passed)) own → own' ≡ join_option own (action_at v.enables_deps k) → IsJoin (Does (take (i + 1) passed)) own'
+  next_join i v own own' lt is before now =
+      subst (IsJoin (Does (take (i + 1) passed))) (sym now) (join_halves halves own (action_at v.enables_deps k) before (join_one (action_at v.enables_deps k)))
+    where
+      halves : (a : Action) → Does (take (i + 1) passed) a ↔ (Does (take i passed) a ⊎ (action_at v.enables_deps k ≡ Some a))
+      halves a = grind (arith, among_more, acts_there vs (get_or passed i 0) v is k)
 
 -- the text in a place, as it is read there
 pub source_is : (texts : List (Bor Text)) (i p : ℕ) (source : Bor Text) → i < length texts → p ≡ i → source ≡ get_or texts p source → source.now ≡ nth_text (texts_now texts) i
 source_is texts i p source lt at read = grind (arith, get_or-map)
-
-says_itself : (v : Feature) → SaysTheSame v v
-says_itself v = record { key = refl; marks = refl; bins = refl }
-
-then_says : {v w u : Feature} → SaysTheSame v w → SaysTheSame w u → SaysTheSame v u
-then_says s t = record { key = t.key ∙ s.key; marks = t.marks ∙ s.marks; bins = t.bins ∙ s.bins }
-
-then_holds : {v w u : Feature} → HoldsTheSame v w → HoldsTheSame w u → HoldsTheSame v u
-then_holds s t = record { names = t.names ∙ s.names; actions = t.actions ∙ s.actions }
-
--- what stands in a place of a list does what it did in another
-acts_same : (vs ws : List Feature) → length ws ≡ length vs → (b : ℕ) (k : Text) → ((v w : Feature) → slice_get vs b ≡ Some v → slice_get ws b ≡ Some w → w.enables_deps ≡ v.enables_deps) → action_by ws b k ≡ action_by vs b k
-acts_same vs ws len b k same = grind (arith, cases_lt b (length vs), stands_in, there_too, slice_get_past)
-
--- by the same places, of features that do the same there
-actions_alike : (vs ws : List Feature) (P Q : ℕ → Type 0) → ((b : ℕ) → P b ↔ Q b) → ((b : ℕ) (k : Text) → P b → action_by vs b k ≡ action_by ws b k) → (v : Feature) → HasActions vs P v.enables_deps → HasActions ws Q v.enables_deps
-actions_alike vs ws P Q places same v h k = grind (arith, join_alike)
 
 -- a vertex that leads to no removed one passes none
 pub passes_none : (edges : List (List ℕ)) (flags : List Bool) (a : ℕ) → ¬ ((x : ℕ) × Leads edges a x × IsWanted flags true x) → (b : ℕ) → Among [] b ↔ IsPassed edges flags a b
@@ -55,73 +95,49 @@ module _ (edges labels : List (List ℕ)) (flags : List Bool) (texts : List Text
 
     -- the kept ones that it enables have learnt of it
     module _ (Targets : ℕ → Type 0) (t : (f : ℕ) → Targets f ↔ (IsWanted flags false f × Reaches (Leads edges) (IsWanted flags true) a f)) (vs ws : List Feature) (v : GainEnabler Targets (nth_text texts a) vs ws) where
-      still : (b : ℕ) (k : Text) → action_by ws b k ≡ action_by vs b k
-      still b k = acts_same vs ws v.same.len b k (λ u w at at'. (v.same.each b u w at at').does.actions)
+      deeds : (j : ℕ) → place_deeds ws j ≡ place_deeds vs j
+      deeds = alike_place but_enablers vs ws v.same (λ p. p.1.0)
 
-      enables : (f : ℕ) → Targets f → IsWanted flags false f × EnablesThrough edges flags f a
-      enables f i = let g = (t f).0 i in (g.0, (kept, g.1))
-
-      enabled : (f : ℕ) → IsWanted flags false f × EnablesThrough edges flags f a → Targets f
-      enabled f p = (t f).1 (p.0, p.1.1)
+      enables : (f : ℕ) → Targets f ↔ (IsWanted flags false f × EnablesThrough edges flags f a)
+      enables f = (λ i. let g = (t f).0 i in (g.0, (kept, g.1)), λ p. (t f).1 (p.0, p.1.1))
 
       -- it passes none
       pub stays_as_it_is : length passed ≡ 0 → TakesOver edges labels flags texts a vs ws
       stays_as_it_is empty = record {
-        len = v.same.len;
-        own = λ j u w at at'. let s = v.same.each j u w at at' in record { key = s.does.key; marks = s.does.marks; bins = s.bins };
-        here = λ u w at at'. record {
-          names = inr ((λ any. none empty any.0 any.1), (v.same.each a u w at at').does.names);
-          actions = actions_alike ws vs (λ b. (b ≡ a) ⊎ Among [] b) (λ b. (b ≡ a) ⊎ IsPassed edges flags a b) (λ b. (
-            λ p. elim p [ inl e ↦ inl e | inr n ↦ absurd n ],
-            λ p. elim p [ inl e ↦ inl e | inr n ↦ absurd (none empty b n) ],
-          )) (λ b k p. still b k) w (own_actions ws a [] w at' refl);
+        same = still_alike but_enablers vs ws v.same (λ p. p.1);
+        here = record {
+          names = inr ((λ any. none empty any.0 any.1), λ x. ap (λ o. option_map_or (λ d. set_has d.0 x) o false) (deeds a));
+          actions = λ k. subst (IsJoin (DoesAt vs (λ b. (b ≡ a) ⊎ IsPassed edges flags a b) k)) (sym (acts a k)) (join_alike (λ e. alone k e) (place_action vs a k) (join_one (place_action vs a k)));
         };
-        others = λ j u w ne at at'. let s = v.same.each j u w at at' in record { names = s.does.names; actions = s.does.actions };
-        learn = λ y u w at at' e. let l = v.learn y u w at at' e in (
-          λ i. elim (l.0 i) [ inl o ↦ inl o | inr o ↦ inr (o.0, enables y o.1) ],
-          λ i. l.1 (elim i [ inl o ↦ inl o | inr o ↦ inr (o.0, enabled y o.1) ]),
-        );
+        others = λ j ne. deeds j;
+        learn = λ y e lt. let l = v.learn y e lt in grind (arith, enables y);
       }
+        where
+          acts : (b : ℕ) (k : Text) → place_action ws b k ≡ place_action vs b k
+          acts b k = ap (λ o. option_map_or (λ d. action_at d.1 k) o None) (deeds b)
+
+          alone : (k : Text) (e : Action) → (place_action vs a k ≡ Some e) ↔ DoesAt vs (λ b. (b ≡ a) ⊎ IsPassed edges flags a b) k e
+          alone k e = grind (arith, none empty)
 
       -- it passes some, and comes to hold what was found for it
       module _ (any : PassesAny edges flags a) (named : List ℕ) (n : (x : ℕ) → Among named x ↔ KeepsLabel edges flags labels a x) (set : BTreeSet (Bor Text)) (has : HasTextsOf texts named set)
-          (us : List Feature) (c : ChangesIn (ComesToHold ws a passed set) a ws us) where
-        keeps : (j : ℕ) (w u : Feature) → slice_get ws j ≡ Some w → slice_get us j ≡ Some u → KeepsOwn w u
-        keeps j w u at at' = elim (cases_eq j a) [
-          | inl e ↦ (c.here w u (subst (λ i. slice_get ws i ≡ Some w) e at) (subst (λ i. slice_get us i ≡ Some u) e at')).own
-          | inr ne ↦ subst (KeepsOwn w) (same_Some w u (sym at ∙ sym (c.others j ne) ∙ at')) (record { says = says_itself w; enabled_by = refl })
-        ]
-
-        first : (j : ℕ) (u w : Feature) → slice_get vs j ≡ Some u → slice_get ws j ≡ Some w → SaysTheSame u w
-        first j u w at at' = let s = v.same.each j u w at at' in record { key = s.does.key; marks = s.does.marks; bins = s.bins }
+          (us : List Feature) (c : ComesToHold a passed set ws us) where
+        learnt : (y : ℕ) (e : Text) → place_enabler us y e ≡ place_enabler ws y e
+        learnt y e = alike_at but_deeds ws us c.same (λ p. set_has p.1.1 e) false y
 
         pub takes_over : TakesOver edges labels flags texts a vs us
         takes_over = record {
-          len = c.len ∙ v.same.len;
-          own = λ j x u at at'. let w = there_too vs ws v.same.len j x at in then_says (first j x w.0 at w.1) (keeps j w.0 u w.1 at').says;
-          here = λ x u at at'.
-              let w = there_too vs ws v.same.len a x at in
-              let h = c.here w.0 u w.1 at' in
-              record {
-                names = grind arith;
-                actions = actions_alike ws vs (λ b. (b ≡ a) ⊎ Among passed b) (λ b. (b ≡ a) ⊎ IsPassed edges flags a b) (λ b. (
-                  λ p. elim p [ inl e ↦ inl e | inr m ↦ inr ((is b).0 m) ],
-                  λ p. elim p [ inl e ↦ inl e | inr m ↦ inr ((is b).1 m) ],
-                )) (λ b k p. still b k) u h.actions;
-              };
-          others = λ j x u ne at at'.
-              let w = there_too vs ws v.same.len j x at in
-              let s = v.same.each j x w.0 at w.1 in
-              let e : w.0 ≡ u = same_Some w.0 u (sym w.1 ∙ sym (c.others j ne) ∙ at') in
-              subst (HoldsTheSame x) e (record { names = s.does.names; actions = s.does.actions });
-          learn = λ y x u at at' e.
-              let w = there_too vs ws v.same.len y x at in
-              let l = v.learn y x w.0 at w.1 e in
-              let k = (keeps y w.0 u w.1 at').enabled_by in (
-                λ i. elim (l.0 (subst (λ z. IsTrue (set_has z e)) k i)) [ inl o ↦ inl o | inr o ↦ inr (o.0, enables y o.1) ],
-                λ i. subst (λ z. IsTrue (set_has z e)) (sym k) (l.1 (elim i [ inl o ↦ inl o | inr o ↦ inr (o.0, enabled y o.1) ])),
-              );
+          same = still_alike but_deeds ws us c.same (λ p. p.0) ∙ still_alike but_enablers vs ws v.same (λ p. p.1);
+          here = record {
+            names = inl (any, λ x. grind (arith, c.names x, has x, n));
+            actions = λ k. join_alike (λ e. acts k e) (place_action us a k) (c.actions k);
+          };
+          others = λ j ne. c.others j ne ∙ deeds j;
+          learn = λ y e lt. let l = v.learn y e lt in grind (arith, enables y, learnt y e);
         }
+          where
+            acts : (k : Text) (e : Action) → DoesAt ws (λ b. (b ≡ a) ⊎ Among passed b) k e ↔ DoesAt vs (λ b. (b ≡ a) ⊎ IsPassed edges flags a b) k e
+            acts k e = grind (arith, is, deeds)
 
   -- of those below n, which enable the feature in place y
   abbrev By : ℕ → ℕ → Text → Type 0
@@ -133,11 +149,13 @@ module _ (edges labels : List (List ℕ)) (flags : List Bool) (texts : List Text
   earlier : (n y : ℕ) (e : Text) (b : By (n + 1) y e) → b.1.0 ≢ n → By n y e
   earlier n y e b ne = (b.0, (b.1.0, (let lt = b.1.1 in omega (arith, lt, ne)), b.1.2, b.1.3))
 
-  same_says : (vs : List Feature) (i : ℕ) (v w : Feature) → slice_get vs i ≡ Some v → slice_get vs i ≡ Some w → SaysTheSame v w
-  same_says vs i v w at at' = subst (SaysTheSame v) (same_Some v w (sym at ∙ at')) (says_itself v)
-
   pub none_take_over : (vs : List Feature) → AllTakeOver edges labels flags texts 0 vs vs
-  none_take_over vs = grind (arith, same_says vs, same_Some, nobody_learns)
+  none_take_over vs = record {
+    same = refl;
+    holds = λ i lt. absurd (omega (arith, lt));
+    rest = λ i r. refl;
+    learn = λ y e lt. (λ h. inl h, elim [ inl h ↦ h | inr b ↦ absurd (let no = b.1.1 in omega (arith, no)) ]);
+  }
 
   module _ (n : ℕ) (vs ws : List Feature) (v : AllTakeOver edges labels flags texts n vs ws) where
     later : (i : ℕ) → (n + 1 ≤ i) ⊎ IsWanted flags true i → (n ≤ i) ⊎ IsWanted flags true i
@@ -146,51 +164,38 @@ module _ (edges labels : List (List ℕ)) (flags : List Bool) (texts : List Text
     -- the next one is removed
     pub skipped : IsWanted flags true n → AllTakeOver edges labels flags texts (n + 1) vs ws
     skipped gone = record {
-      len = v.len;
-      own = v.own;
-      holds = λ i x w lt kept. grind (arith, cases_eq);
-      rest = λ i x w r. v.rest i x w (later i r);
-      learn = λ y x w at at' e. let l = v.learn y x w at at' e in (
+      same = v.same;
+      holds = λ i lt kept. elim (cases_eq i n) [
+        | inl e ↦ absurd (false≢true (sym kept ∙ ap (λ z. get_or flags z false) e ∙ gone))
+        | inr ne ↦ v.holds i (omega (arith, lt, ne)) kept
+      ];
+      rest = λ i r. v.rest i (later i r);
+      learn = λ y e lt. let l = v.learn y e lt in (
         λ i. elim (l.0 i) [ inl o ↦ inl o | inr b ↦ inr (sooner n y e b) ],
         λ i. l.1 (elim i [ inl o ↦ inl o | inr b ↦ inr (earlier n y e b (λ at. false≢true (sym b.1.3.0 ∙ ap (λ z. get_or flags z false) at ∙ gone))) ]),
       );
     }
 
     -- the next one is kept
-    module _ (kept : IsWanted flags false n) (us : List Feature) (w : TakesOver edges labels flags texts n ws us) where
-      untouched : (b : ℕ) (k : Text) → (b ≡ n) ⊎ IsPassed edges flags n b → action_by ws b k ≡ action_by vs b k
-      untouched b k p = acts_same vs ws v.len b k (λ x y at at'. (v.rest b x y (elim p [ inl e ↦ inl (omega (arith, e)) | inr g ↦ inr g.0 ]) at at').actions)
+    pub one_more_takes_over : IsWanted flags false n → (us : List Feature) → TakesOver edges labels flags texts n ws us → AllTakeOver edges labels flags texts (n + 1) vs us
+    one_more_takes_over kept us w = record {
+      same = w.same ∙ v.same;
+      holds = λ i lt k. elim (cases_eq i n) [
+        | inl e ↦ subst (λ j. Holds edges labels flags texts j vs us) (sym e) (record {
+          names = elim (w.here.names) [ inl o ↦ inl o | inr o ↦ inr (o.0, λ x. o.1 x ∙ ap (λ d. option_map_or (λ c. set_has c.0 x) d false) (v.rest n (inl (omega arith)))) ];
+          actions = λ k. join_alike (λ a. acts k a) (place_action us n k) (w.here.actions k);
+        })
+        | inr ne ↦ (let h = v.holds i (omega (arith, lt, ne)) k in let o = w.others i ne in record { names = grind arith; actions = grind arith })
+      ];
+      rest = λ i r. w.others i (apart i r) ∙ v.rest i (later i r);
+      learn = then_each (By n) (λ y e. (e ≡ nth_text texts n) × (IsWanted flags false y × EnablesThrough edges flags y n)) (By (n + 1)) vs ws us (alike_len (λ (u : Feature). u.required_by_bins) vs ws v.same) (λ y e below. (
+        λ b. grind (arith, cases_eq, earlier),
+        λ s. grind (arith, sooner),
+      )) v.learn w.learn;
+    }
+      where
+        apart : (i : ℕ) → (n + 1 ≤ i) ⊎ IsWanted flags true i → i ≢ n
+        apart i r = grind arith
 
-      pub one_more_takes_over : AllTakeOver edges labels flags texts (n + 1) vs us
-      one_more_takes_over = record {
-        len = w.len ∙ v.len;
-        own = λ i x u at at'. let m = there_too vs ws v.len i x at in then_says (v.own i x m.0 at m.1) (w.own i m.0 u m.1 at');
-        holds = λ i x u lt k at at'.
-            let m = there_too vs ws v.len i x at in
-            elim (cases_eq i n) [
-              | inl e ↦ subst (λ j. Holds edges labels flags texts vs j x u) (sym e) (
-                  let now : slice_get vs n ≡ Some x = subst (λ j. slice_get vs j ≡ Some x) e at in
-                  let mid : slice_get ws n ≡ Some m.0 = subst (λ j. slice_get ws j ≡ Some m.0) e m.1 in
-                  let h = w.here m.0 u mid (subst (λ j. slice_get us j ≡ Some u) e at') in
-                  record {
-                    names = elim (h.names) [ inl o ↦ inl o | inr o ↦ inr (o.0, o.1 ∙ (v.rest n x m.0 (inl (omega arith)) now mid).names) ];
-                    actions = actions_alike ws vs (λ b. (b ≡ n) ⊎ IsPassed edges flags n b) (λ b. (b ≡ n) ⊎ IsPassed edges flags n b) (λ b. (λ p. p, λ p. p)) untouched u h.actions;
-                  }
-                  )
-              | inr ne ↦ grind arith
-            ];
-        rest = λ i x u r at at'. grind (arith, there_too, then_holds, later i r);
-        learn = then_learn (By n) (λ y e. (e ≡ nth_text texts n) × (IsWanted flags false y × EnablesThrough edges flags y n)) (By (n + 1)) vs ws us v.len (λ y e below. (
-          λ b. grind (arith, cases_eq, earlier),
-          λ s. grind (arith, sooner),
-        )) v.learn w.learn;
-      }
-
-  -- where nobody knew an enabler, these are all that a kept one knows
-  pub learnt_through : (n : ℕ) (vs ws : List Feature) → AreInOrder vs → HaveNoEnablers vs → LearnThrough edges flags texts n vs ws → (i : ℕ) (v w : Feature) → slice_get vs i ≡ Some v → slice_get ws i ≡ Some w
-      → IsWanted flags false i → (e : Text) → IsTrue (set_has w.enabled_by e) ↔ HasNumber texts n (EnablesThrough edges flags i) e
-  learnt_through n vs ws up none h i v w old new kept e =
-      let l = h i v w old new e in (
-        λ t. grind (arith, none_in, stands_found vs up i v old, none),
-        λ b. l.1 (inr (kept, b)),
-      )
+        acts : (k : Text) (a : Action) → DoesAt ws (λ b. (b ≡ n) ⊎ IsPassed edges flags n b) k a ↔ DoesAt vs (λ b. (b ≡ n) ⊎ IsPassed edges flags n b) k a
+        acts k a = grind (arith, v.rest)

@@ -1,8 +1,6 @@
 -- Sets of numbers as bits, sixty-four in a word, and tables of such sets.
 use Rattle.std.specs.Prelude.{◌≡◌, ◌↔◌, ◌⊎◌, ◌<◌, ◌/◌, ◌%◌, ℕ, List, [], length, slice_get, Vec}
-use Rattle.std.specs.Int.{bit_at}
-use Rattle.std.specs.List.{slice_index_or}
-use Rattle.std.specs.Option.{option_map_or}
+use Rattle.std.specs.{Int.bit_at, List.slice_index_or, Option.option_map_or}
 
 -- the words of the row a, none past the end
 abbrev pub words_of : {Z : Type 0} → List (Vec ℕ Z) → ℕ → List ℕ

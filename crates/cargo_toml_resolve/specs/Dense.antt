@@ -1,11 +1,10 @@
 -- What leads where in a dense graph, as tables of bits.
 use Rattle.std.specs.Prelude.{◌≡◌, ◌↔◌, ◌≤◌, ◌*◌, ℕ, Bool, true, List, length, Vec, ◌<◌}
-use Rattle.cargo_toml_graph.specs.Reach.{GathersLabel, Reaches}
-use Rattle.cargo_toml_resolve.specs.Bits.{AreWide, Holds}
-use Rattle.cargo_toml_resolve.specs.Numbers.{FindsRedirects, IsWanted, Leads, IsRedirect}
-use Rattle.cargo_toml_resolve.specs.declared.dense.Tables.{Tables}
 use Rattle.std.specs.Option.{ForSome}
-use Rattle.cargo_toml_resolve.specs.declared.finder.Finder.{Finder}
+use Rattle.cargo_toml_graph.specs.Reach.{GathersLabel, Reaches}
+use Rattle.cargo_toml_resolve.specs.{Bits.AreWide, Bits.Holds, Numbers.FindsRedirects}
+use Rattle.cargo_toml_resolve.specs.Numbers.{IsWanted, Leads, IsRedirect}
+use Rattle.cargo_toml_resolve.specs.{declared.dense.Tables.Tables, declared.finder.Finder.Finder}
 use Rattle.cargo_toml_resolve.specs.declared.graph.Graph.{Graph}
 
 -- a table of n rows of so many words has the bits of which P holds

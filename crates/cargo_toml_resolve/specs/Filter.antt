@@ -1,8 +1,6 @@
 -- The filter of hidden names.
 use Rattle.std.specs.Prelude.{◌≡◌, Bool, true, false, IsTrue, Option, Some, None, codes, nat_eq}
-use Rattle.std.specs.Borrow.{Bor}
-use Rattle.std.specs.Fn.{FnReturnsAt, Shared, always_fn}
-use Rattle.std.specs.List.{starts_with}
+use Rattle.std.specs.{Borrow.Bor, Fn.FnReturnsAt, Fn.Shared, Fn.always_fn, List.starts_with}
 use Rattle.std.specs.Option.{ForSome}
 use Rattle.cargo_toml_graph.specs.Action.{Text}
 

@@ -1,29 +1,19 @@
 -- What a feature holds once the removed ones that it passes are taken out.
 use Rattle.std.specs.Prelude.{Bool, true, false, ◌≡◌, ◌≢◌, ◌↔◌, ◌⊎◌, ◌<◌, ◌≤◌, ℕ, List, length}
-use Rattle.std.specs.Prelude.{Option, Some, IsTrue, slice_get, option_and_then}
-use Rattle.std.specs.Borrow.{Bor}
-use Rattle.std.specs.BTreeMap.{BTreeMap}
+use Rattle.std.specs.{Prelude.Some, Prelude.IsTrue, Prelude.slice_get, Borrow.Bor}
 use Rattle.std.specs.BTreeSet.{BTreeSet}
-use Rattle.cargo_toml_graph.specs.Action.{Text, Action, IsJoin}
-use Rattle.cargo_toml_graph.specs.Reach.{Among}
-use Rattle.cargo_toml_features.specs.declared.features.DepAction.{DepAction}
-use Rattle.cargo_toml_features.specs.declared.features.Feature.{Feature}
-use Rattle.cargo_toml_features.specs.Marks.{marks_of}
-use Rattle.cargo_toml_features.specs.Views.{set_has, action_at}
+use Rattle.cargo_toml_graph.specs.{Action.Text, Action.Action, Action.IsJoin, Reach.Among}
+use Rattle.cargo_toml_features.specs.{declared.features.Feature.Feature, Views.set_has}
 use Rattle.cargo_toml_features.specs.Places.{nth_text}
 use Rattle.cargo_toml_resolve.specs.Numbers.{IsPassed, IsWanted, KeepsLabel, PassesAny, row_items}
 use Rattle.cargo_toml_resolve.specs.Enabling.{EnablesThrough, LearnEach, LearnThrough}
-use Rattle.cargo_toml_resolve.specs.NumberedTables.{HasNumber}
-use Rattle.cargo_toml_resolve.specs.declared.graph.Walked.{Walked}
-use Rattle.cargo_toml_resolve.specs.Texts.{texts_now}
-
--- what the feature in place b does to k, None past the end
-abbrev pub action_by : List Feature → ℕ → Text → Option Action
-action_by vs b k = option_and_then (λ v. action_at v.enables_deps k) (slice_get vs b)
+use Rattle.cargo_toml_resolve.specs.{NumberedTables.HasNumber, Parts.AreAlikeIn, Parts.but_deeds}
+use Rattle.cargo_toml_resolve.specs.Parts.{place_action, place_deeds, place_names}
+use Rattle.cargo_toml_resolve.specs.{declared.graph.Walked.Walked, Texts.texts_now}
 
 -- a feature in a place that P holds of does a to k
 abbrev pub DoesAt : List Feature → (ℕ → Type 0) → Text → Action → Type 0
-DoesAt vs P k a = (b : ℕ) × P b × (action_by vs b k ≡ Some a)
+DoesAt vs P k a = (b : ℕ) × P b × (place_action vs b k ≡ Some a)
 
 -- x is the text of one of these numbers
 abbrev pub IsTextOf : List Text → List ℕ → Text → Type 0
@@ -33,50 +23,31 @@ IsTextOf texts numbers x = HasNumber texts (length texts) (Among numbers) x
 abbrev pub HasTextsOf : List Text → List ℕ → BTreeSet (Bor Text) → Type 0
 HasTextsOf texts numbers s = (x : Text) → IsTrue (set_has s x) ↔ IsTextOf texts numbers x
 
--- the map has for each key the join of what the features in the places of which P holds do to it
-abbrev pub HasActions : List Feature → (ℕ → Type 0) → BTreeMap (Bor Text) DepAction → Type 0
-HasActions vs P m = (k : Text) → IsJoin (DoesAt vs P k) (action_at m k)
+-- the new feature in place i does to each key the join of what the old ones do in the places of
+-- which P holds
+abbrev pub HasActions : List Feature → (ℕ → Type 0) → List Feature → ℕ → Type 0
+HasActions old P new i = (k : Text) → IsJoin (DoesAt old P k) (place_action new i k)
 
--- what a feature says of itself stays
-pub record SaysTheSame (old new : Feature) : Type 0 where
-  pub key : new.key ≡ old.key
-  pub marks : marks_of new ≡ marks_of old
-  pub bins : new.required_by_bins ≡ old.required_by_bins
-
--- and what enables it
-pub record KeepsOwn (old new : Feature) : Type 0 where
-  pub says : SaysTheSame old new
-  pub enabled_by : new.enabled_by ≡ old.enabled_by
-
--- what a feature names and does stays
-pub record HoldsTheSame (old new : Feature) : Type 0 where
-  pub names : new.enables_features ≡ old.enables_features
-  pub actions : new.enables_deps ≡ old.enables_deps
+-- what features say of themselves stays, with their binaries
+abbrev pub SayTheSame : List Feature → List Feature → Type 0
+SayTheSame old new = AreAlikeIn (λ v. v.required_by_bins) old new
 
 module _ (edges labels : List (List ℕ)) (flags : List Bool) (texts : List Text) where
-  -- the names of the feature in place i: those that it keeps where it passes a removed one, and
-  -- otherwise those that it had
-  abbrev pub HoldsNames : ℕ → Feature → Feature → Type 0
-  HoldsNames i old new =
-      (PassesAny edges flags i × ((x : Text) → IsTrue (set_has new.enables_features x)
-      ↔ HasNumber texts (length texts) (KeepsLabel edges flags labels i) x))
-      ⊎ ((¬ PassesAny edges flags i) × (new.enables_features ≡ old.enables_features))
-
-  -- what the kept feature in place i of vs names, and what it and those that it passes do
-  pub record Holds (vs : List Feature) (i : ℕ) (old new : Feature) : Type 0 where
-    pub names : HoldsNames i old new
-    pub actions : HasActions vs (λ b. (b ≡ i) ⊎ IsPassed edges flags i b) new.enables_deps
+  -- what the kept feature in place i names: where it passes a removed one what it keeps, and
+  -- otherwise what it named; and what it and those that it passes do
+  pub record Holds (i : ℕ) (old new : List Feature) : Type 0 where
+    pub names :
+        (PassesAny edges flags i × ((x : Text) → IsTrue (place_names new i x)
+        ↔ HasNumber texts (length texts) (KeepsLabel edges flags labels i) x))
+        ⊎ ((¬ PassesAny edges flags i) × ((x : Text) → place_names new i x ≡ place_names old i x))
+    pub actions : HasActions old (λ b. (b ≡ i) ⊎ IsPassed edges flags i b) new i
 
   -- the kept feature in place i takes over from the removed ones that it passes, and is put among
   -- what enables those that it then enables; nothing else changes
   pub record TakesOver (i : ℕ) (old new : List Feature) : Type 0 where
-    pub len : length new ≡ length old
-    pub own : (j : ℕ) (v w : Feature) → slice_get old j ≡ Some v → slice_get new j ≡ Some w
-        → SaysTheSame v w
-    pub here : (v w : Feature) → slice_get old i ≡ Some v → slice_get new i ≡ Some w
-        → Holds old i v w
-    pub others : (j : ℕ) (v w : Feature) → j ≢ i → slice_get old j ≡ Some v
-        → slice_get new j ≡ Some w → HoldsTheSame v w
+    pub same : SayTheSame old new
+    pub here : Holds i old new
+    pub others : (j : ℕ) → j ≢ i → place_deeds new j ≡ place_deeds old j
     pub learn : LearnEach
         (λ y e. (e ≡ nth_text texts i)
         × (IsWanted flags false y × EnablesThrough edges flags y i))
@@ -84,42 +55,19 @@ module _ (edges labels : List (List ℕ)) (flags : List Bool) (texts : List Text
 
   -- so do the kept ones below n, one after another
   pub record AllTakeOver (n : ℕ) (old new : List Feature) : Type 0 where
-    pub len : length new ≡ length old
-    pub own : (i : ℕ) (v w : Feature) → slice_get old i ≡ Some v → slice_get new i ≡ Some w
-        → SaysTheSame v w
-    pub holds : (i : ℕ) (v w : Feature) → i < n → IsWanted flags false i → slice_get old i ≡ Some v
-        → slice_get new i ≡ Some w → Holds old i v w
-    pub rest : (i : ℕ) (v w : Feature) → (n ≤ i) ⊎ IsWanted flags true i → slice_get old i ≡ Some v
-        → slice_get new i ≡ Some w → HoldsTheSame v w
+    pub same : SayTheSame old new
+    pub holds : (i : ℕ) → i < n → IsWanted flags false i → Holds i old new
+    pub rest : (i : ℕ) → (n ≤ i) ⊎ IsWanted flags true i → place_deeds new i ≡ place_deeds old i
     pub learn : LearnThrough edges flags texts n old new
 
--- the feature in place i changes so, and no other does
-pub record ChangesIn (Changes : Feature → Feature → Type 0) (i : ℕ)
+-- the feature in place i comes to have these names, and to do what it and those in the places
+-- `passed` do; nothing else changes
+pub record ComesToHold (i : ℕ) (passed : List ℕ) (set : BTreeSet (Bor Text))
     (old new : List Feature) : Type 0 where
-  pub len : length new ≡ length old
-  pub here : (v w : Feature) → slice_get old i ≡ Some v → slice_get new i ≡ Some w → Changes v w
-  pub others : (j : ℕ) → j ≢ i → slice_get new j ≡ slice_get old j
-
--- the feature in place i of vs comes to do what it and those in the places `passed` do
-pub record TakesActions (vs : List Feature) (i : ℕ) (passed : List ℕ)
-    (old new : Feature) : Type 0 where
-  pub own : KeepsOwn old new
-  pub names : new.enables_features ≡ old.enables_features
-  pub actions : HasActions vs (λ b. (b ≡ i) ⊎ Among passed b) new.enables_deps
-
--- and comes to have these names
-pub record ComesToHold (vs : List Feature) (i : ℕ) (passed : List ℕ) (set : BTreeSet (Bor Text))
-    (old new : Feature) : Type 0 where
-  pub own : KeepsOwn old new
-  pub names : new.enables_features ≡ set
-  pub actions : HasActions vs (λ b. (b ≡ i) ⊎ Among passed b) new.enables_deps
-
--- the features in the named places may have changed in all but their names; the others stay
-pub record HandsOver (Named : ℕ → Type 0) (old new : List Feature) : Type 0 where
-  pub len : length new ≡ length old
-  pub keys : (i : ℕ) (v w : Feature) → slice_get old i ≡ Some v → slice_get new i ≡ Some w
-      → w.key ≡ v.key
-  pub others : (i : ℕ) → ¬ Named i → slice_get new i ≡ slice_get old i
+  pub same : AreAlikeIn but_deeds old new
+  pub names : (x : Text) → place_names new i x ≡ set_has set x
+  pub actions : HasActions old (λ b. (b ≡ i) ⊎ Among passed b) new i
+  pub others : (j : ℕ) → j ≢ i → place_deeds new j ≡ place_deeds old j
 
 -- a removed feature names its redirect, where that isn't marked as moved
 abbrev pub HaveOwnSets : Walked → List Feature → Type 0

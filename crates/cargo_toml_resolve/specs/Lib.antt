@@ -11,7 +11,7 @@ pub mod Holding
 pub mod KeptFeatures
 pub mod Texts
 pub mod Numbering
-pub mod InEachPlace
+pub mod Parts
 pub mod Passing
 pub mod Placed
 pub mod Enabling

@@ -1,9 +1,6 @@
 -- When a graph of numbers stands for a table of features.
-use Rattle.std.specs.Prelude.{◌≡◌, ◌↔◌, ◌⊎◌, ◌<◌, ◌≤◌, ℕ, Bool, true, List, length}
-use Rattle.std.specs.Prelude.{IsTrue}
-use Rattle.cargo_toml_graph.specs.Action.{Text}
-use Rattle.cargo_toml_graph.specs.Admitted.{is_below}
-use Rattle.cargo_toml_graph.specs.Graph.{Table, Edge}
+use Rattle.std.specs.Prelude.{◌≡◌, ◌↔◌, ◌⊎◌, ◌<◌, ◌≤◌, ℕ, Bool, true, List, length, IsTrue}
+use Rattle.cargo_toml_graph.specs.{Action.Text, Admitted.is_below, Graph.Table, Graph.Edge}
 use Rattle.cargo_toml_features.specs.Places.{nth_text}
 use Rattle.cargo_toml_resolve.specs.Numbers.{Leads, IsWanted}
 

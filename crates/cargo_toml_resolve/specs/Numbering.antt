@@ -1,29 +1,21 @@
 -- Features as a graph of numbers.
-use Rattle.std.specs.Prelude.{◌≡◌, ◌≢◌, ◌↔◌, ◌⊎◌, ◌<◌, ◌≤◌, ℕ, Bool, true, false}
-use Rattle.std.specs.Prelude.{List, length, take, slice_get, IsTrue}
-use Rattle.std.specs.Option.{IsSomeAnd, option_map_or}
-use Rattle.cargo_toml_graph.specs.Action.{Text}
-use Rattle.cargo_toml_graph.specs.Reach.{Among}
+use Rattle.std.specs.Prelude.{◌≡◌, ◌≢◌, ◌↔◌, ◌⊎◌, ◌<◌, ◌≤◌, ℕ, Bool, true, List, length, take}
+use Rattle.std.specs.Prelude.{IsTrue}
+use Rattle.cargo_toml_graph.specs.{Action.Text, Reach.Among}
 use Rattle.cargo_toml_resolve.specs.Numbers.{IsWanted, Leads, row_items}
-use Rattle.cargo_toml_features.specs.Places.{nth_text}
-use Rattle.cargo_toml_features.specs.declared.features.Feature.{Feature}
+use Rattle.cargo_toml_resolve.specs.{Parts.LeadsAt, Parts.place_names, NumberedTables.HasNumber}
+use Rattle.cargo_toml_resolve.specs.NumberedTables.{IsNaming}
+use Rattle.cargo_toml_features.specs.{Places.nth_text, declared.features.Feature.Feature}
 use Rattle.cargo_toml_features.specs.InOrder.{names_of}
-use Rattle.cargo_toml_features.specs.Views.{set_has}
-use Rattle.cargo_toml_resolve.specs.Enabling.{LeadsTo}
-use Rattle.cargo_toml_resolve.specs.NumberedTables.{HasNumber, IsNaming}
 
 -- the flag of the feature of this name stands
 abbrev pub IsFlagged : List Feature → List Bool → Text → Type 0
 IsFlagged vs flags f =
     (i : ℕ) × (i < length vs) × (nth_text (names_of vs) i ≡ f) × IsWanted flags true i
 
--- the feature in place i names x, false past the end
-abbrev pub place_names : List Feature → ℕ → Text → Bool
-place_names vs i x = option_map_or (λ v. set_has v.enables_features x) (slice_get vs i) false
-
 -- the feature in place i leads to another one, in place x
 abbrev pub IsTarget : List Feature → List Text → ℕ → ℕ → Type 0
-IsTarget vs keys i x = (x ≢ i) × IsSomeAnd (slice_get vs i) (λ v. LeadsTo v (nth_text keys x))
+IsTarget vs keys i x = (x ≢ i) × LeadsAt vs i (nth_text keys x)
 
 -- the row gains the places below n, other than `own`, of which P holds
 abbrev pub Gains : ℕ → ℕ → (ℕ → Type 0) → List ℕ → List ℕ → Type 0

@@ -1,16 +1,11 @@
 -- The binaries that are passed on, by places.
 use Rattle.std.specs.Prelude.{◌≡◌, ℕ, zero, suc, Bool, false, List, [], if◌then◌else◌, map, nat_eq}
 use Rattle.std.specs.Prelude.{take, slice_get, ◌⊎◌, ◌<◌, length, Some}
-use Rattle.std.specs.List.{list_any, slice_index_or}
-use Rattle.std.specs.Option.{option_map_or}
-use Rattle.cargo_toml_graph.specs.Action.{Text}
-use Rattle.cargo_toml_graph.specs.Removal.{put_each, lists_text}
-use Rattle.cargo_toml_resolve.specs.Numbers.{row_items}
-use Rattle.cargo_toml_features.specs.declared.features.Feature.{Feature}
-use Rattle.cargo_toml_resolve.specs.InEachPlace.{DoesTheSame, InEachPlace}
-use Rattle.std.specs.Borrow.{Bor}
+use Rattle.std.specs.{List.list_any, List.slice_index_or, Option.option_map_or, Borrow.Bor}
 use Rattle.std.specs.BTreeSet.{BTreeSet, btree_set_len}
-use Rattle.cargo_toml_features.specs.Views.{set_has}
+use Rattle.cargo_toml_graph.specs.{Action.Text, Removal.put_each, Removal.lists_text}
+use Rattle.cargo_toml_resolve.specs.{Numbers.row_items, Parts.AreAlikeIn, Parts.but_bins}
+use Rattle.cargo_toml_features.specs.{declared.features.Feature.Feature, Views.set_has}
 
 -- the binaries that require the feature in place i, none past the end
 abbrev pub bins_of : List Feature → ℕ → List Text
@@ -31,14 +26,9 @@ passed_below redirects flags (suc n) lists =
     then passed_from redirects n (passed_below redirects flags n lists)
     else passed_below redirects flags n lists
 
--- what a feature holds beside its binaries stays
-pub record IsSameButBins (old new : Feature) : Type 0 where
-  pub does : DoesTheSame old new
-  pub enabled_by : new.enabled_by ≡ old.enabled_by
-
--- in each place
+-- what features hold beside their binaries stays
 abbrev pub AreSameButBins : List Feature → List Feature → Type 0
-AreSameButBins old new = InEachPlace IsSameButBins old new
+AreSameButBins old new = AreAlikeIn but_bins old new
 
 -- the binaries are put into the lists of the features in the named places, and nothing else changes
 pub record Puts (Named : ℕ → Type 0) (bins : List Text) (old new : List Feature) : Type 0 where

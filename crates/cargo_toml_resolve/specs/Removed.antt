@@ -1,12 +1,8 @@
 -- Features that the filter refuses, and what is answered without them.
 use Rattle.std.specs.Prelude.{Bool, true, false, IsTrue, List, Option}
 use Rattle.std.specs.Borrow.{Bor}
-use Rattle.cargo_toml_graph.specs.Action.{Text}
-use Rattle.cargo_toml_graph.specs.Admitted.{Listed}
-use Rattle.cargo_toml_graph.specs.Graph.{Table}
-use Rattle.cargo_toml_features.specs.Agreement.{Agree}
-use Rattle.cargo_toml_features.specs.Marks.{NamedDetails}
-use Rattle.cargo_toml_features.specs.Recorded.{Entry}
+use Rattle.cargo_toml_graph.specs.{Action.Text, Admitted.Listed, Graph.Table}
+use Rattle.cargo_toml_features.specs.{Agreement.Agree, Marks.NamedDetails, Recorded.Entry}
 use Rattle.cargo_toml_features.specs.Resolved.{Answer, IsAnswer, IsAnswerWithout, table_of}
 use Rattle.cargo_toml_resolve.specs.Filter.{Asked, Answers, IsHiddenName, FilterTells}
 

@@ -1,8 +1,7 @@
 //! Sets of nodes as bits, sixty-four in a word.
 ghost use Rattle.std.specs.Prelude.{◌≡◌, ◌+◌, ◌*◌, ◌<◌, ◌≤◌, ◌↔◌, ◌⊎◌, ℕ, IfOk, IsTrue, length};
 ghost use Rattle.cargo_toml_graph.specs.Reach.{Among};
-ghost use Rattle.cargo_toml_resolve.specs.Bits.{HasBit};
-ghost use Rattle.cargo_toml_resolve.specs.Numbers.{IsWanted};
+ghost use Rattle.cargo_toml_resolve.specs.{Bits.HasBit, Numbers.IsWanted};
 
 use cargo_toml_features::node::Node;
 use std::alloc::{AllocError, Global};

@@ -3,8 +3,7 @@
 //! A walk looks at each row of what it meets, which is cubic where each vertex leads to each. The
 //! tables take as many steps, but sixty-four nodes in one.
 ghost use Rattle.std.specs.Prelude.{IfOk};
-ghost use Rattle.cargo_toml_resolve.specs.Dense.{AreTables};
-ghost use Rattle.cargo_toml_resolve.specs.Numbers.{AreWithin};
+ghost use Rattle.cargo_toml_resolve.specs.{Dense.AreTables, Numbers.AreWithin};
 
 use crate::bits::words_for;
 use crate::redirects::Redirects;

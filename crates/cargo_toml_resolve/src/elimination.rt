@@ -1,10 +1,8 @@
 //! Removed features are taken out of their graph, and others take over what they said.
-ghost use Rattle.std.specs.Prelude.{◌≡◌, IfOk, length};
-ghost use Rattle.std.specs.Option.{ForSome};
+ghost use Rattle.std.specs.{Prelude.◌≡◌, Prelude.IfOk, Prelude.length, Option.ForSome};
 ghost use Rattle.cargo_toml_features.specs.InOrder.{HaveNoEnablers};
-ghost use Rattle.cargo_toml_resolve.specs.Dense.{AreTables};
-ghost use Rattle.cargo_toml_resolve.specs.Numbers.{AreWithin, FindsRedirects};
-ghost use Rattle.cargo_toml_resolve.specs.Placed.{ArePlaced};
+ghost use Rattle.cargo_toml_resolve.specs.{Dense.AreTables, Numbers.AreWithin};
+ghost use Rattle.cargo_toml_resolve.specs.{Numbers.FindsRedirects, Placed.ArePlaced};
 
 use crate::dense::{Tables, is_dense, take_out};
 use crate::finder::Finder;

@@ -1,16 +1,12 @@
 //! Where no feature is removed: each learns which others enable it.
 ghost use Rattle.std.specs.Prelude.{◌≡◌, ◌↔◌, ◌<◌, ℕ, IsTrue, OnOk, length};
-ghost use Rattle.cargo_toml_graph.specs.Action.{Text};
-ghost use Rattle.cargo_toml_graph.specs.Graph.{IsUnremoved, Table};
-ghost use Rattle.cargo_toml_graph.specs.Reach.{Among};
+ghost use Rattle.cargo_toml_graph.specs.{Action.Text, Graph.IsUnremoved, Graph.Table, Reach.Among};
 ghost use Rattle.cargo_toml_graph.specs.Ascending.{Ascend};
-ghost use Rattle.cargo_toml_features.specs.InOrder.{AreInOrder, AreTable, HaveNoEnablers};
-ghost use Rattle.cargo_toml_features.specs.InOrder.{names_of, resolution_among};
-ghost use Rattle.cargo_toml_features.specs.Views.{set_has};
+ghost use Rattle.cargo_toml_features.specs.InOrder.{AreInOrder, AreTable, HaveNoEnablers, names_of};
+ghost use Rattle.cargo_toml_features.specs.{InOrder.resolution_among, Views.set_has};
 ghost use Rattle.cargo_toml_features.specs.Places.{nth_text};
 ghost use Rattle.cargo_toml_resolve.specs.Enabling.{AreSameButEnablers, GainEnabler, LeaderBelow};
-ghost use Rattle.cargo_toml_resolve.specs.Enabling.{LeadsTo, LearnBy};
-ghost use Rattle.cargo_toml_resolve.specs.Numbering.{Gains};
+ghost use Rattle.cargo_toml_resolve.specs.{Enabling.LeadsTo, Enabling.LearnBy, Numbering.Gains};
 ghost use Rattle.cargo_toml_resolve.specs.Texts.{texts_now};
 
 use crate::numbering::{Cursor, keys_of, leads_nowhere, push_actions, push_target};

@@ -1,7 +1,6 @@
 //! Which names of features are hidden and removed.
 ghost use Rattle.std.specs.Prelude.{◌≡◌, ◌&&◌, Bool, codes, nat_eq, not};
-ghost use Rattle.std.specs.Fn.{FnReturnsAt};
-ghost use Rattle.std.specs.List.{starts_with};
+ghost use Rattle.std.specs.{Fn.FnReturnsAt, List.starts_with};
 ghost use Rattle.cargo_toml_graph.specs.Action.{Text};
 ghost use Rattle.cargo_toml_resolve.specs.Filter.{Answers, HasNameFilter, IsFlagOf, IsNameFilter};
 ghost use Rattle.cargo_toml_resolve.specs.Filter.{FilterTells};

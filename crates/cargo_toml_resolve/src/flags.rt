@@ -1,8 +1,7 @@
 //! Which features are removed, by their places.
 ghost use Rattle.std.specs.Prelude.{◌≡◌, ◌<◌, ℕ, IfOk, false, length};
 ghost use Rattle.std.specs.List.{slice_index_or};
-ghost use Rattle.cargo_toml_features.specs.InOrder.{names_of};
-ghost use Rattle.cargo_toml_features.specs.Places.{nth_text};
+ghost use Rattle.cargo_toml_features.specs.{InOrder.names_of, Places.nth_text};
 ghost use Rattle.cargo_toml_resolve.specs.Filter.{HasNameFilter, IsFlagOf};
 
 use crate::filter::is_hidden;

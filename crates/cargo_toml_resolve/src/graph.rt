@@ -2,8 +2,7 @@
 ghost use Rattle.std.specs.Prelude.{◌≡◌, ◌<◌, ◌≤◌, ℕ, IsTrue, length};
 ghost use Rattle.cargo_toml_graph.specs.Admitted.{is_below};
 ghost use Rattle.cargo_toml_features.specs.Places.{nth_text};
-ghost use Rattle.cargo_toml_resolve.specs.Numbers.{Leads};
-ghost use Rattle.cargo_toml_resolve.specs.Texts.{texts_now};
+ghost use Rattle.cargo_toml_resolve.specs.{Numbers.Leads, Texts.texts_now};
 
 use crate::rows::Rows;
 
@@ -44,8 +43,6 @@ pub struct Walked<'m> {
     pub redirects: Rows,
     /// For each node whether that isn't what it names itself.
     pub moved: Vec<bool>,
-    ghost once: { (i j : ℕ) → i < length redirects → j < length texts.items
-        → nth_text (texts_now texts.items) i ≡ nth_text (texts_now texts.items) j → i ≡ j },
     ghost features_count: { length redirects ≤ length texts.items },
     ghost flags_count: { length flags.items ≡ length texts.items },
     ghost moved_count: { length moved.items ≡ length texts.items },

@@ -1,18 +1,13 @@
-//! What is kept of features, in a hashed map.
-ghost use Rattle.std.specs.Prelude.{◌≡◌, ◌≤◌, ℕ, None, Some, bytes_eq, false, if◌then◌else◌};
-ghost use Rattle.std.specs.Prelude.{length, map, slice_get, IfOk, IsSome, OnOk};
-ghost use Rattle.std.specs.Option.{option_or};
-ghost use Rattle.cargo_toml_graph.specs.Action.{Text};
-ghost use Rattle.cargo_toml_graph.specs.Ascending.{Ascend};
-ghost use Rattle.cargo_toml_resolve.specs.Numbers.{IsWanted};
-ghost use Rattle.cargo_toml_features.specs.declared.features.Feature.{Feature};
-ghost use Rattle.cargo_toml_features.specs.Reached.{IsKeyed};
-ghost use Rattle.cargo_toml_features.specs.Views.{value_at};
-ghost use Rattle.cargo_toml_features.specs.FirstTarget.{HaveTargets};
-ghost use Rattle.cargo_toml_full.specs.Slots.{HeldHaveTargets, held_among, held_in};
+//! Hashed maps by names.
+ghost use Rattle.std.specs.Prelude.{◌≡◌, None, Some, bytes_eq, if◌then◌else◌, length, map, IfOk};
+ghost use Rattle.std.specs.{Prelude.OnOk, Option.option_or};
+ghost use Rattle.cargo_toml_graph.specs.{Action.Text, Ascending.Ascend};
+ghost use Rattle.cargo_toml_features.specs.{InOrder.AreInOrder, InOrder.feature_at, Views.value_at};
+ghost use Rattle.cargo_toml_features.specs.{FirstTarget.HaveTargets, Slots.HeldHaveTargets};
+ghost use Rattle.cargo_toml_features.specs.Slots.{held_among, held_in};
 
 use cargo_toml_features::features::{Feature, FeatureDependency};
-use cargo_toml_full::slots::Slots;
+use cargo_toml_features::slots::Slots;
 use std::alloc::{AllocError, Global};
 use std::collections::HashMap;
 use std::hash::BuildHasher;
@@ -30,49 +25,18 @@ pub(crate) fn put<'a, V: Drop, S: BuildHasher>(
     Ok(())
 }
 
-// The feature is put under its name, unless it is removed.
-fn put_kept<'m, S: BuildHasher>(
-    by_name: &mut HashMap<&'m str, Feature<'m>, S>,
-    feature: Feature<'m>,
-    is_removed: bool,
-) -> Result<(), AllocError>
-    ensures { OnOk result ((k : Text) → value_at by_name.new k
-        ≡ (if is_removed then value_at by_name.old k else if bytes_eq k feature.entry.key.now
-        then Some feature.entry else value_at by_name.old k)) }
-{
-    if is_removed {
-        return Ok(());
-    }
-    put(by_name, feature.key, feature)
-}
-
-/// The features whose flag is false, by name, in a hashed map. No two have one name. It fails only
-/// where memory runs out.
-pub fn hashed_kept<'m, S: BuildHasher + Drop>(
+/// Features by their names, in a hashed map. It fails only where memory runs out.
+pub fn hashed_features<'m, S: BuildHasher + Drop>(
     state: S,
     alloc: Global,
     features: Vec<Feature<'m>>,
-    flags: &[bool],
 ) -> Result<HashMap<&'m str, Feature<'m>, S>, AllocError>
-    requires flags { length features.items ≤ length flags.now }
-    requires once { (i j : ℕ) (v w : Feature) → slice_get features.items i ≡ Some v
-        → slice_get features.items j ≡ Some w → v.key.now ≡ w.key.now → i ≡ j }
-    ensures kept { IfOk result
-        (λ m. (i : ℕ) (v : Feature) → slice_get features.entry.items i ≡ Some v
-        → IsWanted flags.now false i → value_at m v.key.now ≡ Some v) }
-    ensures only { IfOk result (λ m. (f : Text) → IsSome (value_at m f)
-        → (i : ℕ) × (v : Feature) × (slice_get features.entry.items i ≡ Some v)
-        × IsWanted flags.now false i × (v.key.now ≡ f)) }
-    ensures keyed { IfOk result IsKeyed }
+    requires { AreInOrder features.items }
+    ensures { IfOk result (λ m. (f : Text) → value_at m f ≡ feature_at features.entry.items f) }
 {
-    // room for the kept alone: with room for all, a map of some sizes takes twice the memory
-    let removed = flags.iter().filter(|flag| **flag).count();
-    let count = features.len().saturating_sub(removed);
-    let mut by_name = HashMap::with_capacity_and_hasher(alloc, count, state)?;
-    let mut place = 0;
+    let mut by_name = HashMap::with_capacity_and_hasher(alloc, features.len(), state)?;
     for feature in features {
-        put_kept(&mut by_name, feature, flags[place])?;
-        place += 1;
+        put(&mut by_name, feature.key, feature)?;
     }
     Ok(by_name)
 }

@@ -1,9 +1,7 @@
 //! Kept features take over from the removed ones that they pass, one feature after another.
 ghost use Rattle.std.specs.Prelude.{◌≡◌, ◌<◌, OnOk, false, length};
 ghost use Rattle.cargo_toml_resolve.specs.Holding.{AllTakeOver, TakesOver};
-ghost use Rattle.cargo_toml_resolve.specs.Numbers.{IsWanted};
-ghost use Rattle.cargo_toml_resolve.specs.Texts.{texts_now};
-ghost use Rattle.cargo_toml_resolve.specs.Dense.{FindsIn};
+ghost use Rattle.cargo_toml_resolve.specs.{Numbers.IsWanted, Texts.texts_now, Dense.FindsIn};
 
 use crate::enabling::enable_along;
 use crate::finder::Finder;

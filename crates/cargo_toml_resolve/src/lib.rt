@@ -1,5 +1,5 @@
-//! Features are resolved: the full graph of `cargo_toml_full`, without the hidden features. These
-//! are those whose names begin with `_` and which a filter doesn't keep.
+//! Features are resolved: the full graph of `cargo_toml_features`, without the hidden features.
+//! These are those whose names begin with `_` and which a filter doesn't keep.
 //!
 //! [`resolve`] is the whole of it. Callers use it by `cargo_toml::features::Resolver`.
 #![tactic(auto)]
@@ -13,7 +13,6 @@ mod finder;
 pub mod flags;
 pub mod graph;
 pub mod hashing;
-pub mod hidden_map;
 pub mod joining;
 mod keeping;
 pub mod kept;

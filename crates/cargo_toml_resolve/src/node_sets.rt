@@ -2,11 +2,10 @@
 ghost use Rattle.std.specs.Prelude.{◌≡◌, ◌<◌, ℕ, IfOk, length, map};
 ghost use Rattle.cargo_toml_graph.specs.Reach.{Among};
 ghost use Rattle.cargo_toml_features.specs.Places.{nth_text};
-ghost use Rattle.cargo_toml_resolve.specs.Holding.{HasTextsOf};
-ghost use Rattle.cargo_toml_resolve.specs.Texts.{texts_now};
+ghost use Rattle.cargo_toml_resolve.specs.{Holding.HasTextsOf, Texts.texts_now};
 
 use cargo_toml_features::node::Node;
-use cargo_toml_full::sets::set_of;
+use cargo_toml_features::sets::set_of;
 use std::alloc::{AllocError, Global};
 use std::collections::BTreeSet;
 

@@ -1,27 +1,23 @@
 //! Features become a graph of nodes, by one look at each name.
 ghost use Rattle.std.specs.Prelude.{◌≡◌, ◌↔◌, ◌⊎◌, ◌≢◌, ◌<◌, ◌≤◌, ◌++◌, ◌∷◌, [], ℕ, IfOk, IfSome};
-ghost use Rattle.std.specs.Prelude.{if◌then◌else◌};
-ghost use Rattle.std.specs.Prelude.{Bool, IsTrue, None, OnOk, Some, false, length, take, true};
-ghost use Rattle.cargo_toml_graph.specs.Action.{Text};
-ghost use Rattle.cargo_toml_graph.specs.Graph.{IsPlain, Table};
-ghost use Rattle.cargo_toml_graph.specs.Reach.{Among};
+ghost use Rattle.std.specs.Prelude.{if◌then◌else◌, Bool, IsTrue, None, OnOk, Some, false, length};
+ghost use Rattle.std.specs.Prelude.{take, true};
+ghost use Rattle.cargo_toml_graph.specs.{Action.Text, Graph.IsPlain, Graph.Table, Reach.Among};
 ghost use Rattle.cargo_toml_graph.specs.Ascending.{Ascend};
 ghost use Rattle.cargo_toml_features.specs.InOrder.{AreInOrder, AreTable, names_of};
 ghost use Rattle.cargo_toml_features.specs.Views.{action_at, action_of, set_has};
 ghost use Rattle.cargo_toml_features.specs.Places.{nth_text};
-ghost use Rattle.cargo_toml_resolve.specs.Enabling.{LeadsTo};
-ghost use Rattle.cargo_toml_resolve.specs.Numbering.{AreRead, AreTextsOf, Extends, Gains};
-ghost use Rattle.cargo_toml_resolve.specs.Numbering.{HasNames, IsFlagged, IsNodeOf};
-ghost use Rattle.cargo_toml_resolve.specs.Numbers.{IsWanted};
-ghost use Rattle.cargo_toml_resolve.specs.Placed.{Shows};
-ghost use Rattle.cargo_toml_resolve.specs.Texts.{texts_now};
+ghost use Rattle.cargo_toml_resolve.specs.{Enabling.LeadsTo, Numbering.AreRead};
+ghost use Rattle.cargo_toml_resolve.specs.Numbering.{AreTextsOf, Extends, Gains, HasNames};
+ghost use Rattle.cargo_toml_resolve.specs.Numbering.{IsFlagged, IsNodeOf};
+ghost use Rattle.cargo_toml_resolve.specs.{Numbers.IsWanted, Placed.Shows, Texts.texts_now};
 
 use crate::graph::Graph;
 use crate::rows::Rows;
 use crate::walk::has_flagged;
 use cargo_toml_features::features::{DepAction, Feature};
 use cargo_toml_features::node::Node;
-use cargo_toml_full::places::place_near;
+use cargo_toml_features::places::place_near;
 use std::alloc::{AllocError, Global};
 use std::collections::{BTreeMap, BTreeSet};
 

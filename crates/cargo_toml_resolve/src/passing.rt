@@ -1,20 +1,16 @@
 //! The binaries of removed features are passed on.
-ghost use Rattle.std.specs.Prelude.{◌≡◌, ◌<◌, ◌≤◌, ◌∷◌, ◌&&◌, ◌||◌, [], ℕ};
-ghost use Rattle.std.specs.Prelude.{bytes_eq, false, length, nat_eq, not, take, true, IfOk};
-ghost use Rattle.std.specs.Prelude.{OnOk};
-ghost use Rattle.cargo_toml_graph.specs.Action.{Text};
-ghost use Rattle.cargo_toml_graph.specs.Reach.{Among};
-ghost use Rattle.cargo_toml_graph.specs.Removal.{put_each};
+ghost use Rattle.std.specs.Prelude.{◌≡◌, ◌<◌, ◌≤◌, ◌∷◌, ◌&&◌, ◌||◌, [], ℕ, bytes_eq, false, length};
+ghost use Rattle.std.specs.Prelude.{nat_eq, not, take, true, IfOk, OnOk};
+ghost use Rattle.cargo_toml_graph.specs.{Action.Text, Reach.Among, Removal.put_each};
 ghost use Rattle.cargo_toml_features.specs.Views.{set_has};
-ghost use Rattle.cargo_toml_resolve.specs.Numbers.{IsWanted};
-ghost use Rattle.cargo_toml_resolve.specs.Passing.{AreKnown, Knows, MayKnow, bins_of, passed_below};
-ghost use Rattle.cargo_toml_resolve.specs.Passing.{AreSameButBins, Puts};
-ghost use Rattle.cargo_toml_resolve.specs.Texts.{texts_now};
+ghost use Rattle.cargo_toml_resolve.specs.{Numbers.IsWanted, Passing.AreKnown, Passing.Knows};
+ghost use Rattle.cargo_toml_resolve.specs.Passing.{MayKnow, bins_of, passed_below, AreSameButBins};
+ghost use Rattle.cargo_toml_resolve.specs.{Passing.Puts, Texts.texts_now};
 
 use crate::rows::Rows;
 use cargo_toml_features::features::Feature;
 use cargo_toml_features::node::Node;
-use cargo_toml_full::sets::set_of;
+use cargo_toml_features::sets::set_of;
 use std::alloc::{AllocError, Global};
 use std::collections::BTreeSet;
 

@@ -1,6 +1,5 @@
 //! What stands for removed vertices, one after another.
-ghost use Rattle.std.specs.Prelude.{◌≡◌, ◌<◌, ◌≤◌, ◌↔◌, ℕ, List, length};
-ghost use Rattle.std.specs.Prelude.{IfOk, OnOk};
+ghost use Rattle.std.specs.Prelude.{◌≡◌, ◌<◌, ◌≤◌, ◌↔◌, ℕ, List, length, IfOk, OnOk};
 ghost use Rattle.cargo_toml_graph.specs.Reach.{Among};
 ghost use Rattle.cargo_toml_resolve.specs.Numbers.{AreWithin, FindsRedirects, HasLabel, IsPassed};
 ghost use Rattle.cargo_toml_resolve.specs.Numbers.{Leads, Moves, Replaces};

@@ -1,22 +1,20 @@
 //! From what a manifest lists to the whole answer.
 ghost use Rattle.std.specs.Prelude.{map, IfOk};
 ghost use Rattle.cargo_toml_graph.specs.Reach.{IsOnce};
-ghost use Rattle.cargo_toml_features.specs.FirstTarget.{HaveTargets};
-ghost use Rattle.cargo_toml_full.specs.OwnBins.{own_of, bin_requirement};
-ghost use Rattle.cargo_toml_features.specs.Marks.{named_details};
-ghost use Rattle.cargo_toml_features.specs.Reached.{IsKeyed};
-ghost use Rattle.cargo_toml_features.specs.Views.{listed_of, answer_of, entry_of};
-ghost use Rattle.cargo_toml_resolve.specs.Filter.{HasNameFilter};
-ghost use Rattle.cargo_toml_resolve.specs.Removed.{IsAnswerBy};
+ghost use Rattle.cargo_toml_features.specs.{FirstTarget.HaveTargets, OwnBins.own_of};
+ghost use Rattle.cargo_toml_features.specs.{OwnBins.bin_requirement, Marks.named_details};
+ghost use Rattle.cargo_toml_features.specs.{Reached.IsKeyed, Views.listed_of, Views.answer_of};
+ghost use Rattle.cargo_toml_features.specs.Views.{entry_of};
+ghost use Rattle.cargo_toml_resolve.specs.{Filter.HasNameFilter, Removed.IsAnswerBy};
 
 use crate::flags::hidden_flags;
 use crate::hashing::hashed_dependencies;
 use crate::kept::{Kept, kept_of};
 use cargo_toml_features::admit::Listing;
 use cargo_toml_features::features::{Features, ParseDependency};
-use cargo_toml_full::required::Requirement;
-use cargo_toml_full::resolve_all;
-use cargo_toml_full::unremoved::Unremoved;
+use cargo_toml_features::required::Requirement;
+use cargo_toml_features::resolve_all;
+use cargo_toml_features::unremoved::Unremoved;
 use std::alloc::{AllocError, Global};
 use std::hash::BuildHasher;
 

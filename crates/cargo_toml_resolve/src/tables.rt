@@ -2,8 +2,7 @@
 ghost use Rattle.std.specs.Prelude.{◌≡◌, ◌*◌, ◌<◌, ◌≤◌, ◌↔◌, ◌⊎◌, ℕ, IfOk, OnOk, length};
 ghost use Rattle.cargo_toml_graph.specs.Reach.{Among};
 ghost use Rattle.cargo_toml_resolve.specs.Bits.{AreWide, Gains, HasBit, Holds, words_of};
-ghost use Rattle.cargo_toml_resolve.specs.Dense.{IsTable};
-ghost use Rattle.cargo_toml_resolve.specs.Numbers.{IsWanted, Leads};
+ghost use Rattle.cargo_toml_resolve.specs.{Dense.IsTable, Numbers.IsWanted, Numbers.Leads};
 
 use crate::bits::{bits_of, has_bit, join, nodes_of};
 use crate::rows::Rows;

@@ -1,9 +1,8 @@
 //! What a kept feature holds once the removed ones that it passes are taken out.
 ghost use Rattle.std.specs.Prelude.{◌≡◌, ◌<◌, ◌⊎◌, ℕ, Some, OnOk, length};
-ghost use Rattle.cargo_toml_graph.specs.Action.{Text, IsJoin};
-ghost use Rattle.cargo_toml_graph.specs.Reach.{Among};
+ghost use Rattle.cargo_toml_graph.specs.{Action.Text, Action.IsJoin, Reach.Among};
 ghost use Rattle.cargo_toml_features.specs.Views.{action_at};
-ghost use Rattle.cargo_toml_resolve.specs.Holding.{DoesAt, ChangesIn, ComesToHold, TakesActions};
+ghost use Rattle.cargo_toml_resolve.specs.Holding.{ComesToHold, DoesAt};
 
 use crate::joining::add_actions;
 use cargo_toml_features::features::{DepAction, Feature};
@@ -29,28 +28,6 @@ fn join_passed<'m>(
     Ok(())
 }
 
-// What the passed features do is joined to what the one in place `at` does, which does
-// nothing meanwhile.
-fn take_actions<'m>(
-    alloc: Global,
-    features: &mut Vec<Feature<'m>>,
-    at: Node,
-    passed: &[Node],
-) -> Result<(), AllocError>
-    requires at { at < length features.old.items }
-    requires passed { (b : ℕ) → Among passed.now b → b < length features.old.items }
-    requires apart { ¬ Among passed.now at }
-    ensures { OnOk result (ChangesIn (TakesActions features.old.items at passed.now) at
-        features.old.items features.new.items) }
-{
-    let feature = &mut features[at.place()];
-    let mut own = mem::replace(&mut feature.enables_deps, BTreeMap::new(alloc));
-    join_passed(alloc, &mut own, features.as_slice(), passed)?;
-    let feature = &mut features[at.place()];
-    feature.enables_deps = own;
-    Ok(())
-}
-
 /// A feature comes to hold what was found for it: it has these names, and does what it and the
 /// passed ones do. It fails only where memory runs out.
 pub(crate) fn hold<'m>(
@@ -63,11 +40,15 @@ pub(crate) fn hold<'m>(
     requires at { at < length features.old.items }
     requires passed { (b : ℕ) → Among passed.now b → b < length features.old.items }
     requires apart { ¬ Among passed.now at }
-    ensures { OnOk result (ChangesIn
-        (ComesToHold features.old.items at passed.now names.entry) at
+    ensures { OnOk result (ComesToHold at passed.now names.entry
         features.old.items features.new.items) }
 {
-    take_actions(alloc, features, at, passed)?;
-    features[at.place()].enables_features = names;
+    // it does nothing meanwhile
+    let feature = &mut features[at.place()];
+    let mut own = mem::replace(&mut feature.enables_deps, BTreeMap::new(alloc));
+    join_passed(alloc, &mut own, features.as_slice(), passed)?;
+    let feature = &mut features[at.place()];
+    feature.enables_deps = own;
+    feature.enables_features = names;
     Ok(())
 }

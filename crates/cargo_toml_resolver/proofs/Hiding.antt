@@ -3,8 +3,8 @@ use Rattle.std.proofs.Common.{◌≤◌, Bool, true, List, IsTrue, count_by, is_
 use Rattle.cargo_toml_graph.specs.{Action.Text, Admitted.Listed, Bins.IsComplete}
 use Rattle.cargo_toml_graph.proofs.InByteOrder.{ascending_once, passed_complete}
 use Rattle.cargo_toml_features.specs.{Marks.NamedDetails, Recorded.Entry, Resolved.Answer, Resolved.IsAnswer, Resolved.IsAnswerWithout, Resolved.table_of}
+use Rattle.cargo_toml_features.specs.OwnBins.{own_of}
 use Rattle.cargo_toml_resolve.proofs.{ByFilter.answer_alike, AgainstAll.none_left, AgainstAll.keeps_enabling, AgainstAll.loses_nothing}
-use Rattle.cargo_toml_full.specs.OwnBins.{own_of}
 use Rattle.cargo_toml_resolver.{specs.Parsed.IsHiding, proofs.Mentions.mentions_counted}
 
 module _ (listed : Listed) (entries : List Entry) (details : NamedDetails) (required : List (Text × Text)) (R : Text → Type 0) (a : Answer)

@@ -3,16 +3,13 @@ use Rattle.std.proofs.Common.{◌≡◌, ℕ, T, is_ok, Option, Some, Result, Ok
 use Rattle.std.specs.{Prelude.⊤, Prelude.is_some, Prelude.true, Borrow.follows_so}
 use seplogic.Ra.Ura.{Ura}
 use mathlib.Core.Option.{none}
-use base.Logic.{ent, ex_i, ex_e}
-use base.Fml.{GName}
+use base.{Logic.ent, Logic.ex_i, Logic.ex_e, Fml.GName}
 use types.Logic.{Logic, sem}
-use denote.Follow.{follows_by, such_by}
-use denote.RattleType.{RattleType}
-use denote.Ref.{Bor}
+use denote.{Follow.follows_by, Follow.such_by, RattleType.RattleType, Ref.Bor}
 use Rattle.cargo_toml_parts.specs.declared.error.Error.{Error, Memory}
 use Rattle.cargo_toml_discovery.specs.{Names.Name, Told.Told}
-use Rattle.cargo_toml_manifest.specs.{declared.manifest.Manifest.Manifest, Choosing.Handed, Choosing.MayFind, Choosing.RootsTold, Completed.IsCompleted, Completing.Outcome, Completing.gives}
-use Rattle.cargo_toml_manifest.specs.{Completing.refuses, Completing.no_workspace, Completing.untold, Completing.Meets, Completing.complete, Manifests.ManifestMeaning, Manifests.held}
+use Rattle.cargo_toml_manifest.specs.{declared.manifest.Manifest.Manifest, Choosing.Handed, Choosing.MayFind, Choosing.RootsTold, Completed.IsCompleted, Completing.Outcome, Completing.gives, Completing.refuses, Completing.no_workspace}
+use Rattle.cargo_toml_manifest.specs.{Completing.untold, Completing.Meets, Completing.complete, Manifests.ManifestMeaning, Manifests.held}
 use Rattle.cargo_toml_manifest.proofs.Meeting.{given_again, refused_again}
 use Rattle.cargo_toml_resolve.specs.Filter.{Asked}
 use Rattle.cargo_toml_features.specs.{declared.features.Features.Features, FirstTarget.HaveTargets, Reached.IsKeyed, Views.answer_of}

@@ -2,22 +2,13 @@
 use Rattle.std.proofs.Common.{◌≡◌, ℕ, List, [], ◌∷◌, refl, subst}
 use lib.Dec.{T}
 use Prim.Native.Nat.{zero, suc}
-use mir.Syntax.{Ty, ty_unit, Local, local}
-use mir.Val.{Val, has_ty, WT}
+use mir.{Syntax.Ty, Syntax.ty_unit, Syntax.Local, Syntax.local, Val.Val, Val.has_ty, Val.WT}
 use seplogic.Ra.Ura.{Ura}
 use types.Logic.{Logic}
-use denote.RattleType.{RattleType, RowLaws}
-use denote.Builtin.{unit, One}
-use denote.Laws.{Is, Typed, Makes}
-use denote.Param.{layout}
-use denote.Param.Laws.{Laws, of_field}
-use denote.Param.Shared.{copy_shared}
-use denote.Ref.{NamedLft}
-use denote.Struct.Field.{shr_ref_field}
-use denote.Struct.Laws.{shr_ref_laws, shr_ref_copy, makes}
+use denote.{RattleType.RattleType, RattleType.RowLaws, Builtin.unit, Builtin.One, Laws.Is, Laws.Typed, Laws.Makes, Param.layout, Param.Laws.Laws, Param.Laws.of_field, Param.Shared.copy_shared, Ref.NamedLft, Struct.Field.shr_ref_field}
+use denote.{Struct.Laws.shr_ref_laws, Struct.Laws.shr_ref_copy, Struct.Laws.makes, Signature.Slot, Signature.plain}
 use Rattle.std.specs.contracts.alloc.Global as Global
 use Rattle.std.proofs.alloc.Global.TheLaws as Global-laws
-use denote.Signature.{Slot, plain}
 
 pub record Single (τ : Ty) (vs : List Val) : Type 0 where
   pub word : Val

@@ -2,7 +2,7 @@
 ghost use Rattle.std.specs.Prelude.{◌≡◌, ◌≤◌, [], None, Some, is_some, map, true, IfOk, IfErr};
 ghost use Rattle.cargo_toml_parts.specs.declared.error.Error.{Memory};
 ghost use Rattle.cargo_toml_parts.specs.Reads.{map_meaning};
-ghost use Rattle.cargo_toml_dependencies.specs.Targets.{target_meaning};
+ghost use Rattle.cargo_toml_package.specs.Targets.{target_meaning};
 ghost use Rattle.cargo_toml_manifest.specs.Inheriting.{own_tables};
 ghost use Rattle.cargo_toml_manifest.specs.Manifests.{held};
 ghost use Rattle.cargo_toml_graph.specs.Admitted.{Listed, admitted};

@@ -2,13 +2,13 @@
 ghost use Rattle.std.specs.Prelude.{◌≡◌, ◌++◌, IfOk, OnOk, map};
 ghost use Rattle.std.specs.List.{flat_map};
 ghost use Rattle.cargo_toml_manifest.specs.Manifests.{held};
-ghost use Rattle.cargo_toml_full.specs.OwnBins.{bin_requirement};
-ghost use Rattle.cargo_toml_tables.specs.Products.{product_meaning};
+ghost use Rattle.cargo_toml_features.specs.OwnBins.{bin_requirement};
+ghost use Rattle.cargo_toml_parts.specs.Products.{product_meaning};
 ghost use Rattle.cargo_toml_resolver.specs.Parsed.{requirements, requirements_by};
 
-use cargo_toml_full::required::Requirement;
+use cargo_toml_features::required::Requirement;
 use cargo_toml_manifest::Manifest;
-use cargo_toml_tables::Product;
+use cargo_toml_parts::Product;
 use std::alloc::{AllocError, Global};
 
 // Adds what a binary requires, by its own name or else that of its package.

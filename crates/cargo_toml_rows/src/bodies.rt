@@ -4,9 +4,9 @@ use crate::custom;
 use crate::features::lines_of;
 use crate::row::{Row, Shown};
 use cargo_toml::Error;
+use cargo_toml_bench::HeldManifest;
 use cargo_toml_bench::bodies::resolve_by_both;
 use cargo_toml_bench::whole::{Answer, keep_a, keep_every};
-use cargo_toml_held::HeldManifest;
 use std::alloc::Global;
 use std::rt::Files;
 

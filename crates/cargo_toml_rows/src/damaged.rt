@@ -1,7 +1,7 @@
 //! What comes of a manifest that is cut off, or has a byte that no text has.
 use crate::row::Shown;
 use cargo_toml::Error;
-use cargo_toml_held::HeldManifest;
+use cargo_toml_bench::HeldManifest;
 use std::alloc::Global;
 
 /// That each beginning of the manifest, of every length from 0, is read or answers `Parse`, or else

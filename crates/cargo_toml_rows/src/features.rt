@@ -6,8 +6,8 @@ use cargo_toml::Error;
 use cargo_toml::features::{
     DepAction, DependenciesEnabledByFeatures, Feature, FeatureDependency, Features, Resolver,
 };
+use cargo_toml_bench::HeldManifest;
 use cargo_toml_bench::whole::{keep_a, resolve_by, resolve_whole};
-use cargo_toml_held::HeldManifest;
 use cargo_toml_program::{feature_lines, print_features};
 use std::alloc::{AllocError, Global};
 use std::collections::{BTreeSet, HashMap};

@@ -21,7 +21,7 @@ mod values;
 mod words;
 
 use cargo_toml::Error;
-use cargo_toml_row_files::templates;
+use cargo_toml_bench::templates;
 use manifests::with_lines;
 use row::{Row, Shown};
 use std::env;

@@ -2,8 +2,8 @@
 
 use crate::row::Shown;
 use cargo_toml::{Error, Manifest, ParseFault, ToValue, Value};
+use cargo_toml_bench::HeldManifest;
 use cargo_toml_bench::report::print_report;
-use cargo_toml_held::HeldManifest;
 use std::alloc::Global;
 use toml::Table;
 

@@ -1,6 +1,6 @@
 //! A row, and the files in its folder.
 use cargo_toml::Error;
-use cargo_toml_row_files::templates::{read, text_in};
+use cargo_toml_bench::templates::{read, text_in};
 use std::alloc::Global;
 use std::rt::Files;
 

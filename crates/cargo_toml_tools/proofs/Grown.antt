@@ -1,8 +1,6 @@
 -- Lists that grow by a piece for each element.
-use Rattle.std.proofs.Common.{arith, ◌≡◌, ◌+◌, ◌++◌, ◌∙◌, ◌<◌, ◌&&◌, ◌||◌, ℕ, Bool, false, true, List, [], ◌∷◌, add-one, drop, drop-cons, get_or, length, map, take, refl, sym, ap, append_assoc}
-use Rattle.std.proofs.lemmas.List.{append-nil, map-append, take_more}
-use Rattle.std.proofs.lemmas.List.Concat.{flat_map-append}
-use Rattle.std.specs.List.{flat_map, list_all, list_any}
+use Rattle.std.proofs.Common.{arith, ◌≡◌, ◌+◌, ◌++◌, ◌∙◌, ◌<◌, ℕ, List, [], ◌∷◌, add-one, drop, drop-cons, get_or, length, map, refl, sym, ap, append_assoc}
+use Rattle.std.{proofs.lemmas.List.append-nil, proofs.lemmas.List.Concat.flat_map-append, specs.List.flat_map}
 
 -- what is left to be added behind what was
 module _ {A B : Type 0} (f : A → List B) where
@@ -24,25 +22,6 @@ three_more a b c d x y z first second third = grind (arith, append_assoc)
 pub map_twice : {A B C : Type 0} (g : B → C) (f : A → B) (xs : List A) → map g (map f xs) ≡ map (λ x. g (f x)) xs
 map_twice g f [] = refl
 map_twice g f (x ∷ xs) = ap (λ t. g (f x) ∷ t) (map_twice g f xs)
-
--- an element that doesn't pass
-pub any_less : {A : Type 0} (test : A → Bool) (x : A) (left rest : List A) (some : Bool) → left ≡ x ∷ rest → test x ≡ false → list_any test left ≡ some → list_any test rest ≡ some
-any_less test x left rest some is miss before = ap (λ t. t || list_any test rest) (sym miss) ∙ ap (list_any test) (sym is) ∙ before
-
--- one that does, and none that is left
-pub any_found : {A : Type 0} (test : A → Bool) (x : A) (left rest : List A) (some : Bool) → left ≡ x ∷ rest → test x ≡ true → list_any test left ≡ some → true ≡ some
-any_found test x left rest some is hit before = ap (λ t. t || list_any test rest) (sym hit) ∙ ap (list_any test) (sym is) ∙ before
-
-pub any_none : {A : Type 0} (test : A → Bool) (left : List A) (some : Bool) → left ≡ [] → list_any test left ≡ some → false ≡ some
-any_none test left some none before = ap (list_any test) (sym none) ∙ before
-
-pub any_mapped : {A B : Type 0} (test : B → Bool) (f : A → B) (xs : List A) → list_any (λ x. test (f x)) xs ≡ list_any test (map f xs)
-any_mapped test f [] = refl
-any_mapped test f (x ∷ xs) = ap (λ b. test (f x) || b) (any_mapped test f xs)
-
-pub all_mapped : {A B : Type 0} (test : B → Bool) (f : A → B) (xs : List A) → list_all (λ x. test (f x)) xs ≡ list_all test (map f xs)
-all_mapped test f [] = refl
-all_mapped test f (x ∷ xs) = ap (λ b. test (f x) && b) (all_mapped test f xs)
 
 -- what is left begins with the next
 pub drop_next : {A : Type 0} (xs : List A) (i : ℕ) (d : A) → i < length xs → drop i xs ≡ get_or xs i d ∷ drop (i + 1) xs

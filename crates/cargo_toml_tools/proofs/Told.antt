@@ -1,11 +1,9 @@
 -- Entries and tables of dependencies, one after another.
 use Rattle.std.proofs.Common.{List, String, Global, string_bytes}
 use Rattle.std.specs.Prelude.{Vec, map}
-use Rattle.cargo_toml.specs.Action.{Text}
-use Rattle.cargo_toml.specs.Dependencies.{DependencyMeaning, dependency_meaning}
-use Rattle.cargo_toml.specs.Dependency.{Dependency}
-use Rattle.cargo_toml.specs.Targets.{TargetMeaning, target_meaning}
-use Rattle.cargo_toml_dependencies.specs.declared.target.Target.{Target}
+use Rattle.cargo_toml.specs.{Action.Text, Dependencies.DependencyMeaning, Dependencies.dependency_meaning, Dependency.Dependency, Targets.TargetMeaning}
+use Rattle.cargo_toml.specs.{Targets.target_meaning}
+use Rattle.cargo_toml_package.specs.declared.target.Target.{Target}
 
 -- what an entry of a table holds, and one of the table of targets
 abbrev pub entry_of : String Global × Dependency → Text × DependencyMeaning

@@ -1,19 +1,13 @@
 -- Which features are documented, and what each turns on.
-use Rattle.std.specs.Prelude.{◌≡◌, ◌↔◌, ◌&&◌, ◌||◌, Bool, false, IfSome, IsTrue, List, Some}
-use Rattle.std.specs.Prelude.{bytes_eq, codes, is_some, map, nat_eq, not}
-use Rattle.std.specs.Borrow.{Bor}
-use Rattle.std.specs.HashMap.{HashMap}
-use Rattle.std.specs.List.{AllByRecursion, starts_with}
-use Rattle.std.specs.Map.{lookup}
-use Rattle.std.specs.Option.{option_copied, option_map_or}
+use Rattle.std.specs.Prelude.{◌≡◌, ◌↔◌, ◌&&◌, ◌||◌, Bool, false, if◌then◌else◌, IfSome, IsSome}
+use Rattle.std.specs.Prelude.{IsTrue, List, None, Option, Some, bytes_eq, codes, map, nat_eq, not}
+use Rattle.std.specs.Prelude.{option_and_then}
+use Rattle.std.specs.List.{AllByRecursion, list_any, starts_with}
+use Rattle.std.specs.{Borrow.Bor, HashMap.HashMap, Option.option_copied, Option.option_map_or}
 use Rattle.cargo_toml.specs.Action.{Action, IsJoin, Text}
-use Rattle.cargo_toml.specs.Ascending.{Ascend}
-use Rattle.cargo_toml.specs.Feature.{Feature}
-use Rattle.cargo_toml.specs.Graph.{Table}
-use Rattle.cargo_toml.specs.Manifests.{ManifestMeaning}
-use Rattle.cargo_toml.specs.Reach.{Among}
-use Rattle.cargo_toml.specs.Recursive.{Enables}
 use Rattle.cargo_toml.specs.Views.{action_at, set_has, table_in, value_at}
+use Rattle.cargo_toml.specs.{Ascending.Ascend, Feature.Feature, Graph.Table}
+use Rattle.cargo_toml.specs.{Manifests.ManifestMeaning, Reach.Among, Recursive.Enables}
 use Rattle.cargo_toml_lint.specs.Turning.{turning}
 use Rattle.cargo_toml_tools.specs.declared.document.listing.Row.{Row}
 use Rattle.cargo_toml_tools.specs.declared.document.reached.Reached.{Reached}
@@ -40,6 +34,11 @@ pub record AreTexts (P : Text → Type 0) (texts : List Text) : Type 0 where
 abbrev pub is_beside : {S : Type 0} → HashMap (Bor Text) Feature S → Text → Text → Bool
 is_beside m name x = option_map_or (is_told_beside name) (value_at m x) false
 
+-- the feature of a name, if it is told of
+abbrev pub told_at : {S : Type 0} → HashMap (Bor Text) Feature S → Bool → Text → Option Feature
+told_at m has_default f =
+    option_and_then (λ v. if is_shown has_default v then Some v else None) (value_at m f)
+
 -- some feature of these acts so on the dependency k
 abbrev pub ActsOf : {S : Type 0} → HashMap (Bor Text) Feature S → (Text → Type 0) → Text → Action
     → Type 0
@@ -65,18 +64,16 @@ module _ {S : Type 0} (t : Table) (m : HashMap (Bor Text) Feature S) where
     pub is_default : IsTrue r.is_default ↔ IsOn (codes "default") v.key.now
     pub reached : IsReachedFrom v.key.now r.turns_on
 
-  -- whether f is told of
-  abbrev pub is_told_of : Bool → Text → Bool
-  is_told_of has_default f = option_map_or (is_shown has_default) (value_at m f) false
-
   -- the rows are those of all features that are told of, in byte order of their names
   pub record AreRows (has_default : Bool) (rows : List Row) : Type 0 where
-    pub names : AreTexts (λ f. IsTrue (is_told_of has_default f)) (map (λ r. r.name.now) rows)
-    pub each : AllByRecursion (λ r. IfSome (value_at m r.name.now) (IsRowOf r)) rows
+    pub names : AreTexts (λ f. IsSome (told_at m has_default f)) (map (λ r. r.name.now) rows)
+    pub each : AllByRecursion (λ r. IfSome (told_at m has_default r.name.now) (IsRowOf r)) rows
+
+-- the manifest has a list of `default`
+abbrev pub lists_default : {M : Type 0} → ManifestMeaning M → Bool
+lists_default d = list_any (λ f. bytes_eq (codes "default") f.0) d.features
 
 -- the same of a manifest, by what its features turn on
 abbrev pub AreRowsOf : {M S : Type 0} → ManifestMeaning M → HashMap (Bor Text) Feature S
     → List Row → Type 0
-AreRowsOf d m rows =
-    AreRows (turning d (table_in m).has) m
-    (is_some (lookup (bytes_eq (codes "default")) d.features)) rows
+AreRowsOf d m rows = AreRows (turning d (table_in m).has) m (lists_default d) rows

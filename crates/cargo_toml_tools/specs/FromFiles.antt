@@ -8,7 +8,7 @@ use Rattle.cargo_toml.specs.Disk.{IsInput}
 use Rattle.cargo_toml.specs.Error.{Error, Memory}
 use Rattle.cargo_toml.specs.Manifest.{Manifest}
 use Rattle.cargo_toml.specs.Manifests.{ManifestRefuses, manifest_meaning, manifest_reads}
-use Rattle.cargo_toml.specs.RealFiles.{IsPathFault, ReadsAs, any_root}
+use Rattle.cargo_toml.specs.RealFiles.{IsTextFault, ReadsAs, any_root}
 use Rattle.cargo_toml.specs.RealFiles.{real_folders, real_roots}
 use Rattle.cargo_toml.specs.Texts.{AnyRefuses, IsFromText, any_tree}
 
@@ -39,8 +39,8 @@ abbrev pub IsUnreadable : Error → Type 0
 IsUnreadable e =
     (e ≡ Memory) ⊎ (IsInput e ⊎ ((text : Text) × (IsUtf8 text × RefusesText text e)))
 
--- why the file at this path gives no completed one
-abbrev pub IsUncompleted : Text → Error → Type 0
-IsUncompleted path =
-    IsPathFault path (manifest_meaning view) (manifest_reads any_tree)
+-- why the text gives no manifest that is completed around this path
+abbrev pub IsUncompleted : Text → Text → Error → Type 0
+IsUncompleted path text =
+    IsTextFault path text (manifest_meaning view) (manifest_reads any_tree)
     (ManifestRefuses any_tree AnyRefuses)

@@ -1,12 +1,10 @@
 -- What the line of an index holds of a package, and how members are put into an object.
-use Rattle.std.specs.Prelude.{List, [], ◌∷◌, Option, Some, None, false, codes, map}
-use Rattle.std.specs.Prelude.{option_and_then, option_map}
+use Rattle.std.specs.Prelude.{List, [], ◌∷◌, Option, Some, None, false, codes, map, option_and_then}
+use Rattle.std.specs.Prelude.{option_map}
 use Rattle.semver.specs.Identifiers.{parts_text}
 use Rattle.serde_json.specs.Data.{Data, Members, array, boolean, null, put, string}
 use Rattle.serde_json.specs.View.{items_of}
-use Rattle.cargo_toml.specs.Action.{Text}
-use Rattle.cargo_toml.specs.InheritableValues.{value_of}
-use Rattle.cargo_toml.specs.Packages.{PackageMeaning}
+use Rattle.cargo_toml.specs.{Action.Text, InheritableValues.value_of, Packages.PackageMeaning}
 
 -- an object with each of these members put in its place, in byte order of their names
 abbrev pub with_rows : List (Text × Data) → Members → Members

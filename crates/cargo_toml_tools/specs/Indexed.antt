@@ -1,28 +1,22 @@
 -- Which crates an index takes, and what it refuses of others.
-use Rattle.std.specs.Prelude.{◌++◌, ◌&&◌, ◌||◌, Bool, true, false, if◌then◌else◌, not}
-use Rattle.std.specs.Prelude.{List, [], ◌∷◌, Option, Some, None, is_none, is_some, map}
-use Rattle.std.specs.Prelude.{bytes_eq, codes, option_and_then, option_map, unwrap_or}
-use Rattle.std.specs.List.{flat_map, list_any}
-use Rattle.std.specs.Option.{option_map_or, option_or}
+use Rattle.std.specs.Prelude.{◌++◌, ◌&&◌, ◌||◌, Bool, true, false, if◌then◌else◌, not, List, []}
+use Rattle.std.specs.Prelude.{◌∷◌, Option, Some, None, is_none, is_some, map, bytes_eq, codes}
+use Rattle.std.specs.Prelude.{option_and_then, option_map, unwrap_or}
+use Rattle.std.specs.{List.flat_map, List.list_any, Option.option_map_or, Option.option_or}
 use Rattle.toml.specs.Data.{Data, Members, as_bool, as_table, get_member, no_members}
 use Rattle.toml.specs.Parse.{parse_document}
-use Rattle.cargo_toml.specs.Action.{Text}
 use Rattle.cargo_toml.specs.Dependencies.{DependencyMeaning, simple, inherited, detailed}
-use Rattle.cargo_toml.specs.Inheritable.{Inheritable}
 use Rattle.cargo_toml.specs.Inheritable.TheVariants.{Inherited, Set}
 use Rattle.cargo_toml.specs.InheritedDependencies.{Entries, is_left}
-use Rattle.cargo_toml.specs.InheritedPackages.{is_left_there}
-use Rattle.cargo_toml.specs.Kind.{Kind}
 use Rattle.cargo_toml.specs.Kind.TheVariants.{Build, Dev, Normal}
 use Rattle.cargo_toml.specs.Manifests.{ManifestMeaning, is_zero}
-use Rattle.cargo_toml.specs.Packages.{PackageMeaning}
 use Rattle.cargo_toml.specs.Settings.{Registries, among, everywhere}
-use Rattle.cargo_toml.specs.Targets.{TargetMeaning}
-use Rattle.cargo_toml.specs.Versions.{Parts}
-use Rattle.cargo_toml_lint.specs.Findings.{code_level}
-use Rattle.cargo_toml_lint.specs.declared.finding.Finding.{Finding}
-use Rattle.cargo_toml_lint.specs.declared.finding.Level.{Level}
+use Rattle.cargo_toml.specs.{Action.Text, Inheritable.Inheritable, InheritedPackages.is_left_there}
+use Rattle.cargo_toml.specs.{Kind.Kind, Packages.PackageMeaning, Targets.TargetMeaning}
+use Rattle.cargo_toml.specs.{Versions.Parts}
 use Rattle.cargo_toml_lint.specs.declared.finding.Level.TheVariants.{Error, Hint, Warning}
+use Rattle.cargo_toml_lint.specs.{Findings.code_level, declared.finding.Finding.Finding}
+use Rattle.cargo_toml_lint.specs.{declared.finding.Level.Level}
 use Rattle.cargo_toml_tools.specs.declared.index.refusals.Fault.{Fault}
 use Rattle.cargo_toml_tools.specs.declared.index.refusals.Fault.TheVariants as fault
 
@@ -61,26 +55,23 @@ table_name Build = codes "build-dependencies"
 abbrev pub section_in : Option Members → Kind → Option Members
 section_in place kind = option_and_then (table_in (table_name kind)) place
 
--- the name of a table with `_` for `-`, under which Cargo reads it, too, and the library doesn't
-abbrev pub other_name : Kind → Text
-other_name Normal = codes "dependencies"
-other_name Dev = codes "dev_dependencies"
-other_name Build = codes "build_dependencies"
+-- a name, where something is written under it
+abbrev pub name_in : Text → Members → Option Text
+name_in name ms = option_map (λ d. name) (get_member name ms)
 
-abbrev pub is_other_there : Kind → Members → Bool
-is_other_there Normal ms = false
-is_other_there Dev ms = is_some (get_member (other_name Dev) ms)
-is_other_there Build ms = is_some (get_member (other_name Build) ms)
-
-abbrev pub has_other_name : Option Members → Kind → Bool
-has_other_name place kind = option_map_or (is_other_there kind) place false
+-- the name with `_` for `-` under which a table is written: Cargo reads it, too, and the library
+-- doesn't
+abbrev pub other_name : Option Members → Kind → Option Text
+other_name place Normal = None
+other_name place Dev = option_and_then (name_in (codes "dev_dependencies")) place
+other_name place Build = option_and_then (name_in (codes "build_dependencies")) place
 
 -- a table of dependencies: its kind and target, how it is written, and what it holds
 pub record DependencyTable : Type 0 where
   pub kind : Kind
   pub target : Option Text
   pub written : Option Members
-  pub has_other_name : Bool
+  pub other_name : Option Text
   pub entries : Entries
 
 abbrev pub table_at : Option Text → Option Members → Kind → Entries → DependencyTable
@@ -88,7 +79,7 @@ table_at target place kind entries = record {
   kind = kind;
   target = target;
   written = section_in place kind;
-  has_other_name = has_other_name place kind;
+  other_name = other_name place kind;
   entries = entries;
 }
 
@@ -168,11 +159,6 @@ lacks_version (simple r) = false
 lacks_version (inherited i) = false
 lacks_version (detailed d) = is_none d.version && (is_some d.path || is_some d.git)
 
-abbrev pub is_dev : Kind → Bool
-is_dev Normal = false
-is_dev Build = false
-is_dev Dev = true
-
 -- `default_features`, which Cargo reads as `default-features`, and the library doesn't
 abbrev pub other_flag : Text
 other_flag = codes "default_features"
@@ -185,19 +171,24 @@ keeps_other_flag (detailed d) = list_any (λ e. bytes_eq other_flag e.0) d.unsta
 abbrev pub has_other_flag : Option Members → Text × DependencyMeaning → Bool
 has_other_flag table e = is_some (written_flag table e.0 other_flag) || keeps_other_flag e.1
 
--- of a dependency, which stands under its key. Where it lacks its version it is left out, if it is
--- for tests
+-- a dependency that lacks its version is left out, if it is for tests
+abbrev pub unversioned_refusal : Kind → Text → Option Refusal
+unversioned_refusal Normal key = Some (fault.NoRequirement, key)
+unversioned_refusal Build key = Some (fault.NoRequirement, key)
+unversioned_refusal Dev key = None
+
+-- of a dependency, which stands under its key
 abbrev pub entry_refusal : List (Text × Text) → DependencyTable → Text × DependencyMeaning
     → Option Refusal
 entry_refusal names t e =
     if is_left e.1 then Some (fault.Incomplete, e.0)
     else if has_other_flag t.written e then Some (fault.OtherFlag, e.0)
-    else if lacks_version e.1 then refuse_if (not (is_dev t.kind)) fault.NoRequirement e.0
+    else if lacks_version e.1 then unversioned_refusal t.kind e.0
     else refuse_if (is_none (source_of names e.1)) fault.NoAddress e.0
 
 abbrev pub table_refusal : List (Text × Text) → DependencyTable → Option Refusal
 table_refusal names t =
-    option_or (refuse_if t.has_other_name fault.OtherTable (other_name t.kind))
+    option_or (option_map (λ name. (fault.OtherTable, name)) t.other_name)
     (first_refusal (entry_refusal names t) t.entries)
 
 -- what the table `package` has under a key

@@ -1,15 +1,13 @@
 -- What the code's own types of `index` stand for.
 use Rattle.std.specs.Prelude.{Option, Some, None, List, map, option_map, string_bytes}
-use Rattle.std.specs.Borrow.{Bor}
-use Rattle.std.specs.Option.{option_copied}
+use Rattle.std.specs.{Borrow.Bor, Option.option_copied}
 use Rattle.toml.specs.View.{table_view}
 use Rattle.cargo_toml.specs.Action.{Text}
-use Rattle.cargo_toml_dependencies.specs.Replacing.{entries_meaning}
+use Rattle.cargo_toml_package.specs.Replacing.{entries_meaning}
 use Rattle.cargo_toml_tools.specs.declared.index.IndexError.{IndexError}
 use Rattle.cargo_toml_tools.specs.declared.index.IndexError.TheVariants.{Memory, Refused}
 use Rattle.cargo_toml_tools.specs.declared.index.Options.{Options}
-use Rattle.cargo_toml_tools.specs.declared.index.features.List.{List as Kept}
-use Rattle.cargo_toml_tools.specs.declared.index.refusals.Refusal.{Refusal as Found}
+use Rattle.cargo_toml_tools.specs.declared.index.refusals.Fault.{Fault}
 use Rattle.cargo_toml_tools.specs.declared.index.sections.Section.{Section}
 use Rattle.cargo_toml_tools.specs.Indexed.{DependencyTable, Refusal, Wanted}
 
@@ -18,7 +16,7 @@ table_of s = record {
   kind = s.kind;
   target = option_copied s.target;
   written = option_map (λ t. table_view t.now) s.written;
-  has_other_name = s.has_other_name;
+  other_name = option_copied s.other_name;
   entries = entries_meaning s.entries.now;
 }
 
@@ -33,13 +31,10 @@ wanted_of o = record {
   force = o.force;
 }
 
-abbrev pub refused : Found → Refusal
-refused r = (r.fault, r.subject.now)
+abbrev pub refused : Fault × Bor Text → Refusal
+refused r = (r.0, r.1.now)
 
 -- what an error tells
 abbrev pub told : IndexError → Option Refusal
 told (Refused fault subject) = Some (fault, string_bytes subject)
 told Memory = None
-
-abbrev pub kept_list : Kept → Text × List Text
-kept_list l = (l.name.now, map (λ t. t.now) l.texts.items)

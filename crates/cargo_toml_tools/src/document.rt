@@ -12,7 +12,7 @@ pub use dot::graph;
 pub use listing::{Row, TakesRows, rows};
 pub use reached::Reached;
 use std::alloc::{AllocError, Global};
-use std::collections::{BTreeMap, BTreeSet};
+use std::collections::BTreeMap;
 
 /// A page in Markdown on the features that users may ask for: each with its text, whether it is on
 /// by default, and what it turns on, by any number of steps. Optional dependencies that serve as
@@ -21,7 +21,6 @@ use std::collections::{BTreeMap, BTreeSet};
 pub struct Page {
     /// The page.
     pub text: String,
-    alloc: Global,
 }
 
 impl Page {
@@ -29,7 +28,6 @@ impl Page {
     pub fn new(alloc: Global) -> Page {
         Page {
             text: String::new(alloc),
-            alloc,
         }
     }
 }
@@ -40,29 +38,20 @@ impl TakesRows for Page {
     ghost took = { λ _ _ _. ⊤ };
 
     fn take(&mut self, name: Option<&str>, rows: &[Row<'_>]) -> Result<(), AllocError> {
-        push_title(&mut self.text, name)?;
-        push_table(self.alloc, &mut self.text, rows, true)?;
-        push_table(self.alloc, &mut self.text, rows, false)
+        self.text.push_str("# Features")?;
+        if let Some(name) = name {
+            self.text.push_str(" of ")?;
+            push_code(&mut self.text, name)?;
+        }
+        self.text.push_str("\n")?;
+        push_table(&mut self.text, rows, true)?;
+        push_table(&mut self.text, rows, false)
     }
-}
-
-fn push_title(page: &mut String, name: Option<&str>) -> Result<(), AllocError> {
-    page.push_str("# Features")?;
-    if let Some(name) = name {
-        page.push_str(" of ")?;
-        push_code(page, name)?;
-    }
-    page.push_str("\n")
 }
 
 /// The table of the features that are listed, or of those that are optional dependencies. It has
 /// texts where some row has one.
-fn push_table(
-    alloc: Global,
-    page: &mut String,
-    rows: &[Row<'_>],
-    is_listed: bool,
-) -> Result<(), AllocError> {
+fn push_table(page: &mut String, rows: &[Row<'_>], is_listed: bool) -> Result<(), AllocError> {
     if !rows.iter().any(|row| row.is_listed == is_listed) {
         return Ok(());
     }
@@ -75,7 +64,7 @@ fn push_table(
     page.push_str(table_head(has_texts))?;
     for row in rows {
         if row.is_listed == is_listed {
-            push_row(alloc, page, row, has_texts)?;
+            push_row(page, row, has_texts)?;
         }
     }
     Ok(())
@@ -89,12 +78,7 @@ fn table_head(has_texts: bool) -> &'static str {
     }
 }
 
-fn push_row(
-    alloc: Global,
-    page: &mut String,
-    row: &Row<'_>,
-    has_texts: bool,
-) -> Result<(), AllocError> {
+fn push_row(page: &mut String, row: &Row<'_>, has_texts: bool) -> Result<(), AllocError> {
     page.push_str("| ")?;
     push_code(page, row.name)?;
     page.push_str(" | ")?;
@@ -102,51 +86,33 @@ fn push_row(
         push_escaped(page, row.doc.unwrap_or(""), Format::Markdown)?;
         page.push_str(" | ")?;
     }
-    page.push_str(if row.is_default { "yes" } else { "no" })?;
-    page.push_str(" | ")?;
-    push_names(page, &row.turns_on.features)?;
-    page.push_str(" | ")?;
-    push_actions(alloc, page, &row.turns_on.actions)?;
-    page.push_str(" |\n")
-}
-
-fn push_names(page: &mut String, names: &BTreeSet<&str>) -> Result<(), AllocError> {
-    for (i, name) in names.iter().enumerate() {
+    page.push_str(if row.is_default { "yes | " } else { "no | " })?;
+    for (i, name) in row.turns_on.features.iter().enumerate() {
         page.push_str(comma_before(i))?;
         push_code(page, *name)?;
     }
-    Ok(())
+    page.push_str(" | ")?;
+    push_actions(page, &row.turns_on.actions)?;
+    page.push_str(" |\n")
 }
 
 /// Actions as a feature's list says them: `log`, `log/std`, or `log?/std` where something else has
 /// to turn the dependency on.
 fn push_actions(
-    alloc: Global,
     page: &mut String,
     actions: &BTreeMap<&str, DepAction<'_>>,
 ) -> Result<(), AllocError> {
+    let alloc = *page.allocator();
     for (i, (key, action)) in actions.iter().enumerate() {
         page.push_str(comma_before(i))?;
         let mark = if action.is_conditional { "?" } else { "" };
-        let front = format!(in alloc; "{key}{mark}")?;
-        push_asked(alloc, page, front.as_str(), &action.dep_features)?;
-    }
-    Ok(())
-}
-
-/// What stands in front of its slash, with each feature that is asked for, or alone.
-fn push_asked(
-    alloc: Global,
-    page: &mut String,
-    front: &str,
-    asked: &BTreeSet<&str>,
-) -> Result<(), AllocError> {
-    if asked.is_empty() {
-        return push_code(page, front);
-    }
-    for (i, feature) in asked.iter().enumerate() {
-        page.push_str(comma_before(i))?;
-        push_code(page, format!(in alloc; "{front}/{feature}")?.as_str())?;
+        if action.dep_features.is_empty() {
+            push_code(page, format!(in alloc; "{key}{mark}")?.as_str())?;
+        }
+        for (j, feature) in action.dep_features.iter().enumerate() {
+            page.push_str(comma_before(j))?;
+            push_code(page, format!(in alloc; "{key}{mark}/{feature}")?.as_str())?;
+        }
     }
     Ok(())
 }

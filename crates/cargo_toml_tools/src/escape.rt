@@ -53,55 +53,20 @@ pub fn fault_line(alloc: Global, file: &str, words: &str) -> Result<String, Allo
     Ok(line)
 }
 
+/// Writes a character by its number where that is needed, into a line as Rust does, and elsewhere
+/// as HTML does.
 fn push_char(text: &mut String, c: char, format: Format) -> Result<(), AllocError> {
-    match format {
-        Format::Line => push_in_line(text, c),
-        Format::Markdown => push_in_markdown(text, c),
-        Format::Dot => push_in_dot(text, c),
-    }
-}
-
-fn push_in_line(text: &mut String, c: char) -> Result<(), AllocError> {
-    if is_control(c) {
-        return push_braced(text, c);
-    }
-    match c {
-        '\\' => text.push_str("\\\\"),
-        '|' => text.push_str("\\|"),
+    let number = u32::from(c);
+    match (format, c) {
+        (Format::Line, _) if is_control(c) => write!(text, "\\u{{{number:x}}}"),
+        (Format::Dot, _) if is_control(c) => write!(text, "&#{number};"),
+        (Format::Markdown, _) if !is_plain_in_markdown(c) => write!(text, "&#{number};"),
+        (Format::Line | Format::Dot, '\\') => text.push_str("\\\\"),
+        (Format::Line, '|') => text.push_str("\\|"),
+        (Format::Dot, '"') => text.push_str("\\\""),
+        (Format::Dot, '&') => text.push_str("&amp;"),
         _ => text.push(c),
     }
-}
-
-fn push_in_markdown(text: &mut String, c: char) -> Result<(), AllocError> {
-    if is_plain_in_markdown(c) {
-        text.push(c)
-    } else {
-        push_numbered(text, c)
-    }
-}
-
-fn push_in_dot(text: &mut String, c: char) -> Result<(), AllocError> {
-    if is_control(c) {
-        return push_numbered(text, c);
-    }
-    match c {
-        '\\' => text.push_str("\\\\"),
-        '"' => text.push_str("\\\""),
-        '&' => text.push_str("&amp;"),
-        _ => text.push(c),
-    }
-}
-
-/// Writes a character by its number into a line, as Rust does.
-fn push_braced(text: &mut String, c: char) -> Result<(), AllocError> {
-    let number = u32::from(c);
-    write!(text, "\\u{{{number:x}}}")
-}
-
-/// Writes a character by its number, as HTML does, and with it Markdown and Graphviz.
-fn push_numbered(text: &mut String, c: char) -> Result<(), AllocError> {
-    let number = u32::from(c);
-    write!(text, "&#{number};")
 }
 
 /// Whether the character is no sign: it ends a line, or is one of those that take no place or turn
@@ -125,19 +90,7 @@ fn is_plain_in_markdown(c: char) -> bool {
 /// Whether a name has characters, each of which stands for itself between backticks. A space in
 /// front doesn't, where another ends the name.
 fn is_code(name: &str) -> bool {
-    for c in name.chars() {
-        if !is_plain_in_code(c) {
-            return false;
-        }
-    }
-    !is_none_in_code(name)
-}
-
-/// Whether a name has no character, or begins with a space.
-fn is_none_in_code(name: &str) -> bool {
-    name.is_empty() || name.starts_with(' ')
-}
-
-fn is_plain_in_code(c: char) -> bool {
-    is_plain_in_markdown(c) || c == '_'
+    !name.is_empty()
+        && !name.starts_with(' ')
+        && name.chars().all(|c| c == '_' || is_plain_in_markdown(c))
 }

@@ -6,6 +6,6 @@ mod linting;
 mod reading;
 
 pub use documenting::{document, document_text, resolved};
-pub use indexing::{Fault, index_line};
-pub use linting::{findings_of, lint, lint_lines};
+pub use indexing::{Fault, Indexed, index_of};
+pub use linting::findings_of;
 pub use reading::{completed_of, manifest_in, text_in};

@@ -1,14 +1,12 @@
 //! The line of JSON that a registry's index has of a crate, by the rules of Cargo's.
-ghost use Rattle.std.specs.Prelude.{◌≡◌, ◌⊎◌, IfErr, IfOk, None, OnOk, Some, map};
-ghost use Rattle.std.specs.Prelude.{option_and_then, option_map, string_bytes};
+ghost use Rattle.std.specs.Prelude.{◌≡◌, ◌⊎◌, IfErr, IfOk, None, OnOk, Some, map, option_and_then};
+ghost use Rattle.std.specs.Prelude.{option_map, string_bytes};
 ghost use Rattle.std.specs.Option.{option_copied};
 ghost use Rattle.semver.specs.Identifiers.{parts_of, parts_text};
 ghost use Rattle.serde_json.specs.View.{members_view, view};
 ghost use Rattle.toml.specs.View.{table_view};
-ghost use Rattle.cargo_toml.specs.InheritableValues.{value_of};
-ghost use Rattle.cargo_toml.specs.Inherits.{inheritable_map};
-ghost use Rattle.cargo_toml.specs.Manifests.{held};
-ghost use Rattle.cargo_toml.specs.Packages.{held_package};
+ghost use Rattle.cargo_toml.specs.{InheritableValues.value_of, Inherits.inheritable_map};
+ghost use Rattle.cargo_toml.specs.{Manifests.held, Packages.held_package};
 ghost use Rattle.cargo_toml_tools.specs.declared.index.IndexError.TheVariants.{Memory};
 ghost use Rattle.cargo_toml_tools.specs.Indexed.{refusal_of, written};
 ghost use Rattle.cargo_toml_tools.specs.IndexLines.{index_data, line_data};
@@ -26,7 +24,7 @@ use crate::json::{put_text, put_text_if};
 use cargo_toml::{FeatureSet, Inheritable, Manifest, Package, SemVer};
 use cargo_toml_lint::Finding;
 use entry::entries;
-use features::{kept_lists, put_features};
+use features::put_features;
 pub use refusals::Fault;
 use refusals::{Refusal, package_refusal};
 pub use registries::{CRATES_IO, Named};
@@ -115,8 +113,7 @@ pub fn index_entry<M>(
         ≡ index_data (wanted_of options.entry) text.now (held manifest.now)) }
 {
     let Some(package) = &manifest.package else {
-        let fault = Fault::NoPackage;
-        return Err(error_of(alloc, Refusal { fault, subject: "" }));
+        return Err(error_of(alloc, (Fault::NoPackage, "")));
     };
     let document = document_of(alloc, text)?;
     let sections = sections(alloc, manifest, &document)?;
@@ -141,8 +138,9 @@ fn document_of(alloc: Global, text: &str) -> Result<Table, AllocError>
 fn error_of(alloc: Global, refusal: Refusal<'_>) -> IndexError
     ensures { (result ≡ Memory) ⊎ (told result ≡ Some (refused refusal.entry)) }
 {
-    match String::from_str(alloc, refusal.subject) {
-        Ok(name) => IndexError::Refused(refusal.fault, name),
+    let (fault, subject) = refusal;
+    match String::from_str(alloc, subject) {
+        Ok(name) => IndexError::Refused(fault, name),
         Err(_) => IndexError::Memory,
     }
 }
@@ -163,8 +161,7 @@ fn line_of<M>(
     put_package(alloc, &mut line, package)?;
     let entries = entries(alloc, options, sections)?;
     put(&mut line, alloc, "deps", Value::from(entries))?;
-    let lists = kept_lists(alloc, sections, features)?;
-    put_features(alloc, &mut line, lists.as_slice())?;
+    put_features(alloc, &mut line, sections, features)?;
     put_text_if(alloc, &mut line, "cksum", options.checksum)?;
     Ok(Value::from(line))
 }

@@ -1,8 +1,6 @@
 //! The requirement that a dependency has on a version.
-ghost use Rattle.std.specs.Prelude.{◌≡◌, option_map};
-ghost use Rattle.std.specs.Option.{option_copied};
-ghost use Rattle.cargo_toml.specs.Dependencies.{dependency_meaning};
-ghost use Rattle.cargo_toml.specs.Versions.{requirement_meaning};
+ghost use Rattle.std.specs.{Prelude.◌≡◌, Prelude.option_map, Option.option_copied};
+ghost use Rattle.cargo_toml.specs.{Dependencies.dependency_meaning, Versions.requirement_meaning};
 ghost use Rattle.cargo_toml_tools.specs.IndexEntries.{required_version};
 
 use cargo_toml::Dependency;

@@ -2,18 +2,19 @@
 #![tactic(auto)]
 
 mod running;
+mod workspace;
 
-use cargo_toml_tools_words::{Outcome, Request, read_request};
-use running::answer_each;
+use cargo_toml_tools::{Outcome, Request, read_request};
+use running::Run;
 use std::env::FillError;
 use std::io::IsTerminal;
 use std::process::ExitCode;
 use std::random::RandomSource;
-use std::rt::{Env, Files};
+use std::rt::{Clock, Env, Files};
 use std::{env, io};
 
 /// Does what is asked.
-fn answer<R: Files + Print + Eprint + RandomSource + AllocGlobal>(
+fn answer<R: Files + Print + Eprint + RandomSource + Clock + AllocGlobal>(
     rt: &R,
     request: &Request<'_>,
     shows: bool,
@@ -24,8 +25,8 @@ fn answer<R: Files + Print + Eprint + RandomSource + AllocGlobal>(
         | Request::Features(inputs)
         | Request::Index(inputs, _)
         | Request::Lint(inputs, _)
-        | Request::Document(inputs, _) => answer_each(rt, request, inputs),
-        Request::Audit(folder, as_json) => running::audit(rt, *folder, *as_json, shows),
+        | Request::Document(inputs, _) => Run::new(rt, shows)?.answer_each(request, inputs),
+        Request::Audit(folder, as_json) => Run::new(rt, shows)?.audit(*folder, *as_json),
         Request::Text(text) => {
             print!(rt; "{text}")?;
             Ok(Outcome::Done)
@@ -64,7 +65,7 @@ fn arguments<R: Env + AllocGlobal>(rt: &R) -> io::Result<Option<Vec<String>>> {
     }
 }
 
-fn run<R: Env + Files + Print + Eprint + RandomSource + AllocGlobal>(
+fn run<R: Env + Files + Print + Eprint + RandomSource + Clock + AllocGlobal>(
     rt: &R,
     shows: bool,
 ) -> io::Result<Outcome> {

@@ -1,168 +1,243 @@
-//! What comes of requests about files.
-use cargo_toml_audit::auditing::audit_text;
-use cargo_toml_check::check::check_lines;
-use cargo_toml_check::files::{features_in, json_in, toml_in};
-use cargo_toml_check::lint::{Judging, lint_lines};
-use cargo_toml_check::registry::{add_to_index, checksums, index_of};
-use cargo_toml_tools::escape::{Format, fault_line, push_escaped};
-use cargo_toml_tools::files::{document_text, text_in};
-use cargo_toml_tools_words::{Inputs, Outcome, Request, Wanted};
-use std::alloc::AllocError;
+//! What comes of requests about files and folders.
+use crate::workspace::{members, report_text, unread_above};
+use cargo_toml::Error;
+use cargo_toml_check::check::{check_lines, refusal_lines};
+use cargo_toml_check::files::{features_of, json_of, toml_of};
+use cargo_toml_check::lint::lint_lines;
+use cargo_toml_check::registry::{add_to_index, checksums};
+use cargo_toml_tools::escape::{Format, push_escaped};
+use cargo_toml_tools::files::{document_text, index_of, text_in};
+use cargo_toml_tools::{Inputs, Outcome, Request, Wanted};
 use std::collections::BTreeMap;
 use std::fmt::Display;
 use std::io;
 use std::io::Write;
 use std::random::RandomSource;
-use std::rt::Files;
+use std::rt::{Clock, Files};
+use std::time::Instant;
 
-/// Does what is asked with each file, and answers the worst that came of one.
-pub(crate) fn answer_each<R: Files + Print + Eprint + RandomSource + AllocGlobal>(
-    rt: &R,
-    request: &Request<'_>,
-    inputs: &Inputs<'_>,
-) -> io::Result<Outcome> {
-    let Request::Index(_, wanted) = request else {
-        return answer_with(rt, request, inputs, &BTreeMap::new(rt.alloc()));
-    };
-    let Some(file) = wanted.checksums else {
-        return answer_with(rt, request, inputs, &BTreeMap::new(rt.alloc()));
-    };
-    match text_in(rt, file) {
-        Ok(lines) => {
-            let sums = checksums(rt.alloc(), lines.as_str())?;
-            answer_with(rt, request, inputs, &sums)
-        }
-        Err(fault) => refuse(rt, file, fault),
-    }
+/// A run over files.
+#[derive(Drop)]
+pub(crate) struct Run<'a, R> {
+    rt: &'a R,
+    /// When it began, if a terminal is told how far it is.
+    began: Option<Instant>,
+    files: usize,
+    done: usize,
+    /// In which tenth of a second the terminal was told that, where the words stand there.
+    told: u128,
 }
 
-/// The same with these checksums.
-fn answer_with<R: Files + Print + Eprint + RandomSource + AllocGlobal>(
-    rt: &R,
-    request: &Request<'_>,
-    inputs: &Inputs<'_>,
-    sums: &BTreeMap<&str, &str>,
-) -> io::Result<Outcome> {
-    let mut outcome = Outcome::Done;
-    for file in &inputs.files {
-        outcome = answer_one(rt, request, sums, *file)?.max(outcome);
+impl<'a, R: Files + Print + Eprint + RandomSource + Clock + AllocGlobal> Run<'a, R> {
+    /// A run that begins now. Where `shows` is set, a terminal is told how far it is.
+    pub(crate) fn new(rt: &'a R, shows: bool) -> io::Result<Run<'a, R>> {
+        let began = if shows { Some(Instant::now(rt)?) } else { None };
+        Ok(Run {
+            rt,
+            began,
+            files: 0,
+            done: 0,
+            told: 0,
+        })
     }
-    let Some(from) = inputs.from else {
-        return Ok(outcome);
-    };
-    match text_in(rt, from) {
-        Ok(list) => {
-            for file in list.lines() {
-                outcome = answer_one(rt, request, sums, file)?.max(outcome);
+
+    /// Does what is asked with each file, and answers the worst that came of one.
+    pub(crate) fn answer_each(
+        &mut self,
+        request: &Request<'_>,
+        inputs: &Inputs<'_>,
+    ) -> io::Result<Outcome> {
+        let alloc = self.rt.alloc();
+        let mut lines = String::new(alloc);
+        if let Request::Index(_, wanted) = request {
+            if let Some(file) = wanted.checksums {
+                match text_in(self.rt, file) {
+                    Ok(text) => lines = text,
+                    Err(fault) => return self.refuse(file, "", fault),
+                }
             }
-            Ok(outcome)
         }
-        Err(fault) => Ok(refuse(rt, from, fault)?.max(outcome)),
+        let sums = checksums(alloc, lines.as_str())?;
+        let mut outcome = Outcome::Done;
+        let files = self.files_of(inputs, &mut outcome)?;
+        self.files = files.len();
+        for file in &files {
+            let one = self.answer_one(request, &sums, file.as_str())?;
+            outcome = one.max(outcome);
+        }
+        self.clear()?;
+        Ok(outcome)
+    }
+
+    /// The names of the files that are meant. What is refused goes into the outcome.
+    fn files_of(&mut self, inputs: &Inputs<'_>, outcome: &mut Outcome) -> io::Result<Vec<String>> {
+        let alloc = self.rt.alloc();
+        let mut files = Vec::new(alloc);
+        for file in &inputs.files {
+            files.push(String::from_str(alloc, *file)?)?;
+        }
+        if let Some(from) = inputs.from {
+            match text_in(self.rt, from) {
+                Ok(list) => {
+                    for file in list.lines() {
+                        files.push(String::from_str(alloc, file)?)?;
+                    }
+                }
+                Err(fault) => *outcome = self.refuse(from, "", fault)?,
+            }
+        }
+        if let Some(folder) = inputs.workspace {
+            match members(self.rt, folder, self.began.is_some()) {
+                Ok(found) => {
+                    for file in &found {
+                        files.push(file.clone()?)?;
+                    }
+                }
+                Err(fault) => *outcome = self.refuse_folder(folder, fault)?,
+            }
+        }
+        Ok(files)
+    }
+
+    /// Does what is asked with one file.
+    fn answer_one(
+        &mut self,
+        request: &Request<'_>,
+        sums: &BTreeMap<&str, &str>,
+        file: &str,
+    ) -> io::Result<Outcome> {
+        self.step()?;
+        let read = match text_in(self.rt, file) {
+            Ok(text) => text,
+            Err(fault) => return self.refuse(file, "", fault),
+        };
+        let text = read.as_str();
+        if let Request::Index(_, wanted) = request {
+            return self.index(wanted, sums, file, text);
+        }
+        match made_of(self.rt, request, file, text) {
+            Ok((made, odd)) => self.put(made.as_str(), odd),
+            Err(fault) => self.refuse(file, text, fault),
+        }
+    }
+
+    /// The line of an index, to where it is wanted.
+    fn index(
+        &mut self,
+        wanted: &Wanted<'_>,
+        sums: &BTreeMap<&str, &str>,
+        file: &str,
+        text: &str,
+    ) -> io::Result<Outcome> {
+        let made = match index_of(self.rt, file, text, wanted.options(), sums) {
+            Ok(made) => made,
+            Err(fault) => return self.refuse(file, text, fault),
+        };
+        if let Some(folder) = wanted.layout {
+            return match add_to_index(self.rt, folder, &made) {
+                Ok(()) => Ok(Outcome::Done),
+                Err(fault) => self.refuse(folder, "", fault),
+            };
+        }
+        let mut line = String::new(self.rt.alloc());
+        if wanted.with_names {
+            push_escaped(&mut line, file, Format::Line)?;
+            line.push_str("\t")?;
+        }
+        line.push_str(made.line.as_str())?;
+        self.put(line.as_str(), false)
+    }
+
+    /// The report on the workspace around a folder.
+    pub(crate) fn audit(&mut self, folder: &str, as_json: bool) -> io::Result<Outcome> {
+        match report_text(self.rt, folder, as_json, self.began.is_some()) {
+            Ok((text, odd)) => self.put(text.as_str(), odd),
+            Err(fault) => self.refuse_folder(folder, fault),
+        }
+    }
+
+    /// Writes what came of a file.
+    fn put(&mut self, text: &str, odd: bool) -> io::Result<Outcome> {
+        self.clear()?;
+        let mut output = io::writer(self.rt);
+        output.write_all(text.as_bytes())?;
+        output.flush()?;
+        Ok(if odd { Outcome::Odd } else { Outcome::Done })
+    }
+
+    /// Tells why a file is refused, of which this text is read.
+    fn refuse<F: Display + Drop>(
+        &mut self,
+        file: &str,
+        text: &str,
+        fault: F,
+    ) -> io::Result<Outcome> {
+        self.clear()?;
+        let rt = self.rt;
+        let words = format!(in rt.alloc(); "{fault}")?;
+        let lines = refusal_lines(rt.alloc(), file, text, words.as_str())?;
+        eprint!(rt; "{lines}")?;
+        Ok(Outcome::Refused)
+    }
+
+    /// Tells why there is no report on the workspace around a folder.
+    fn refuse_folder(&mut self, folder: &str, fault: Error) -> io::Result<Outcome> {
+        let unread = match &fault {
+            Error::Io(_) | Error::Memory => None,
+            _ => unread_above(self.rt, folder)?,
+        };
+        match unread {
+            Some((file, text)) => self.refuse(file.as_str(), text.as_str(), fault),
+            None => self.refuse(folder, "", fault),
+        }
+    }
+
+    /// Tells a terminal how many files are done, where that lasts over a second.
+    fn step(&mut self) -> io::Result<()> {
+        let rt = self.rt;
+        if let Some(began) = self.began {
+            let tenths = began.elapsed(rt)?.as_millis() / 100;
+            if tenths > 10 && tenths != self.told {
+                self.told = tenths;
+                eprint!(rt; "\r{} of {} files", self.done, self.files)?;
+            }
+        }
+        self.done = self.done.saturating_add(1);
+        Ok(())
+    }
+
+    /// Takes back what a terminal was told.
+    fn clear(&mut self) -> io::Result<()> {
+        if self.told == 0 {
+            return Ok(());
+        }
+        self.told = 0;
+        let rt = self.rt;
+        eprint!(rt; "\r\u{1b}[K")
     }
 }
 
-/// The same with one file.
-fn answer_one<R: Files + Print + Eprint + RandomSource + AllocGlobal>(
+/// What is made of the text of a file, and whether it tells something odd.
+fn made_of<R: Files + RandomSource + AllocGlobal>(
     rt: &R,
     request: &Request<'_>,
-    sums: &BTreeMap<&str, &str>,
     file: &str,
-) -> io::Result<Outcome> {
+    text: &str,
+) -> Result<(String, bool), Error> {
     match request {
-        Request::Check(_) => put(rt, file, check_lines(rt, file)),
-        Request::Show(_, true) => put(rt, file, as_line(json_in(rt, file))),
-        Request::Show(_, false) => put(rt, file, as_due(toml_in(rt, file))),
-        Request::Features(_) => put(rt, file, as_line(features_in(rt, file))),
-        Request::Index(_, wanted) => answer_index(rt, wanted, sums, file),
-        Request::Lint(_, judging) => {
-            let judging = Judging {
-                allowed: judging.allowed.as_slice(),
-                denies_hints: judging.denies_hints,
-                json: judging.json,
-            };
-            put(rt, file, lint_lines(rt, file, judging))
-        }
-        Request::Document(_, dot) => put(rt, file, as_due(document_text(rt, file, *dot))),
-        _ => Ok(Outcome::Done),
+        Request::Check(_) => Ok(check_lines(rt, file, text)?),
+        Request::Show(_, true) => as_line(json_of(rt, file, text)?),
+        Request::Show(_, false) => Ok((toml_of(rt, file, text)?, false)),
+        Request::Features(_) => as_line(features_of(rt, file, text)?),
+        Request::Lint(_, judging) => lint_lines(rt, file, text, judging),
+        Request::Document(_, dot) => Ok((document_text(rt, text, *dot)?, false)),
+        _ => Ok((String::new(rt.alloc()), false)),
     }
 }
 
-/// The line of an index, to where it is wanted.
-fn answer_index<R: Files + Print + Eprint + RandomSource + AllocGlobal>(
-    rt: &R,
-    wanted: &Wanted<'_>,
-    sums: &BTreeMap<&str, &str>,
-    file: &str,
-) -> io::Result<Outcome> {
-    let made = match index_of(rt, file, wanted.options(), sums) {
-        Ok(made) => made,
-        Err(fault) => return refuse(rt, file, fault),
-    };
-    if let Some(folder) = wanted.layout {
-        return match add_to_index(rt, folder, &made) {
-            Ok(()) => Ok(Outcome::Done),
-            Err(fault) => refuse(rt, folder, fault),
-        };
-    }
-    let mut line = String::new(rt.alloc());
-    if wanted.with_names {
-        push_escaped(&mut line, file, Format::Line)?;
-        line.push_str("\t")?;
-    }
-    line.push_str(made.line.as_str())?;
-    put(rt, file, Ok::<_, io::Error>((line, false)))
-}
-
-/// The report on the workspace in a folder.
-pub(crate) fn audit<R: Files + Print + Eprint + RandomSource + AllocGlobal>(
-    rt: &R,
-    folder: &str,
-    as_json: bool,
-    shows: bool,
-) -> io::Result<Outcome> {
-    put(rt, folder, audit_text(rt, folder, as_json, shows))
-}
-
-/// Writes what came of a file, and whether that is odd; or tells why the file is refused.
-fn put<R: Print + Eprint + AllocGlobal, F: Display + Drop>(
-    rt: &R,
-    file: &str,
-    made: Result<(String, bool), F>,
-) -> io::Result<Outcome> {
-    match made {
-        Ok((text, odd)) => {
-            let mut output = io::writer(rt);
-            output.write_all(text.as_bytes())?;
-            output.flush()?;
-            Ok(if odd { Outcome::Odd } else { Outcome::Done })
-        }
-        Err(fault) => refuse(rt, file, fault),
-    }
-}
-
-/// Tells why a file is refused.
-fn refuse<R: Eprint + AllocGlobal, F: Display + Drop>(
-    rt: &R,
-    file: &str,
-    fault: F,
-) -> io::Result<Outcome> {
-    let words = format!(in rt.alloc(); "{fault}")?;
-    let line = fault_line(rt.alloc(), file, words.as_str())?;
-    eprint!(rt; "{line}")?;
-    Ok(Outcome::Refused)
-}
-
-/// What came of a file, where nothing in it is odd.
-fn as_due<F: Drop>(made: Result<String, F>) -> Result<(String, bool), F> {
-    match made {
-        Ok(text) => Ok((text, false)),
-        Err(fault) => Err(fault),
-    }
-}
-
-/// The same of a text that is a line.
-fn as_line<F: From<AllocError> + Drop>(made: Result<String, F>) -> Result<(String, bool), F> {
-    let mut text = made?;
-    text.push_str("\n")?;
-    Ok((text, false))
+/// A text that is a line.
+fn as_line(made: String) -> Result<(String, bool), Error> {
+    let mut line = made;
+    line.push_str("\n")?;
+    Ok((line, false))
 }

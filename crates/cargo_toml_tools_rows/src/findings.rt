@@ -1,7 +1,7 @@
 //! What is found of a manifest, as text.
 
 use cargo_toml::{Error, Manifest};
-use cargo_toml_held::HeldManifest;
+use cargo_toml_bench::HeldManifest;
 use cargo_toml_lint::{Finding, lint, lint_limited};
 use std::alloc::Global;
 use std::fmt::Write;

@@ -13,36 +13,37 @@ mod words;
 
 use cargo_toml::Error;
 use cargo_toml_audit::auditing::audit_text;
-use cargo_toml_check::check::check_lines;
-use cargo_toml_check::files::{features_in, json_in, toml_in};
-use cargo_toml_check::lint::{Judging, lint_lines};
-use cargo_toml_row_files::templates::text_in;
-use cargo_toml_row_files::tree::{fresh_folder, make_tree, remove_tree};
-use cargo_toml_tools::escape::fault_line;
-use cargo_toml_tools::files::{document_text, index_line};
+use cargo_toml_bench::templates::text_in;
+use cargo_toml_bench::tree::{fresh_folder, make_tree, remove_tree};
+use cargo_toml_check::check::{check_lines, refusal_lines};
+use cargo_toml_check::files::{features_of, json_of, toml_of};
+use cargo_toml_check::lint::lint_lines;
+use cargo_toml_tools::files::{document_text, index_of};
 use cargo_toml_tools::index::{CRATES_IO, Options};
-use cargo_toml_tools_words::Outcome;
+use cargo_toml_tools::{Judging, Outcome, files};
 use std::alloc::Global;
+use std::collections::BTreeMap;
 use std::random::RandomSource;
 use std::rt::Files;
 use std::{env, fmt, fs};
 
-/// The text that is made, or the line that tells the fault, in which the file is called `file`.
+/// The text that is made, or the lines that tell why a file is refused, of which this text is read.
 fn told<F: fmt::Display + Drop>(
     alloc: Global,
     file: &str,
+    text: &str,
     made: Result<String, F>,
 ) -> Result<String, Error> {
     match made {
         Ok(text) => Ok(text),
         Err(fault) => {
             let words = format!(in alloc; "{fault}")?;
-            Ok(fault_line(alloc, file, words.as_str())?)
+            Ok(refusal_lines(alloc, file, text, words.as_str())?)
         }
     }
 }
 
-/// What came of an audit or of lint, with the status at its end.
+/// What came of an audit, of check or of lint, with the status at its end.
 fn reported(
     alloc: Global,
     file: &str,
@@ -53,7 +54,7 @@ fn reported(
             let outcome = if odd { Outcome::Odd } else { Outcome::Done };
             Ok(format!(in alloc; "{report}status {}\n", outcome.status())?)
         }
-        Err(fault) => told(alloc, file, Err(fault)),
+        Err(fault) => told(alloc, file, "", Err(fault)),
     }
 }
 
@@ -62,6 +63,7 @@ fn told_of_index<R: Files + RandomSource + AllocGlobal>(
     rt: &R,
     row: &str,
     file: &str,
+    text: &str,
 ) -> Result<String, Error> {
     let alloc = rt.alloc();
     let registry = text_in(rt, row, "registry")?;
@@ -82,7 +84,10 @@ fn told_of_index<R: Files + RandomSource + AllocGlobal>(
         checksum: checksum.as_ref().map(|text| text.as_str().trim_end()),
         force,
     };
-    told(alloc, "FILE", index_line(rt, file, options))
+    match index_of(rt, file, text, options, &BTreeMap::new(alloc)) {
+        Ok(indexed) => Ok(indexed.line),
+        Err(fault) => told(alloc, file, text, Err(fault)),
+    }
 }
 
 /// What came of a row of `lint`, with the options that stand beside its manifest.
@@ -90,6 +95,7 @@ fn told_of_lint<R: Files + RandomSource + AllocGlobal>(
     rt: &R,
     row: &str,
     file: &str,
+    text: &str,
 ) -> Result<(String, bool), Error> {
     let listed = text_in(rt, row, "allow")?.unwrap_or(String::new(rt.alloc()));
     let mut allowed = Vec::new(rt.alloc());
@@ -97,11 +103,37 @@ fn told_of_lint<R: Files + RandomSource + AllocGlobal>(
         allowed.push(line)?;
     }
     let judging = Judging {
-        allowed: allowed.as_slice(),
+        allowed,
         denies_hints: text_in(rt, row, "deny-hints")?.is_some(),
         json: text_in(rt, row, "json")?.is_some(),
     };
-    lint_lines(rt, file, judging)
+    lint_lines(rt, file, text, &judging)
+}
+
+/// What came of a row of which a file is looked at.
+fn answer_of_file<R: Files + RandomSource + AllocGlobal>(
+    rt: &R,
+    kind: &str,
+    row: &str,
+    file: &str,
+) -> Result<String, Error> {
+    let alloc = rt.alloc();
+    let read = match files::text_in(rt, file) {
+        Ok(text) => text,
+        Err(fault) => return told(alloc, file, "", Err(fault)),
+    };
+    let text = read.as_str();
+    match kind {
+        "index" => told_of_index(rt, row, file, text),
+        "check" => reported(alloc, file, Ok(check_lines(rt, file, text)?)),
+        "lint" => reported(alloc, file, told_of_lint(rt, row, file, text)),
+        "show" => told(alloc, file, text, toml_of(rt, file, text)),
+        "json" => told(alloc, file, text, json_of(rt, file, text)),
+        "features" => told(alloc, file, text, features_of(rt, file, text)),
+        "document" => told(alloc, file, text, document_text(rt, text, false)),
+        "graph" => told(alloc, file, text, document_text(rt, text, true)),
+        _ => Err(Error::Other("no such kind of row")),
+    }
 }
 
 /// The same of a row whose manifest or workspace lies in `folder`.
@@ -114,29 +146,17 @@ fn answer<R: Files + RandomSource + Eprint + AllocGlobal>(
     let alloc = rt.alloc();
     let file = format!(in alloc; "{folder}/Cargo.toml")?;
     match kind {
-        "index" => told_of_index(rt, row, file.as_str()),
         "findings" => {
             let limit = text_in(rt, row, "max")?;
             let limit = limit.as_ref().map(|text| text.as_str().trim_end());
             findings::lines(rt, file.as_str(), limit)
         }
-        "check" => Ok(reported(alloc, "FILE", check_lines(rt, file.as_str()))?.replace(
-            alloc,
-            file.as_str(),
-            "FILE",
-        )?),
-        "show" => told(alloc, "FILE", toml_in(rt, file.as_str())),
-        "json" => told(alloc, "FILE", json_in(rt, file.as_str())),
-        "features" => told(alloc, "FILE", features_in(rt, file.as_str())),
-        "lint" => {
-            let report = reported(alloc, "FILE", told_of_lint(rt, row, file.as_str()))?;
-            Ok(report.replace(alloc, file.as_str(), "FILE")?)
-        }
-        "document" => told(alloc, "FILE", document_text(rt, file.as_str(), false)),
-        "graph" => told(alloc, "FILE", document_text(rt, file.as_str(), true)),
         "audit" => reported(alloc, "FOLDER", audit_text(rt, folder, false, false)),
         "report" => reported(alloc, "FOLDER", audit_text(rt, folder, true, false)),
-        _ => Err(Error::Other("no such kind of row")),
+        _ => {
+            let answer = answer_of_file(rt, kind, row, file.as_str())?;
+            Ok(answer.replace(alloc, file.as_str(), "FILE")?)
+        }
     }
 }
 

@@ -1,6 +1,6 @@
 //! What words of the command line of `cargo-toml-tools` ask for, as text.
 use cargo_toml::Error;
-use cargo_toml_tools_words::{Request, read_request};
+use cargo_toml_tools::{Request, read_request};
 use std::alloc::Global;
 
 /// The lines again, each with what comes of it: WORDS, with a space between two of them, and what

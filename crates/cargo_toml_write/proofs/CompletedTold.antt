@@ -1,55 +1,26 @@
 -- What completion gives of a manifest that is told, from a workspace that is, is told.
 use Rattle.std.proofs.Common.{arith, ◌≡◌, refl, ap, subst, ℕ, List, [], ◌∷◌, Bool, Option, Some, None, IfSome, option_and_then, Result, Ok, Err, if◌then◌else◌}
-use Rattle.std.specs.List.{AllByRecursion}
-use Rattle.std.specs.Str.{bytes_eq}
 use Rattle.std.proofs.lemmas.List.Elements.{All-from_recursion, recursion_from_All}
+use Rattle.std.specs.{Result.result_ok, List.AllByRecursion, Str.bytes_eq}
 use Rattle.semver.specs.Parse.{Held}
-use Rattle.cargo_toml_dependencies.specs.Dependencies.{DependencyMeaning, InheritedMeaning, detailed, inherited, simple}
-use Rattle.cargo_toml_dependencies.specs.Inheriting.{Entries, detail_of_requirement, entry_at, from_template, inherited_entries, inherited_entry, inherited_target, inherited_targets, with_entry}
-use Rattle.cargo_toml_dependencies.specs.Targets.{TargetMeaning}
-use Rattle.cargo_toml_discovery.specs.Discovering.{discovered}
-use Rattle.cargo_toml_discovery.specs.Names.{Name}
-use Rattle.cargo_toml_discovery.specs.Around.{around}
-use Rattle.cargo_toml_discovery.specs.Seen.{Seen, seen, seen_as}
+use Rattle.cargo_toml_package.specs.InheritedDependencies.{Entries, detail_of_requirement, entry_at, from_template, inherited_entries, inherited_entry, inherited_target, inherited_targets, with_entry}
+use Rattle.cargo_toml_package.specs.{Dependencies.DependencyMeaning, Dependencies.InheritedMeaning, Dependencies.detailed, Dependencies.inherited, Dependencies.simple, Targets.TargetMeaning, Inheriting.any_field_left}
+use Rattle.cargo_toml_package.specs.{Inheriting.filled_field, Inheriting.inherited_package, Inheriting.with_template_if_there, Packages.PackageMeaning, Templates.TemplateMeaning, Sharing.LintsByTool, Sharing.Shared, Sharing.inherited_lints}
+use Rattle.cargo_toml_discovery.specs.{Discovering.discovered, Names.Name, Around.around, Seen.Seen, Seen.seen, Seen.seen_as}
+use Rattle.cargo_toml_manifest.specs.{Choosing.Choice, Choosing.from, Choosing.lost, Choosing.unclear_root, Completing.complete_by, Completing.gives, Completing.seen_at, Completing.then_found, Finding.found_for, Finding.stated_by}
+use Rattle.cargo_toml_manifest.specs.{Finding.wanted_by, Finding.with_discovered, Inheriting.inherited_from, Inheriting.inherited_if_there, Inheriting.inherited_manifest, Inheriting.own_tables, Manifests.ManifestMeaning}
+use Rattle.cargo_toml_parts.specs.{Paths.workspace_folder, Answers.◌>>=◌, Answers.beside, Answers.each, FaultValues.Fault, Versions.Parts, declared.inheritable.Inheritable.Inheritable}
+use Rattle.cargo_toml_write.proofs.ReadParts.{Gives, gives_none, gives_some}
+use Rattle.cargo_toml_write.specs.{Asked.EachValue, Asked.IfSet, Asked.TargetMeets, Requirements.CanBeRead, Reread.ChoiceIsTold, Reread.IsTold, Reread.SharedIsTold, Reread.reread_dependency, WrittenDependencies.DependencyAgain}
+use Rattle.cargo_toml_write.specs.{WrittenPackages.IsVersionAgain, WrittenPackages.TemplateAgain, WrittenPackages.VersionAgain, WrittenTables.IsApart}
 use Rattle.cargo_toml_discovery.specs.Told as folders
-use Rattle.cargo_toml_manifest.specs.Choosing.{Choice, from, lost, unclear_root}
-use Rattle.cargo_toml_manifest.specs.Completing.{complete_by, gives, seen_at, then_found}
-use Rattle.cargo_toml_manifest.specs.Finding.{found_for, stated_by, wanted_by, with_discovered}
-use Rattle.cargo_toml_manifest.specs.Inheriting.{inherited_from, inherited_if_there, inherited_manifest, own_tables}
-use Rattle.cargo_toml_manifest.specs.Manifests.{ManifestMeaning}
-use Rattle.cargo_toml_package.specs.Inheriting.{any_field_left, filled_field, inherited_package, with_template_if_there}
-use Rattle.cargo_toml_package.specs.Packages.{PackageMeaning}
-use Rattle.cargo_toml_package.specs.Templates.{TemplateMeaning}
-use Rattle.cargo_toml_parts.specs.Paths.{workspace_folder}
-use Rattle.cargo_toml_parts.specs.Answers.{◌>>=◌, beside, each}
-use Rattle.cargo_toml_parts.specs.FaultValues.{Fault}
-use Rattle.cargo_toml_parts.specs.Versions.{Parts}
-use Rattle.cargo_toml_parts.specs.declared.inheritable.Inheritable.{Inheritable}
-use Rattle.cargo_toml_package.specs.Sharing.{LintsByTool, Shared, inherited_lints}
-use Rattle.cargo_toml_write.specs.Asked.{EachValue, IfSet, TargetMeets}
-use Rattle.cargo_toml_write.specs.Requirements.{CanBeRead}
-use Rattle.cargo_toml_write.specs.Reread.{ChoiceIsTold, IsTold, SharedIsTold, reread_dependency, told}
-use Rattle.cargo_toml_write.specs.WrittenDependencies.{DependencyAgain}
-use Rattle.cargo_toml_write.specs.WrittenPackages.{IsVersionAgain, TemplateAgain, VersionAgain}
-use Rattle.cargo_toml_write.specs.WrittenTables.{IsApart}
 
 -- what is answered, if no fault, is such
-pub record Yields {A : Type 0} (P : A → Type 0) (r : Result A Fault) : Type 0 where
-  pub each_is : (x : A) → r ≡ Ok x → P x
-
-or_else : {A : Type 0} → A → Result A Fault → A
-or_else x (Err e) = x
-or_else x (Ok y) = y
-
-yields_ok : {A : Type 0} {P : A → Type 0} (x : A) → P x → Yields P (Ok x)
-unfolding or_else
-yields_ok {P = P} x h = record { each_is = λ y e. subst P (ap (or_else x) e) h }
-
-yields_err : {A : Type 0} {P : A → Type 0} (e : Fault) → Yields P (Err e)
-yields_err e = record { each_is = λ x is. absurd cc }
+abbrev pub Yields : {A : Type 0} → (A → Type 0) → Result A Fault → Type 0
+Yields P r = Gives P (result_ok r)
 
 then_yields : {A B : Type 0} {Q : A → Type 0} {P : B → Type 0} (r : Result A Fault) (f : A → Result B Fault) → Yields Q r → ((x : A) → Q x → Yields P (f x)) → Yields P (◌>>=◌ r f)
-then_yields r f h1 h2 = grind (arith, yields_err)
+then_yields r f h1 h2 = grind (arith, gives_none)
 
 -- dependencies
 abbrev Told : DependencyMeaning → Type 0
@@ -69,31 +40,31 @@ lookup_told : (key : List ℕ) (templates : Option Entries) → IfSome templates
 lookup_told key templates h1 = grind (arith, entry_told)
 
 simple_told : (b : Bool) (base : List ℕ) (entry : InheritedMeaning) (r : List Held) → CanBeRead r → Yields Told (if b then Ok (simple r) else Ok (detailed (with_entry base entry (detail_of_requirement r))))
-simple_told b base entry r h1 = grind (arith, All-from_recursion, yields_ok)
+simple_told b base entry r h1 = grind (arith, All-from_recursion, gives_some)
 
 template_told : (base key : List ℕ) (entry : InheritedMeaning) (o : Option DependencyMeaning) → IfSome o Told → Yields Told (from_template base key entry o)
-template_told base key entry o h1 = grind (arith, simple_told, yields_err, yields_ok)
+template_told base key entry o h1 = grind (arith, simple_told, gives_none, gives_some)
 
 one_told : (templates : Option Entries) (base key : List ℕ) (d : DependencyMeaning) → IfSome templates AllTold → Told d → Yields Told (inherited_entry templates base key d)
-one_told templates base key (simple r) all h = yields_ok {P = Told} (simple r) h
+one_told templates base key (simple r) all h = gives_some {P = Told} (simple r) h
 one_told templates base key (inherited i) all h = template_told base key i (option_and_then (entry_at key) templates) (lookup_told key templates all)
-one_told templates base key (detailed d) all h = yields_ok {P = Told} (detailed d) h
+one_told templates base key (detailed d) all h = gives_some {P = Told} (detailed d) h
 
 each_yields : {A B : Type 0} (P : A → Type 0) (Q : B → Type 0) (f : A → Result B Fault) → ((x : A) → P x → Yields Q (f x)) → (xs : List A) → AllByRecursion P xs → Yields (AllByRecursion Q) (each f xs)
-each_yields P Q f h [] all = yields_ok {P = AllByRecursion Q} [] tt
+each_yields P Q f h [] all = gives_some {P = AllByRecursion Q} [] tt
 each_yields P Q f h (x ∷ xs) all =
     then_yields {Q = Q} {P = AllByRecursion Q} (f x) _ (h x all.0) (λ y q.
-    then_yields {Q = AllByRecursion Q} {P = AllByRecursion Q} (each f xs) _ (each_yields P Q f h xs all.1) (λ ys qs. yields_ok {P = AllByRecursion Q} (y ∷ ys) (q, qs)))
+    then_yields {Q = AllByRecursion Q} {P = AllByRecursion Q} (each f xs) _ (each_yields P Q f h xs all.1) (λ ys qs. gives_some {P = AllByRecursion Q} (y ∷ ys) (q, qs)))
 
 beside_yields : {A : Type 0} (P : A → Type 0) (key : List ℕ) (r : Result A Fault) → Yields P r → Yields (λ (e : List ℕ × A). P e.1) (beside key r)
-beside_yields P key r h1 = grind (arith, yields_err, yields_ok)
+beside_yields P key r h1 = grind (arith, gives_none, gives_some)
 
 values_yield : {A B : Type 0} (P : A → Type 0) (Q : B → Type 0) (f : List ℕ → A → Result B Fault) → ((key : List ℕ) (x : A) → P x → Yields Q (f key x)) → (es : List (List ℕ × A)) → EachValue P es
     → Yields (EachValue Q) (each (λ e. beside e.0 (f e.0 e.1)) es)
 values_yield {A = A} {B = B} P Q f h es all =
     let some = each_yields (λ (e : List ℕ × A). P e.1) (λ (e : List ℕ × B). Q e.1) (λ (e : List ℕ × A). beside e.0 (f e.0 e.1)) (λ e p. beside_yields Q e.0 (f e.0 e.1) (h e.0 e.1 p)) es
     (recursion_from_All (λ (e : List ℕ × A). P e.1) es all) in
-    record { each_is = λ xs is. All-from_recursion (λ (e : List ℕ × B). Q e.1) xs (some.each_is xs is) }
+    record { each = λ xs is. All-from_recursion (λ (e : List ℕ × B). Q e.1) xs (some.each xs is) }
 
 -- what a workspace gives, if there is one
 module _ (templates : Option Entries) (base : List ℕ) (all : IfSome templates AllTold) where
@@ -101,11 +72,7 @@ module _ (templates : Option Entries) (base : List ℕ) (all : IfSome templates 
   entries_told es h = values_yield Told Told (inherited_entry templates base) (λ key d h. one_told templates base key d all h) es h
 
   target_told : (t : TargetMeaning) → TargetMeets Told t → Yields (TargetMeets Told) (inherited_target templates base t)
-  target_told t h =
-      then_yields {Q = EachValue Told} {P = TargetMeets Told} (inherited_entries templates base t.dependencies) _ (entries_told t.dependencies h.dependencies) (λ plain h_plain.
-      then_yields {Q = EachValue Told} {P = TargetMeets Told} (inherited_entries templates base t.build_dependencies) _ (entries_told t.build_dependencies h.build_dependencies) (λ build h_build.
-      then_yields {Q = EachValue Told} {P = TargetMeets Told} (inherited_entries templates base t.dev_dependencies) _ (entries_told t.dev_dependencies h.dev_dependencies) (λ dev h_dev.
-      yields_ok {P = TargetMeets Told} _ (record { dependencies = h_plain; dev_dependencies = h_dev; build_dependencies = h_build }))))
+  target_told t h = search (then_yields, entries_told, gives_some {P = TargetMeets Told}) depth 20
 
   targets_told : (ts : List (List ℕ × TargetMeaning)) → EachValue (TargetMeets Told) ts → Yields (EachValue (TargetMeets Told)) (inherited_targets templates base ts)
   targets_told ts h = values_yield (TargetMeets Told) (TargetMeets Told) (λ key t. inherited_target templates base t) (λ key t h. target_told t h) ts h
@@ -114,7 +81,7 @@ abbrev Lints : LintsByTool → Type 0
 Lints = EachValue (EachValue IsApart)
 
 lints_told : (groups : Option LintsByTool) (lints : Inheritable LintsByTool) → IfSome groups Lints → IfSet Lints lints → Yields (IfSet Lints) (inherited_lints groups lints)
-lints_told groups lints h1 h2 = grind (arith, yields_err, yields_ok)
+lints_told groups lints h1 h2 = grind (arith, gives_none, gives_some)
 
 -- packages
 version_told : (v : Inheritable Parts) (given : Option Parts) → VersionAgain v → IfSome given IsVersionAgain → VersionAgain (filled_field v given)
@@ -128,15 +95,15 @@ module _ {M : Type 0} where
   filled_told template base p h1 h2 = grind (arith, version_told)
 
   checked_told : (b : Bool) (p : PackageMeaning M) (fault : Fault) → IsVersioned p → Yields IsVersioned (if b then Err fault else Ok p)
-  checked_told b p fault h1 = grind (arith, yields_err, yields_ok)
+  checked_told b p fault h1 = grind (arith, gives_none, gives_some)
 
   package_told : (template : Option TemplateMeaning) (base : List ℕ) (o : Option (PackageMeaning M)) → IfSome template TemplateAgain → IfSome o IsVersioned
       → Yields (λ q. IfSome q IsVersioned) (inherited_if_there template base o)
-  package_told template base None all h = yields_ok {P = λ q. IfSome q IsVersioned} None tt
+  package_told template base None all h = gives_some {P = λ q. IfSome q IsVersioned} None tt
   package_told template base (Some p) all h =
       let q = with_template_if_there base template p in
       then_yields {Q = IsVersioned} {P = λ x. IfSome x IsVersioned} (inherited_package template base p) _ (checked_told (any_field_left q) q _ (filled_told template base p all h))
-      (λ x h. yields_ok {P = λ y. IfSome y IsVersioned} (Some x) h)
+      (λ x h. gives_some {P = λ y. IfSome y IsVersioned} (Some x) h)
 
   manifest_told : (templates : Option Entries) (groups : Option LintsByTool) (template : Option TemplateMeaning) (base : List ℕ) (m : ManifestMeaning M)
       → IfSome templates AllTold → IfSome groups Lints → IfSome template TemplateAgain → IsTold m → Yields (λ n. IsTold n) (inherited_from templates groups template base m)
@@ -146,7 +113,7 @@ module _ {M : Type 0} where
       then_yields {Q = EachValue (TargetMeets Told)} {P = λ n. IsTold n} (inherited_targets templates base m.target) _ (targets_told templates base all_entries m.target h.target) (λ target h_target.
       then_yields {Q = IfSet Lints} {P = λ n. IsTold n} (inherited_lints groups m.lints) _ (lints_told groups m.lints all_lints h.lints) (λ lints h_lints.
       then_yields {Q = λ q. IfSome q IsVersioned} {P = λ n. IsTold n} (inherited_if_there template base m.«package») _ (package_told template base m.«package» all_template h.«package») (λ its_package h_package.
-      yields_ok {P = λ n. IsTold n} _ (record { «package» = h_package; workspace = h.workspace; dependencies = h_tables.dependencies; dev_dependencies = h_tables.dev_dependencies; build_dependencies = h_tables.build_dependencies; target = h_target; replace = h.replace; patch = h.patch; profile = h.profile; lints = h_lints; features = h.features })))))
+      gives_some {P = λ n. IsTold n} _ (record { «package» = h_package; workspace = h.workspace; dependencies = h_tables.dependencies; dev_dependencies = h_tables.dev_dependencies; build_dependencies = h_tables.build_dependencies; target = h_target; replace = h.replace; patch = h.patch; profile = h.profile; lints = h_lints; features = h.features })))))
 
   -- what is found in folders are products
   seen_told : {A : Type 0} (path : Option (List ℕ)) (s : Seen A) (f : A → ManifestMeaning M) → ((a : A) → IsTold (f a)) → (n : ManifestMeaning M) → seen_at path (seen_as f s) ≡ gives n → IsTold n
@@ -160,14 +127,14 @@ module _ {M : Type 0} where
       (λ a. record { «package» = version; workspace = h.workspace; dependencies = h.dependencies; dev_dependencies = h.dev_dependencies; build_dependencies = h.build_dependencies; target = h.target; replace = h.replace; patch = h.patch; profile = h.profile; lints = h.lints; features = h.features }) n is
 
   then_told : (path : Option (List ℕ)) (folder : Name → folders.Told) (r : Result (ManifestMeaning M) Fault) → Yields (λ n. IsTold n) r → (n : ManifestMeaning M) → then_found path folder r ≡ gives n → IsTold n
-  then_told path folder (Ok m) h n is = let whole : IsTold m = h.each_is m refl in found_told path folder m m.«package» whole whole.«package» n is
+  then_told path folder (Ok m) h n is = let whole : IsTold m = h.each m refl in found_told path folder m m.«package» whole whole.«package» n is
   then_told path folder (Err fault) h n is = absurd cc
 
   from_told : (w : Option Shared) (path : List ℕ) (m : ManifestMeaning M) → IfSome w SharedIsTold → IsTold m → Yields (λ n. IsTold n) (inherited_manifest w path m)
   from_told w path m h1 h2 = grind (arith, manifest_told, recursion_from_All)
 
   pub completed_told : (m n : ManifestMeaning M) (choice : Choice) (folder : Name → folders.Told) → IsTold m → ChoiceIsTold choice → complete_by m choice folder ≡ gives n → IsTold n
-  completed_told m n (from None) folder h all is = then_told None folder (Ok m) (yields_ok {P = λ x. IsTold x} m h) n is
+  completed_told m n (from None) folder h all is = then_told None folder (Ok m) (gives_some {P = λ x. IsTold x} m h) n is
   completed_told m n (from (Some w)) folder h all is = then_told (Some w.1) folder (inherited_manifest w.0 (workspace_folder w.1) m) (from_told w.0 (workspace_folder w.1) m all h) n is
   completed_told m n lost folder h all is = absurd cc
   completed_told m n unclear_root folder h all is = absurd cc

@@ -1,37 +1,19 @@
 -- What a table holds at its keys after writes, and what it is read as: key by key, and as lists and maps.
-use Rattle.std.proofs.Common.{arith, ◌≡◌, true, false, Option, Some, is_eq, sym, ap, ℕ, List, [], ◌∷◌, String, Global, Ordering, Less, Equal, Greater, string_bytes, nat_cmp, refl, ◌∙◌, ◌&&◌, Bool, None, option_map, subst, inl, inr, not, Result, IfErr, IfSome, IsTrue, if◌then◌else◌, ◌++◌, append-nil, append_assoc, option_and_then}
-use Rattle.std.specs.Cmp.Lexicographic.{slice_cmp}
-use Rattle.std.specs.Ordering.{match_ordering, ordering_reverse}
-use Rattle.std.specs.Cmp.{tied_itself}
-use Rattle.std.proofs.lemmas.Bool.{false≢true, and_parts, cases_Bool, not-true}
-use Rattle.std.proofs.lemmas.Cmp.{nat_list_cmp_total}
-use Rattle.std.specs.BTreeMap.{insert_entry}
-use Rattle.std.specs.String.{string_cmp}
-use Rattle.std.specs.Option.{unwrap_or}
-use Rattle.std.proofs.lemmas.Map.Text.{is_eq-slice_cmp}
-use Rattle.std.proofs.lemmas.Slice.Eq.{bytes_eq-Decides}
+use Rattle.std.proofs.Common.{arith, ◌≡◌, true, false, Option, Some, is_eq, sym, ap, ℕ, List, [], ◌∷◌, String, Global, Ordering, Less, Equal, Greater, string_bytes, nat_cmp, refl, ◌∙◌, ◌&&◌, Bool, None, option_map, subst, inl, inr, not}
+use Rattle.std.proofs.Common.{Result, Ok, Err, IfErr, IfSome, IsTrue, if◌then◌else◌, option_and_then}
+use Rattle.std.proofs.{lemmas.Bool.false≢true, lemmas.Bool.and_parts, lemmas.Bool.cases_Bool, lemmas.Bool.not-true, lemmas.Cmp.nat_list_cmp_total, lemmas.Map.Text.is_eq-slice_cmp, lemmas.Slice.Eq.bytes_eq-Decides}
+use Rattle.std.proofs.lemmas.List.Elements.{recursion_from_All}
+use Rattle.std.specs.{Cmp.Lexicographic.slice_cmp, Ordering.match_ordering, Ordering.ordering_reverse, Cmp.tied_itself, BTreeMap.insert_entry, String.string_cmp, Option.unwrap_or, Result.result_ok, Str.bytes_eq, List.All}
+use Rattle.std.specs.List.{AllByRecursion}
 use Rattle.toml.specs.Data.{Data, Members, no_members, member, get_member, boolean, string, Items, no_items, item, as_str, as_bool, as_table}
-use Rattle.toml.specs.declared.value.Value.{Value}
-use Rattle.toml.specs.View.{view, members_view}
+use Rattle.toml.specs.{declared.value.Value.Value, View.view, View.members_view}
 use Rattle.toml.proofs.Views.{Entry}
 use Rattle.cargo_toml_parts.specs.Reads.{is_among, others_read, array_of, items_reads, list_of, required_of, optional_of, given_of, map_of}
-use Rattle.cargo_toml_write.specs.Ways.{members_of, text_way, texts_way, truth_way, free_way, version_way, list_way, AreItems, exactly, is_nil, inheritable_way, inherited_tree, is_set_and, unless_missing, Ascend, entry_rows, map_way}
-use Rattle.cargo_toml_write.specs.Writes.{put_member, Row, AreWritten, put_some, Way, IsHeld, unless, IsLawful, IsReadAgain, IsWriting, table_way}
-use Rattle.std.specs.Result.{result_ok}
-use Rattle.std.specs.Str.{bytes_eq}
-use Rattle.std.specs.List.{All, AllByRecursion}
-use Rattle.std.specs.List.Sorted.{IsStrictlySortedBy}
-use Rattle.std.specs.Map.{keys_of}
-use Rattle.std.proofs.lemmas.List.Elements.{All-from_recursion, recursion_from_All}
-use Rattle.cargo_toml_parts.specs.declared.error.Error.{Error, Memory}
-use Rattle.cargo_toml_parts.specs.Floats.{has_no_float, without_floats}
-use Rattle.cargo_toml_parts.specs.declared.inheritable.Inheritable.{Inheritable}
-use Rattle.cargo_toml_parts.specs.declared.inheritable.Inheritable.TheVariants.{Set}
-use Rattle.cargo_toml_parts.specs.Inherits.{inheritable_of}
-use Rattle.cargo_toml_parts.specs.Versions.{Parts, version_of}
-use Rattle.cargo_toml_write.specs.Asked.{IfSet, EachValue}
-use Rattle.cargo_toml_write.specs.Reread.{each_value}
-use Rattle.cargo_toml_write.specs.WrittenPackages.{IsVersionAgain}
+use Rattle.cargo_toml_parts.specs.{declared.error.Error.Error, declared.error.Error.Memory, Floats.has_no_float, Floats.without_floats, declared.inheritable.Inheritable.Inheritable, declared.inheritable.Inheritable.TheVariants.Set}
+use Rattle.cargo_toml_parts.specs.{declared.inheritable.Inheritable.TheVariants.Inherited, Inherits.inheritable_of, Inherits.set_or, Inherits.workspace_flag, Versions.Parts, Versions.version_of}
+use Rattle.cargo_toml_write.specs.Ways.{IsMap, all_of, exactly, free_way, inheritable_way, inherited_tree, is_nil, is_set_and, list_way, map_way, members_of, table_way, text_way, texts_way, truth_way, unless_missing, version_way}
+use Rattle.cargo_toml_write.specs.Writes.{AreEntries, AreItems, AreWritten, IsHeld, IsReadAgain, IsWriting, Row, Way, put_member, put_some, unless}
+use Rattle.cargo_toml_write.specs.{Asked.EachValue, Asked.IfSet, Reread.each_value, WrittenPackages.IsVersionAgain}
 
 chosen : (o : Ordering) (a b c : List Entry) → members_view (match_ordering o a b c) ≡ match_ordering o (members_view a) (members_view b) (members_view c)
 chosen o a b c = grind arith
@@ -74,18 +56,12 @@ get_put-same k d (member m e ms) = same_at (slice_cmp nat_cmp k m) k m d e ms re
 pub same_key : (k l : List ℕ) → slice_cmp nat_cmp k l ≡ Equal → k ≡ l
 same_key k l h = (bytes_eq-Decides k l).0 (sym (is_eq-slice_cmp k l) ∙ ap is_eq h)
 
--- a key that is named is none of another name
-pub are_apart : (names : List (List ℕ)) (k l : List ℕ) (o : Ordering) → o ≡ slice_cmp nat_cmp k l → is_among names k ≡ true → is_among names l ≡ false → is_eq o ≡ false
-are_apart names k l Less is named other = refl
-are_apart names k l Equal is named other =
-    absurd (false≢true (sym other ∙ subst (λ (x : List ℕ). is_among names x ≡ true) (same_key k l (sym is)) named))
-are_apart names k l Greater is named other = refl
+-- two keys of which a test tells one from the other
+different : (test : List ℕ → Bool) (b : Bool) (k l : List ℕ) → bytes_eq k l ≡ b → test k ≡ true → test l ≡ false → b ≡ false
+different test b k l h1 h2 h3 = grind (arith, bytes_eq-Decides, false≢true)
 
-other_or_named : (names : List (List ℕ)) (k l : List ℕ) (o : Ordering) → o ≡ slice_cmp nat_cmp k l → is_among names k ≡ false → is_among names l ≡ true → is_eq o ≡ false
-other_or_named names k l Less is other named = refl
-other_or_named names k l Equal is other named =
-    absurd (false≢true (sym other ∙ subst (λ (x : List ℕ). is_among names x ≡ true) (sym (same_key k l (sym is))) named))
-other_or_named names k l Greater is other named = refl
+pub are_apart : (test : List ℕ → Bool) (k l : List ℕ) → test k ≡ true → test l ≡ false → is_eq (slice_cmp nat_cmp k l) ≡ false
+are_apart test k l this other = is_eq-slice_cmp k l ∙ different test (bytes_eq k l) k l refl this other
 
 -- what was read of the other keys has them as the table does
 some_mapped : {A B : Type 0} (o : Option A) (f : A → B) (y : B) → option_map f o ≡ Some y → (x : A) × (o ≡ Some x) × (f x ≡ y)
@@ -96,7 +72,7 @@ pub other_member : (names : List (List ℕ)) (k : List ℕ) (ms : Members) (es :
 other_member names k no_members es other read = ap (λ (o : Option (List (List ℕ × Data))). get_member k (members_of (unwrap_or o []))) read
 other_member names k (member l d ms) es other read = elim (cases_Bool (is_among names l)) [
   | inl named ↦
-      passes (slice_cmp nat_cmp k l) _ _ (other_or_named names k l _ refl other named) ∙ other_member names k ms es other (rw named at read)
+      passes (slice_cmp nat_cmp k l) _ _ (are_apart (λ x. not (is_among names x)) k l (ap not other) (ap not named)) ∙ other_member names k ms es other (rw named at read)
   | inr apart ↦
       let more = some_mapped (others_read names (λ x. Some x) ms) (λ (xs : List (List ℕ × Data)). (l, d) ∷ xs) es (rw apart at read) in
       ap (λ r. match_ordering (slice_cmp nat_cmp k l) r (Some d) r) (other_member names k ms more.0 other more.1)
@@ -128,9 +104,9 @@ module _ {M : Type 0} (names : List (List ℕ)) (reads : Data → Option M) wher
 
   pub others_rows : (rows : List Row) (old new : Members) → all_named names rows ≡ true → AreWritten rows old new → others_read names reads new ≡ others_read names reads old
   others_rows [] old new named written = ap (others_read names reads) written
-  others_rows (row ∷ rows) old new named (mid, one, rest) =
+  others_rows (row ∷ rows) old new named (d, held, rest) =
       let parts : (is_among names row.key ≡ true) × (all_named names rows ≡ true) = and_parts _ _ named in
-      others_rows rows mid new parts.1 rest ∙ ap (others_read names reads) one.3 ∙ others_some row.key one.0 old parts.0
+      others_rows rows (put_some row.key d old) new parts.1 rest ∙ others_some row.key d old parts.0
 
 -- a tree of what is there stands at a key, and nothing where nothing is
 pub record StandsAt {X : Type 0} (o : Option Data) (way : Way X) (x : Option X) : Type 0 where
@@ -159,11 +135,8 @@ none_there [] = tt
 none_there (k ∷ ks) = (refl, none_there ks)
 
 -- a key that is none of some others is apart from each
-symmetric : (b : Bool) (k l : List ℕ) → bytes_eq k l ≡ b → bytes_eq l k ≡ false → b ≡ false
-symmetric b k l h1 h2 = grind (arith, bytes_eq-Decides, false≢true)
-
 apart : (k l : List ℕ) → bytes_eq l k ≡ false → is_eq (slice_cmp nat_cmp k l) ≡ false
-apart k l h = is_eq-slice_cmp k l ∙ symmetric (bytes_eq k l) k l refl h
+apart k l h = are_apart (λ x. not (bytes_eq l x)) k l (ap not h) (ap not ((bytes_eq-Decides l l).1 refl))
 
 either_false : (b c : Bool) → (if b then true else c) ≡ false → (b ≡ false) × (c ≡ false)
 either_false b c h1 = grind arith
@@ -177,9 +150,9 @@ put_same k d ms h1 = grind (arith, get_put-same)
 -- which rows leave as it was
 pub untouched : (k : List ℕ) (rows : List Row) (old new : Members) → is_among (row_keys rows) k ≡ false → AreWritten rows old new → get_member k new ≡ get_member k old
 untouched k [] old new other is = ap (get_member k) is
-untouched k (row ∷ rows) old new other (mid, one, rest) =
+untouched k (row ∷ rows) old new other (d, held, rest) =
     let parts = either_false (bytes_eq row.key k) (is_among (row_keys rows) k) other in
-    untouched k rows mid new parts.1 rest ∙ ap (get_member k) one.3 ∙ put_other k row.key one.0 old (apart k row.key parts.0)
+    untouched k rows (put_some row.key d old) new parts.1 rest ∙ put_other k row.key d old (apart k row.key parts.0)
 
 still_missing : (k : List ℕ) (d : Option Data) (ks : List (List ℕ)) (ms : Members) → is_among ks k ≡ false → AllMissing ks ms → AllMissing ks (put_some k d ms)
 still_missing k d [] ms other missing = tt
@@ -190,12 +163,12 @@ still_missing k d (l ∷ ks) ms other missing =
 -- rows of keys that differ, where nothing stood at these
 pub all_held : (rows : List Row) (old new : Members) → differ (row_keys rows) ≡ true → AllMissing (row_keys rows) old → AreWritten rows old new → AllHeld rows new
 all_held [] old new apart missing written = tt
-all_held (row ∷ rows) old new apart missing (mid, one, rest) =
+all_held (row ∷ rows) old new apart missing (d, held, rest) =
     let parts = and_parts _ _ apart in
     let other : is_among (row_keys rows) row.key ≡ false = not-true _ parts.0 in
-    let here : get_member row.key new ≡ one.0 = untouched row.key rows mid new other rest ∙ ap (get_member row.key) one.3 ∙ put_same row.key one.0 old missing.0 in (
-      record { is = subst (IsHeld row.way row.value) (sym here) one.1 },
-      all_held rows mid new parts.1 (subst (AllMissing (row_keys rows)) (sym one.3) (still_missing row.key one.0 (row_keys rows) old other missing.1)) rest,
+    let here : get_member row.key new ≡ d = untouched row.key rows (put_some row.key d old) new other rest ∙ put_same row.key d old missing.0 in (
+      record { is = subst (IsHeld row.way row.value) (sym here) held },
+      all_held rows (put_some row.key d old) new parts.1 (still_missing row.key d (row_keys rows) old other missing.1) rest,
     )
 
 pub whole : (rows : List Row) (ms : Members) → differ (row_keys rows) ≡ true → AreWritten rows no_members ms → AllHeld rows ms
@@ -227,15 +200,18 @@ pub floatless_again : {M : Type 0} (reads : Data → Option M) (d : Data) (m : M
 floatless_again reads d m h1 h2 = grind arith
 
 -- each tree of a value reads as m: so does the one that was written
-pub tree_again : {X M : Type 0} {way : Way X} → IsLawful way → (x : X) (reads : Data → Option M) (m : M) (r : Result Value Error) → IsWriting way x r → ReadsAs way reads x m → IsReadAgain reads m r
-tree_again law x reads m r written again = grind (arith, floatless_again)
+pub tree_again : {X M : Type 0} (way : Way X) (x : X) (reads : Data → Option M) (m : M) (r : Result Value Error) → IsWriting way x r → ReadsAs way reads x m → IsReadAgain reads m r
+tree_again way x reads m (Ok v) tree reads_as = floatless_again reads (view v) m ((way.lawful x).floatless (view v) tree) (reads_as (view v) tree)
+tree_again way x reads m (Err e) fault reads_as = tt
 
-pub reads_again : {X M : Type 0} {way : Way X} {reads : Data → Option M} {P : X → Type 0} {f : X → M} → IsLawful way → AgainAs way reads P f → (x : X) (r : Result Value Error) → IsWriting way x r → P x → IsReadAgain reads (f x) r
-reads_again {reads = reads} {f = f} law again x r written h = tree_again law x reads (f x) r written (again.each x h)
+pub reads_again : {X M : Type 0} {way : Way X} {reads : Data → Option M} {P : X → Type 0} {f : X → M} → AgainAs way reads P f → (x : X) (r : Result Value Error) → IsWriting way x r → P x → IsReadAgain reads (f x) r
+reads_again {way = way} {reads = reads} {f = f} law x r written h = tree_again way x reads (f x) r written (law.each x h)
 
 -- a value that is as asked is refused with `Memory` alone
-pub alone : {X : Type 0} {way : Way X} → IsLawful way → (x : X) (r : Result Value Error) → IsWriting way x r → way.asks x → IfErr r (λ e. e ≡ Memory)
-alone law x r written asked = grind arith
+pub alone : {X : Type 0} (way : Way X) (x : X) (r : Result Value Error) → IsWriting way x r → way.asks x → IfErr r (λ e. e ≡ Memory)
+alone way x (Ok v) written asked = tt
+alone way x (Err e) (inl memory) asked = memory
+alone way x (Err e) (inr refused) asked = absurd ((way.lawful x).never asked e refused.1)
 
 -- a step of a reader, by what stands at its key, and what follows it
 pub step : {A B : Type 0} (o : Option A) (f : A → Option B) (x : A) (r : Option B) → o ≡ Some x → f x ≡ r → option_and_then f o ≡ r
@@ -293,14 +269,14 @@ pub table_again : {X : Type 0} (rows : X → List Row) (of : Members → Option 
 table_again rows of h1 h2 h3 h4 h5 = grind (arith, whole)
 
 -- texts, truth values, free values, versions and lists
-pub same_tree : {X : Type 0} (tree : X → Data) (reads : Data → Option X) → ((x : X) → reads (tree x) ≡ Some x) → (x : X) → ReadsAs (exactly tree) reads x x
-same_tree tree reads same x d is = ap reads is ∙ same x
+pub same_tree : {X : Type 0} (tree : X → Data) (h : (x : X) → IsTrue (has_no_float (tree x))) (reads : Data → Option X) → ((x : X) → reads (tree x) ≡ Some x) → Again (exactly tree h) reads
+same_tree tree h reads same = again (λ x d is. ap reads is ∙ same x)
 
 pub text_again : Again text_way as_str
-text_again = again (same_tree string as_str (λ t. refl))
+text_again = same_tree string (λ t. refl) as_str (λ t. refl)
 
 pub truth_again : Again truth_way as_bool
-truth_again = again (same_tree boolean as_bool (λ b. refl))
+truth_again = same_tree boolean (λ b. refl) as_bool (λ b. refl)
 
 pub free_again : Again free_way (λ d. Some d)
 free_again = again (λ x d is. ap Some is.1)
@@ -310,9 +286,8 @@ version_again = record { each = λ v h d is. ap version_of is ∙ ap result_ok h
 
 items_again : {X : Type 0} (way : Way X) (reads : Data → Option X) → Again way reads → (xs : List X) (ds : Items) → AreItems way xs ds → items_reads reads ds ≡ Some xs
 items_again way reads law [] no_items is = refl
-items_again way reads law [] (item d ds) is = absurd is
-items_again way reads law (x ∷ xs) no_items is = absurd is
 items_again way reads law (x ∷ xs) (item d ds) (here, rest) = rw (law.each x tt d here, items_again way reads law xs ds rest) refl
+items_again way reads law _ _ is = absurd is
 
 pub list_again : {X : Type 0} (way : Way X) (reads : Data → Option X) → Again way reads → Again (list_way way) (array_of reads)
 list_again way reads law = again (λ xs d (ds, is, items). ap (array_of reads) is ∙ items_again way reads law xs ds items)
@@ -329,7 +304,8 @@ nil = record { each = λ xs h none. nil_left xs none }
 
 -- what the workspace may give
 set_or_inherited : {X : Type 0} (way : Way X) (reads : Data → Option X) (P : X → Type 0) → AgainAs way reads P (λ (x : X). x) → reads inherited_tree ≡ None → (x : Inheritable X) → IfSet P x → ReadsAs (inheritable_way way) (inheritable_of reads) x x
-set_or_inherited way reads P h1 h2 h3 h4 h5 h6 = grind arith
+set_or_inherited {X = X} way reads P law none (Set x) h d tree = ap (λ (o : Option X). set_or o (workspace_flag d)) (law.each x h d tree)
+set_or_inherited {X = X} way reads P law none Inherited h d is = ap (inheritable_of reads) is ∙ ap (λ (o : Option X). set_or o (workspace_flag inherited_tree)) none
 
 pub inheritable_again : {X : Type 0} {way : Way X} {reads : Data → Option X} {P : X → Type 0} → AgainAs way reads P (λ (x : X). x) → reads inherited_tree ≡ None
     → AgainAs (inheritable_way way) (inheritable_of reads) (IfSet P) (λ (x : Inheritable X). x)
@@ -341,37 +317,7 @@ set_left P test missing h1 h2 h3 h4 = grind arith
 pub set_stands : {X : Type 0} {P : X → Type 0} (test : X → Bool) (missing : X) → StandsFor test P (λ (x : X). x) missing → StandsFor (is_set_and test) (IfSet P) (λ (x : Inheritable X). x) (Set missing)
 set_stands {P = P} test missing stands = record { each = set_left P test missing stands }
 
--- a map is read again, where each value is, since its keys ascend; and so are known keys that are put over its entries
--- names above a name, and members of which each key is below a name
-abbrev AreAbove : List ℕ → List (List ℕ) → Type 0
-AreAbove name names = AllByRecursion (λ n. slice_cmp nat_cmp name n ≡ Less) names
-
-abbrev MembersBelow : Members → List ℕ → Type 0
-MembersBelow no_members name = Unit {0}
-MembersBelow (member k d ms) name = (slice_cmp nat_cmp name k ≡ Greater) × MembersBelow ms name
-
--- a member behind others
-abbrev behind : Members → List ℕ → Data → Members
-behind no_members k d = member k d no_members
-behind (member l e ms) k d = member l e (behind ms k d)
-
-put_behind : (k : List ℕ) (d : Data) (ms : Members) → MembersBelow ms k → put_member k d ms ≡ behind ms k d
-put_behind k d no_members h = refl
-put_behind k d (member l e ms) h =
-    ap (λ (o : Ordering). match_ordering o (member k d (member l e ms)) (member l d ms) (member l e (put_member k d ms))) h.0 ∙ ap (member l e) (put_behind k d ms h.1)
-
-below_behind : (k name : List ℕ) (d : Data) (ms : Members) → slice_cmp nat_cmp k name ≡ Less → MembersBelow ms name → MembersBelow (behind ms k d) name
-below_behind k name d no_members less h = (nat_list_cmp_total.antisymm name k ∙ ap ordering_reverse less, tt)
-below_behind k name d (member l e ms) less h = (h.0, below_behind k name d ms less h.1)
-
-all_below_behind : (k : List ℕ) (d : Data) (ms : Members) (names : List (List ℕ)) → AreAbove k names → AllByRecursion (MembersBelow ms) names → AllByRecursion (MembersBelow (behind ms k d)) names
-all_below_behind k d ms [] above below = tt
-all_below_behind k d ms (n ∷ names) above below = (below_behind k n d ms above.0 below.0, all_below_behind k d ms names above.1 below.1)
-
-nothing_below : (names : List (List ℕ)) → AllByRecursion (MembersBelow no_members) names
-nothing_below [] = tt
-nothing_below (n ∷ names) = (tt, nothing_below names)
-
+-- a map is read again, where each value is; and so are known keys that are put over its entries
 -- entries of which no key is one of the names
 abbrev pub AreOthers : {X : Type 0} → List (List ℕ) → List (List ℕ × X) → Type 0
 AreOthers {X = X} names es = AllByRecursion (λ (e : List ℕ × X). is_among names e.0 ≡ false) es
@@ -380,84 +326,44 @@ none_named : {X : Type 0} (es : List (List ℕ × X)) → AreOthers [] es
 none_named [] = tt
 none_named (e ∷ es) = (refl, none_named es)
 
--- of each entry nothing is asked
-pub nothing_asked : {X : Type 0} (es : List (List ℕ × X)) → AllByRecursion (λ (e : List ℕ × X). Unit {0}) es
-nothing_asked [] = tt
-nothing_asked (e ∷ es) = (tt, nothing_asked es)
-
 pub each_same : {X : Type 0} (es : List (List ℕ × X)) → each_value (λ x. x) es ≡ es
 each_same [] = refl
 each_same (e ∷ es) = ap (λ xs. e ∷ xs) (each_same es)
 
--- some rows and then others
-apart_rows : (rs qs : List Row) (old new : Members) → AreWritten (rs ++ qs) old new → (mid : Members) × AreWritten rs old mid × AreWritten qs mid new
-apart_rows [] qs old new written = (old, refl, written)
-apart_rows (r ∷ rs) qs old new (one, row, rest) =
-    let more = apart_rows rs qs one new rest in
-    (more.0, (one, row, more.1), more.2)
+-- what is read of entries, of other names than some
+entries_read : {X M : Type 0} (way : Way X) (reads : Data → Option M) (f : X → M) (P : X → Type 0) (names : List (List ℕ)) → ((x : X) → P x → ReadsAs way reads x (f x))
+    → (es : List (List ℕ × X)) (ms : Members) → AreOthers names es → AllByRecursion (λ (e : List ℕ × X). P e.1) es → AreEntries way es ms → others_read names reads ms ≡ Some (each_value f es)
+entries_read way reads f P names again [] no_members others all are = refl
+entries_read way reads f P names again (e ∷ es) (member k d ms) others all are =
+    rw (are.0, others.0, again e.1 all.0 d are.1, entries_read way reads f P names again es ms others.1 all.1 are.2) refl
+entries_read way reads f P names again _ _ others all are = absurd are
 
--- what is read of the members of other names than some
-module _ {X M : Type 0} (way : Way X) (reads : Data → Option M) (f : X → M) (P : X → Type 0) (again : (x : X) → P x → ReadsAs way reads x (f x)) where
-  module _ (names : List (List ℕ)) where
-    abbrev last : List ℕ → M → Option (List (List ℕ × M)) → Option (List (List ℕ × M))
-    last k x o = option_map (λ es. es ++ (k, x) ∷ []) o
-
-    first-last : (b : Bool) (l k : List ℕ) (x : M) (o : Option M) (r : Option (List (List ℕ × M)))
-        → (if b then last k x r else option_and_then (λ y. option_map (λ es. (l, y) ∷ es) (last k x r)) o)
-        ≡ last k x (if b then r else option_and_then (λ y. option_map (λ es. (l, y) ∷ es) r) o)
-    first-last b l k x o r = grind arith
-
-    read-behind : (ms : Members) (k : List ℕ) (d : Data) (x : M) → is_among names k ≡ false → reads d ≡ Some x → others_read names reads (behind ms k d) ≡ last k x (others_read names reads ms)
-    read-behind no_members k d x other h = rw (other, h) refl
-    read-behind (member l e ms) k d x other h = rw (read-behind ms k d x other h) (first-last (is_among names l) l k x (reads e) (others_read names reads ms))
-
-    entries_from : (es : List (List ℕ × X)) (before : List (List ℕ × M)) (old new : Members) → Ascend (keys_of es) → AreOthers names es → AllByRecursion (λ (e : List ℕ × X). P e.1) es
-        → AllByRecursion (MembersBelow old) (keys_of es) → others_read names reads old ≡ Some before → AreWritten (entry_rows way es) old new
-        → others_read names reads new ≡ Some (before ++ each_value f es)
-    unfolding IsStrictlySortedBy
-    entries_from [] before old new ascend others all below h is = rw is (h ∙ ap Some (sym (append-nil before)))
-    entries_from (e ∷ es) before old new ascend others all below h (mid, (None, held, free, is), rest) = absurd held
-    entries_from (e ∷ es) before old new ascend others all below h (mid, (Some d, tree, free, is), rest) =
-        let put_last : mid ≡ behind old e.0 d = is ∙ put_behind e.0 d old below.0 in
-        let read_last : others_read names reads mid ≡ Some (before ++ (e.0, f e.1) ∷ []) =
-        ap (others_read names reads) put_last ∙ read-behind old e.0 d (f e.1) others.0 (again e.1 all.0 d tree) ∙ ap (last e.0 (f e.1)) h in
-        let still_below : AllByRecursion (MembersBelow mid) (keys_of es) =
-        subst (λ (ms : Members). AllByRecursion (MembersBelow ms) (keys_of es)) (sym put_last) (all_below_behind e.0 d old (keys_of es) ascend.0 below.1) in
-        entries_from es (before ++ (e.0, f e.1) ∷ []) mid new ascend.1 others.1 all.1 still_below read_last rest
-        ∙ ap Some (append_assoc before ((e.0, f e.1) ∷ []) (each_value f es))
-
-    -- the entries, where known keys of these names are put over them
-    pub others_again : (es : List (List ℕ × X)) (known : List Row) (ms : Members) → Ascend (keys_of es) → AreOthers names es → AllByRecursion (λ (e : List ℕ × X). P e.1) es
-        → all_named names known ≡ true → AreWritten (entry_rows way es ++ known) no_members ms → others_read names reads ms ≡ Some (each_value f es)
-    others_again es known ms ascend others all named written =
-        let parts = apart_rows (entry_rows way es) known no_members ms written in
-        others_rows names reads known parts.0 ms named parts.2
-        ∙ entries_from es [] no_members parts.0 ascend others all (nothing_below (keys_of es)) refl parts.1
-
-  pub map_again : (es : List (List ℕ × X)) → EachValue P es → ReadsAs (map_way way) (map_of reads) es (each_value f es)
-  map_again es all d (ascend, (ms, is, written)) =
-      ap (map_of reads) is
-      ∙ entries_from [] es [] no_members ms ascend (none_named es) (recursion_from_All (λ (e : List ℕ × X). P e.1) es all) (nothing_below (keys_of es)) refl written
+pub map_again : {X M : Type 0} (way : Way X) (reads : Data → Option M) (f : X → M) (P : X → Type 0) → ((x : X) → P x → ReadsAs way reads x (f x))
+    → (es : List (List ℕ × X)) → EachValue P es → ReadsAs (map_way way) (map_of reads) es (each_value f es)
+map_again {X = X} way reads f P again es all d (ms, is, map) =
+    ap (map_of reads) is ∙ entries_read way reads f P [] again es ms (none_named es) (recursion_from_All (λ (e : List ℕ × X). P e.1) es all) map.1
 
 -- a named key is in no entry
-entries_miss : {X : Type 0} (way : Way X) (names : List (List ℕ)) (k : List ℕ) (es : List (List ℕ × X)) → is_among names k ≡ true → AreOthers names es → is_among (row_keys (entry_rows way es)) k ≡ false
-entries_miss way names k [] named others = refl
-entries_miss way names k (e ∷ es) named others = rw (sym (is_eq-slice_cmp e.0 k) ∙ apart e.0 k (sym (is_eq-slice_cmp k e.0) ∙ are_apart names k e.0 _ refl named others.0), entries_miss way names k es named others.1) refl
+entries_miss : {X : Type 0} (way : Way X) (names : List (List ℕ)) (k : List ℕ) (es : List (List ℕ × X)) (ms : Members) → is_among names k ≡ true → AreOthers names es → AreEntries way es ms → get_member k ms ≡ None
+entries_miss way names k [] no_members named others are = refl
+entries_miss way names k (e ∷ es) (member l d ms) named others are =
+    rw are.0 (passes (slice_cmp nat_cmp k e.0) _ _ (are_apart (is_among names) k e.0 named others.0) ∙ entries_miss way names k es ms named others.1 are.2)
+entries_miss way names k _ _ named others are = absurd are
 
-all_missing : {X : Type 0} (way : Way X) (names : List (List ℕ)) (es : List (List ℕ × X)) (known : List Row) (mid : Members) → all_named names known ≡ true → AreOthers names es → AreWritten (entry_rows way es) no_members mid → AllMissing (row_keys known) mid
-all_missing way names es [] mid named others written = tt
-all_missing way names es (row ∷ known) mid named others written =
+all_missing : {X : Type 0} (way : Way X) (names : List (List ℕ)) (es : List (List ℕ × X)) (known : List Row) (old : Members) → all_named names known ≡ true → AreOthers names es → AreEntries way es old → AllMissing (row_keys known) old
+all_missing way names es [] old named others are = tt
+all_missing way names es (row ∷ known) old named others are =
     let parts = and_parts _ _ named in
-    (untouched row.key (entry_rows way es) no_members mid (entries_miss way names row.key es parts.0 others) written, all_missing way names es known mid parts.1 others written)
+    (entries_miss way names row.key es old parts.0 others are, all_missing way names es known old parts.1 others are)
 
 -- entries of other keys than some names, over which known rows of these names are put: what is read of both
-pub collected : {X : Type 0} (way : Way X) (reads : Data → Option X) (names : List (List ℕ)) (es : List (List ℕ × X)) (known : List Row) (ms : Members) → Again way reads → All (λ (e : List ℕ × X). is_among names e.0 ≡ false) es
-    → Ascend (keys_of es) → all_named names known ≡ true → differ (row_keys known) ≡ true → AreWritten (entry_rows way es ++ known) no_members ms → AllHeld known ms × (others_read names reads ms ≡ Some es)
-collected {X = X} way reads names es known ms law apart ascend named distinct written =
-    let others : AreOthers names es = recursion_from_All (λ (e : List ℕ × X). is_among names e.0 ≡ false) es apart in
-    let parts = apart_rows (entry_rows way es) known no_members ms written in (
-      all_held known parts.0 ms distinct (all_missing way names es known parts.0 named others parts.1) parts.2,
-      others_again way reads (λ x. x) (λ (x : X). Unit {0}) law.each names es known ms ascend others (nothing_asked es) named written ∙ ap Some (each_same es),
+pub collected : {X : Type 0} (way : Way X) (reads : Data → Option X) (names : List (List ℕ)) (es : List (List ℕ × X)) (known : List Row) (old ms : Members) → Again way reads → All (λ (e : List ℕ × X). is_among names e.0 ≡ false) es
+    → IsMap way es old → all_named names known ≡ true → differ (row_keys known) ≡ true → AreWritten known old ms → AllHeld known ms × (others_read names reads ms ≡ Some es)
+collected {X = X} way reads names es known old ms law apart map named distinct written =
+    let others : AreOthers names es = recursion_from_All (λ (e : List ℕ × X). is_among names e.0 ≡ false) es apart in (
+      all_held known old ms distinct (all_missing way names es known old named others map.1) written,
+      others_rows names reads known old ms named written
+          ∙ entries_read way reads (λ x. x) (λ (x : X). Unit {0}) names law.each es old others (recursion_from_All (λ (e : List ℕ × X). Unit {0}) es (all_of (λ (e : List ℕ × X). Unit {0}) (λ e. tt) es)) map.1 ∙ ap Some (each_same es),
     )
 
 -- maps
@@ -468,7 +374,7 @@ pub map_same : {X : Type 0} {way : Way X} {reads : Data → Option X} {P : X →
 map_same law = record { each = λ es all d tree. (map_as law).each es all d tree ∙ ap Some (each_same es) }
 
 pub map_any : {X : Type 0} {way : Way X} {reads : Data → Option X} → Again way reads → Again (map_way way) (map_of reads)
-map_any {X = X} law = again (λ es. (map_same law).each es (All-from_recursion (λ (e : List ℕ × X). Unit {0}) es (nothing_asked es)))
+map_any {X = X} law = again (λ es. (map_same law).each es (all_of (λ (e : List ℕ × X). Unit {0}) (λ e. tt) es))
 
 pub free_maps : Again (map_way free_way) (map_of (λ d. Some d))
 free_maps = map_any free_again

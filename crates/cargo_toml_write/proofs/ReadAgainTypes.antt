@@ -1,79 +1,57 @@
 -- Written settings, tables, dependencies, packages, workspaces and manifests, each read as what it is read again as.
-use Rattle.std.proofs.Common.{arith, ◌≡◌, ◌∙◌, refl, ap, ℕ, true, option_map, option_and_then, List, [], codes, Bool, false, Option, Some, None, sym, ◌∷◌, inl, inr, MatchBool, Result, Ok, Err, IfSome, subst, cond, not, map, is_eq, IsTrue, Less, nat_cmp}
-use Rattle.std.proofs.lemmas.Bool.{and_parts, false≢true}
-use Rattle.std.specs.Ordering.{ordering_reverse}
-use Rattle.std.proofs.lemmas.Bool.Decides.{Decides-int_eq}
-use Rattle.std.proofs.lemmas.List.Elements.{recursion_from_All, All-from_recursion}
-use Rattle.std.specs.Map.{keys_of}
-use Rattle.toml.specs.Data.{as_str, Data, as_bool, as_table, Members, no_members, get_member, string, table, array, Items}
-use Rattle.toml.specs.declared.value.Value.{Value}
-use Rattle.cargo_toml_manifest.specs.Manifests.{badges_reads, no_badges, no_profiles, product_reads, profiles_reads, ManifestMeaning, manifest_meaning, manifest_of, manifest_reads, target_reads}
-use Rattle.cargo_toml_parts.specs.Numbers.{i8_of, u16_of}
-use Rattle.cargo_toml_parts.specs.Reads.{given_of, list_of, is_among, map_of, others_read, required_of, required_at, optional_of, array_of}
-use Rattle.cargo_toml_parts.specs.declared.error.Error.{Error}
-use Rattle.cargo_toml_tables.specs.declared.profile_settings.DebugSetting.TheVariants as debug
-use Rattle.cargo_toml_tables.specs.declared.profile_settings.LtoSetting.TheVariants as lto
-use Rattle.cargo_toml_tables.specs.declared.profile_settings.StripSetting.TheVariants as strip
-use Rattle.cargo_toml_tables.specs.ProfileSettings.{debug_of, strip_of, lto_of}
-use Rattle.cargo_toml_tables.specs.declared.settings.Edition.TheVariants.{E2015, E2018, E2021, E2024}
-use Rattle.cargo_toml_tables.specs.declared.settings.Resolver.TheVariants.{V1, V2, V3}
-use Rattle.cargo_toml_tables.specs.Settings.{edition_reads, edition_text, resolver_reads, resolver_text, File, flag, path, file_of, Registries, everywhere, among, publish_of}
-use Rattle.cargo_toml_tables.specs.Products.{ProductMeaning, either_flag, product_of}
-use Rattle.cargo_toml_tables.specs.declared.badge.MaintenanceStatus.{MaintenanceStatus}
-use Rattle.cargo_toml_tables.specs.declared.badge.MaintenanceStatus.TheVariants as status
-use Rattle.cargo_toml_tables.specs.Badges.{BadgeMeaning, BadgesMeaning, badges_of, badge_of, badge_reads, or_none, status_of, maintenance_of, maintenance_reads}
-use Rattle.cargo_toml_tables.specs.declared.lint.LintLevel.{LintLevel}
-use Rattle.cargo_toml_tables.specs.declared.lint.LintLevel.TheVariants.{Allow, Warn, ForceWarn, Deny, Forbid}
-use Rattle.cargo_toml_tables.specs.Lints.{LintMeaning, lint_keys, level_of, level_alone, table_lint, lint_of}
-use Rattle.cargo_toml_tables.specs.Profiles.{ProfilesMeaning, profile_keys, profile_of, profile_reads, profiles_of}
-use Rattle.cargo_toml_write.specs.Asked.{EachValue, IfSet, TargetMeets, WorkspaceMeets}
-use Rattle.cargo_toml_write.specs.Ways.{number_way, small_way, text_way, texts_way, Ascend, is_nil, truth_way, free_way, unless_missing, members_of, requirement_way, flag_row, version_way, inheritable_way, list_way, map_way}
-use Rattle.cargo_toml_write.specs.Writes.{AreWritten, IsWriting, required_row, IsHeld, put_some, Way, given_row}
-use Rattle.cargo_toml_write.specs.WrittenSettings.{edition_way, resolver_way, is_unrestricted, file_way, publish_way, debug_way, strip_way, is_usual, lto_way, status_way, level_text, level_way, status_text, file_tree, debug_tree, strip_tree, lto_tree}
-use Rattle.cargo_toml_write.specs.WrittenTables.{product_way, product_rows, badge_way, badges_way, badge_rows, badges_rows, has_no_badge, maintenance_way, maintenance_rows, is_level_alone, lint_groups_way, table_lint_way, has_no_profile, lint_rows, lint_way, profile_way, profiles_way, IsApart, AreApart, known_profiles, profile_rows, profiles_rows}
-use Rattle.cargo_toml_write.proofs.ReadAgain.{AgainAs, AllHeld, Any, Again, StandsAt, ReadsAs, StandsFor, again, collected, flagged, free_again, free_maps, map_same, nil, nil_left, read_back, required, same_tree, step, table_again, text_again, texts_again, truth_again, untouched, given, map_as, nothing_asked, whole, inheritable_again, list_again, nil_map, set_stands, version_again, other_member}
-use Rattle.std.specs.List.Sorted.{IsStrictlySortedBy}
-use Rattle.std.specs.Result.{result_ok}
-use Rattle.std.specs.Cmp.Lexicographic.{slice_cmp}
-use Rattle.std.specs.List.{AllByRecursion}
-use Rattle.std.specs.Str.{bytes_eq}
-use Rattle.std.proofs.lemmas.Cmp.{nat_list_cmp_total}
-use Rattle.std.proofs.lemmas.Map.Text.{is_eq-slice_cmp}
+use Rattle.std.proofs.Common.{inl, inr, arith, ◌≡◌, ◌∙◌, refl, ap, ℕ, true, option_map, option_and_then, List, [], codes, Bool, false, Option, Some, None, sym, ◌∷◌, Result, IfSome, subst, cond, not, map, is_eq, IsTrue, Less, nat_cmp, Ok}
+use Rattle.std.proofs.Common.{Err}
+use Rattle.std.proofs.{lemmas.Bool.and_parts, lemmas.Bool.false≢true, lemmas.Bool.Decides.Decides-int_eq, lemmas.List.Elements.recursion_from_All, lemmas.Cmp.nat_list_cmp_total, lemmas.Map.Text.is_eq-slice_cmp}
 use Rattle.std.proofs.lemmas.Slice.Eq.{bytes_eq-Decides}
-use Rattle.semver.specs.Parse.{Held}
-use Rattle.cargo_toml_dependencies.specs.Dependencies.{InheritedMeaning, DetailMeaning, DependencyMeaning, simple, inherited, detailed, inherited_of, strict_of, inherited_or, detail_keys, detail_of_table, dependency_of, no_detail}
-use Rattle.cargo_toml_dependencies.specs.Details.{Detail, is_plain, plain_detail}
-use Rattle.cargo_toml_dependencies.specs.Features.{FeaturesMeaning, apart, details_of, feature_of, features_of, lists_of, no_features, table_feature}
-use Rattle.cargo_toml_parts.proofs.Steps.{stops}
-use Rattle.cargo_toml_parts.specs.Versions.{requirement_of, Parts, version_of}
-use Rattle.cargo_toml_write.specs.Requirements.{CanBeRead}
-use Rattle.cargo_toml_write.specs.Reread.{reread_dependency, IsTold, each_value, reread, reread_target, reread_workspace, told}
-use Rattle.cargo_toml_write.specs.WrittenDependencies.{dependency_way, inherited_rows, detail_reads, inherited_way, detail_rows, DetailAgain, known_rows, inherited_reads, DependencyAgain, detail_way, AreTold, told_rows, told_way, FeatureTree, feature_way, features_in, detail_under, features_way, told_features, dependencies_way, target_rows, target_way}
-use Rattle.cargo_toml_write.specs.WrittenManifests.{all_features, manifest_rows, manifest_way}
-use Rattle.cargo_toml_write.proofs.ReadParts.{Gives, gives_some, bind, skip}
-use Rattle.cargo_toml_write.proofs.Spelled.{spelled_again}
-use Rattle.cargo_toml_write.proofs.Rows.{Told, nothing}
-use Rattle.semver.specs.Identifiers.{parts_of}
-use Rattle.cargo_toml_dependencies.specs.Targets.{TargetMeaning, target_of}
+use Rattle.std.specs.{Ordering.ordering_reverse, Map.keys_of, List.Sorted.IsStrictlySortedBy, Result.result_ok, Cmp.Lexicographic.slice_cmp, List.AllByRecursion, Str.bytes_eq}
+use Rattle.toml.specs.Data.{as_str, Data, as_bool, as_table, Members, no_members, get_member, string, table, array, Items}
+use Rattle.toml.specs.{declared.value.Value.Value, View.view}
+use Rattle.cargo_toml_manifest.specs.Manifests.{badges_reads, no_badges, no_profiles, product_reads, profiles_reads, ManifestMeaning, manifest_meaning, manifest_of, manifest_reads, target_reads}
 use Rattle.cargo_toml_manifest.specs.declared.manifest.Manifest.{Manifest}
-use Rattle.cargo_toml_package.specs.declared.package.Package.{Package}
-use Rattle.cargo_toml_package.specs.Templates.{TemplateMeaning, template_of, template_reads}
-use Rattle.cargo_toml_package.specs.Packages.{PackageMeaning, package_meaning, package_of_table, package_reads}
-use Rattle.cargo_toml_package.specs.declared.workspace.Workspace.{Workspace}
-use Rattle.cargo_toml_package.specs.Workspaces.{WorkspaceMeaning, workspace_meaning, workspace_of, workspace_reads}
-use Rattle.cargo_toml_parts.specs.declared.inheritable.Inheritable.{Inheritable}
-use Rattle.cargo_toml_parts.specs.Inherits.{inheritable_map, inheritable_of}
-use Rattle.cargo_toml_write.specs.WrittenPackages.{package_way, template_way, package_rows, VersionAgain, template_rows, IsVersionAgain, MetadataAgain, TemplateAgain, AreReadAgain, workspace_way, workspace_rows}
+use Rattle.cargo_toml_parts.specs.Reads.{given_of, list_of, is_among, map_of, others_read, required_of, required_at, optional_of, array_of}
+use Rattle.cargo_toml_parts.specs.Settings.{edition_reads, edition_text, resolver_reads, resolver_text, File, flag, path, file_of, Registries, everywhere, among, publish_of}
+use Rattle.cargo_toml_parts.specs.Badges.{BadgeMeaning, BadgesMeaning, badges_of, badge_of, badge_reads, or_none, status_of, maintenance_of, maintenance_reads}
+use Rattle.cargo_toml_parts.specs.{Numbers.i8_of, Numbers.u16_of, declared.error.Error.Error, ProfileSettings.debug_of, ProfileSettings.strip_of, ProfileSettings.lto_of, declared.settings.Edition.TheVariants.E2015}
+use Rattle.cargo_toml_parts.specs.{declared.settings.Edition.TheVariants.E2018, declared.settings.Edition.TheVariants.E2021, declared.settings.Edition.TheVariants.E2024, declared.settings.Resolver.TheVariants.V1}
+use Rattle.cargo_toml_parts.specs.{declared.settings.Resolver.TheVariants.V2, declared.settings.Resolver.TheVariants.V3, Products.ProductMeaning, Products.either_flag, Products.product_of, declared.badge.MaintenanceStatus.MaintenanceStatus}
+use Rattle.cargo_toml_parts.specs.{declared.lint.LintLevel.LintLevel, declared.lint.LintLevel.TheVariants.Allow, declared.lint.LintLevel.TheVariants.Warn, declared.lint.LintLevel.TheVariants.ForceWarn}
+use Rattle.cargo_toml_parts.specs.{declared.lint.LintLevel.TheVariants.Deny, declared.lint.LintLevel.TheVariants.Forbid, Lints.LintMeaning, Lints.lint_keys, Lints.level_of, Lints.level_alone, Lints.table_lint, Lints.lint_of}
+use Rattle.cargo_toml_parts.specs.{Profiles.ProfilesMeaning, Profiles.profile_keys, Profiles.profile_of, Profiles.profile_reads, Profiles.profiles_of, Versions.requirement_of, Versions.Parts, Versions.version_of}
+use Rattle.cargo_toml_parts.specs.{declared.inheritable.Inheritable.Inheritable, Inherits.inheritable_map, Inherits.inheritable_of}
+use Rattle.cargo_toml_write.proofs.ReadAgain.{Again, AgainAs, AllHeld, Any, ReadsAs, StandsAt, StandsFor, again, alone, collected, flagged, free_again, free_maps, given, inheritable_again, list_again, map_as, map_same, nil, nil_left}
+use Rattle.cargo_toml_write.proofs.ReadAgain.{nil_map, other_member, read_back, required, same_tree, set_stands, step, table_again, text_again, texts_again, truth_again, untouched, version_again, whole}
+use Rattle.cargo_toml_write.proofs.{ReadParts.AreNamed, ReadParts.AreSaid, ReadParts.Gives, ReadParts.bind, ReadParts.gives_some, ReadParts.skip, Spelled.spelled_again}
+use Rattle.cargo_toml_write.specs.Reread.{IsTold, each_value, reread, reread_dependency, reread_target, reread_workspace, told}
+use Rattle.cargo_toml_write.specs.Ways.{Ascend, IsMap, all_of, flag_row, free_way, inheritable_way, is_nil, list_way, map_way, members_of, number_way, requirement_way, small_way, text_way, texts_way, truth_way, unless_missing, version_way}
+use Rattle.cargo_toml_write.specs.WrittenDependencies.{AreTold, DependencyAgain, DetailAgain, dependencies_way, dependency_way, detail_reads, detail_under, detail_way, feature_way, features_in, features_way, inherited_reads, inherited_rows}
+use Rattle.cargo_toml_write.specs.WrittenDependencies.{inherited_way, known_rows, target_rows, target_way, told_features, told_rows, told_way}
+use Rattle.cargo_toml_write.specs.WrittenPackages.{AreReadAgain, IsVersionAgain, MetadataAgain, TemplateAgain, VersionAgain, package_rows, package_way, template_rows, template_way, workspace_rows, workspace_way}
+use Rattle.cargo_toml_write.specs.WrittenTables.{debug_tree, debug_way, edition_way, file_way, is_unrestricted, is_usual, level_text, level_way, lto_tree, lto_way, publish_way, resolver_way, status_text, status_way, strip_tree, strip_way}
+use Rattle.cargo_toml_write.specs.WrittenTables.{AreApart, IsApart, badge_rows, badge_way, badges_rows, badges_way, has_no_badge, has_no_profile, is_level_alone, known_profiles, lint_groups_way, lint_part, lint_rows, lint_way}
+use Rattle.cargo_toml_write.specs.WrittenTables.{maintenance_rows, maintenance_way, product_rows, product_way, profile_rows, profile_way, profiles_way}
+use Rattle.cargo_toml_write.specs.{Asked.EachValue, Asked.IfSet, Asked.TargetMeets, Asked.WorkspaceMeets, Requirements.CanBeRead, Writes.AreWritten, Writes.IsHeld, Writes.IsWriting, Writes.Way, Writes.given_row, Writes.put_some}
+use Rattle.cargo_toml_write.specs.WrittenManifests.{all_features, manifest_rows, manifest_way}
+use Rattle.semver.specs.{Parse.Held, Identifiers.parts_of}
+use Rattle.cargo_toml_package.specs.Dependencies.{InheritedMeaning, DetailMeaning, DependencyMeaning, simple, inherited, detailed, inherited_of, strict_of, inherited_or, detail_keys, detail_of_table, dependency_of, no_detail}
+use Rattle.cargo_toml_package.specs.Features.{FeaturesMeaning, apart, details_of, feature_of, features_of, lists_of, no_features, table_feature}
+use Rattle.cargo_toml_package.specs.{Details.Detail, Details.is_plain, Details.plain_detail, Targets.TargetMeaning, Targets.target_of, declared.package.Package.Package, Templates.TemplateMeaning, Templates.template_of}
+use Rattle.cargo_toml_package.specs.{Templates.template_reads, Packages.PackageMeaning, Packages.package_meaning, Packages.package_of_table, Packages.package_reads, declared.workspace.Workspace.Workspace, Workspaces.WorkspaceMeaning}
+use Rattle.cargo_toml_package.specs.Workspaces.{workspace_meaning, workspace_of, workspace_reads}
+use Rattle.cargo_toml_parts.proofs.Steps.{stops}
+use Rattle.cargo_toml_parts.specs.declared.profile_settings.DebugSetting.TheVariants as debug
+use Rattle.cargo_toml_parts.specs.declared.profile_settings.LtoSetting.TheVariants as lto
+use Rattle.cargo_toml_parts.specs.declared.profile_settings.StripSetting.TheVariants as strip
+use Rattle.cargo_toml_parts.specs.declared.badge.MaintenanceStatus.TheVariants as status
 
 -- editions, resolvers, files, registries, numbers and settings of profiles
 pub edition_again : Again edition_way edition_reads
-edition_again = again (same_tree (λ x. string (edition_text x)) edition_reads (elim [ E2015 ↦ refl | E2018 ↦ refl | E2021 ↦ refl | E2024 ↦ refl ]))
+edition_again = same_tree (λ x. string (edition_text x)) (λ x. refl) edition_reads (elim [ E2015 ↦ refl | E2018 ↦ refl | E2021 ↦ refl | E2024 ↦ refl ])
 
 pub resolver_again : Again resolver_way resolver_reads
-resolver_again = again (same_tree (λ x. string (resolver_text x)) resolver_reads (elim [ V1 ↦ refl | V2 ↦ refl | V3 ↦ refl ]))
+resolver_again = same_tree (λ x. string (resolver_text x)) (λ x. refl) resolver_reads (elim [ V1 ↦ refl | V2 ↦ refl | V3 ↦ refl ])
 
 pub file_again : Again file_way file_of
-file_again = again (same_tree file_tree file_of (elim [ flag b ↦ refl | path p ↦ refl ]))
+file_again = again (elim [ flag b ↦ λ d is. ap file_of is | path p ↦ λ d is. ap file_of is ])
 
 pub usual_file : StandsFor is_usual Any (λ (x : File). x) (flag true)
 usual_file = record { each = elim [ flag b ↦ λ h usual. ap flag usual | path p ↦ λ h usual. absurd cc ] }
@@ -95,13 +73,13 @@ pub small_again : Again small_way i8_of
 small_again = again (λ z d (fits, is). ap i8_of is ∙ fits)
 
 pub debug_again : Again debug_way debug_of
-debug_again = again (same_tree debug_tree debug_of (elim [ debug.None ↦ refl | debug.Lines ↦ refl | debug.Full ↦ refl ]))
+debug_again = same_tree debug_tree _ debug_of (elim [ debug.None ↦ refl | debug.Lines ↦ refl | debug.Full ↦ refl ])
 
 pub strip_again : Again strip_way strip_of
-strip_again = again (same_tree strip_tree strip_of (elim [ strip.None ↦ refl | strip.Debuginfo ↦ refl | strip.Symbols ↦ refl ]))
+strip_again = same_tree strip_tree _ strip_of (elim [ strip.None ↦ refl | strip.Debuginfo ↦ refl | strip.Symbols ↦ refl ])
 
 pub lto_again : Again lto_way lto_of
-lto_again = again (same_tree lto_tree lto_of (elim [ lto.None ↦ refl | lto.ThinLocal ↦ refl | lto.Thin ↦ refl | lto.Fat ↦ refl ]))
+lto_again = same_tree lto_tree _ lto_of (elim [ lto.None ↦ refl | lto.ThinLocal ↦ refl | lto.Thin ↦ refl | lto.Fat ↦ refl ])
 
 pub ruleset values_back = (read_back, text_again, truth_again, texts_again, free_again, nil, edition_again, resolver_again, file_again, usual_file, publish_again, published_everywhere)
 
@@ -123,7 +101,7 @@ pub badge_again : Again badge_way badge_reads
 badge_again = again (table_again badge_rows badge_of (λ b. refl) (λ b ms written held. search values_back depth 20))
 
 status_again : Again status_way status_of
-status_again = again (same_tree (λ x. string (status_text x)) status_of (elim [
+status_again = same_tree (λ x. string (status_text x)) (λ x. refl) status_of (elim [
   | status.None ↦ refl
   | status.ActivelyDeveloped ↦ refl
   | status.PassivelyMaintained ↦ refl
@@ -131,7 +109,7 @@ status_again = again (same_tree (λ x. string (status_text x)) status_of (elim [
   | status.Experimental ↦ refl
   | status.LookingForMaintainer ↦ refl
   | status.Deprecated ↦ refl
-]))
+])
 
 pub maintenance_again : Again maintenance_way maintenance_reads
 maintenance_again = again (table_again maintenance_rows maintenance_of (λ s. refl) (λ s ms written held. required (get_member (codes "status") ms) (Some s) s held.0 status_again tt))
@@ -149,34 +127,28 @@ badges_members b ms h1 = grind (arith, badge_or_none, status_read)
 pub badges_again : Again badges_way badges_reads
 badges_again = again (table_again badges_rows (λ ms. Some (badges_of ms)) (λ b. refl) (λ b ms written. badges_members b ms))
 
-none_left : (b : BadgesMeaning) → has_no_badge b ≡ true → b ≡ no_badges
-none_left b h = grind arith
-
 pub no_badge : StandsFor has_no_badge Any (λ (b : BadgesMeaning). b) no_badges
-no_badge = record { each = λ b h. none_left b }
+no_badge = record { each = λ b h none. grind arith }
 
 -- profiles
 pub profile_again : Again profile_way profile_reads
 profile_again = again (table_again profile_rows profile_of (λ p. refl) (λ p ms written held.
     search (values_back, debug_again, strip_again, lto_again, number_again, free_maps) depth 50 fits 4000))
 
-profiles_members : (p : ProfilesMeaning) (ms : Members) → AreApart p → Ascend (keys_of p.custom) → AreWritten (profiles_rows p) no_members ms → profiles_of ms ≡ Some p
-profiles_members p ms apart ascend written =
-    let read = collected profile_way profile_reads profile_keys p.custom (known_profiles p) ms profile_again apart ascend refl refl written in
+profiles_members : (p : ProfilesMeaning) (old ms : Members) → AreApart p → IsMap profile_way p.custom old → AreWritten (known_profiles p) old ms → profiles_of ms ≡ Some p
+profiles_members p old ms apart map written =
+    let read = collected profile_way profile_reads profile_keys p.custom (known_profiles p) old ms profile_again apart map refl refl written in
     search (read_back, profile_again, step) depth 30 fits 4000
 
 pub profiles_again : AgainAs profiles_way profiles_reads AreApart (λ (p : ProfilesMeaning). p)
-profiles_again = record { each = λ p apart d (ascend, (ms, is, written)). rw is (profiles_members p ms apart ascend written) }
-
-no_profile_left : (p : ProfilesMeaning) → has_no_profile p ≡ true → p ≡ no_profiles
-no_profile_left p h = grind arith
+profiles_again = record { each = λ p apart d (old, ms, is, map, written). rw is (profiles_members p old ms apart map written) }
 
 pub no_profile : StandsFor has_no_profile AreApart (λ (p : ProfilesMeaning). p) no_profiles
-no_profile = record { each = λ p h. no_profile_left p }
+no_profile = record { each = λ p h none. grind arith }
 
 -- lints
 pub level_again : Again level_way level_of
-level_again = again (same_tree (λ x. string (level_text x)) level_of (elim [ Allow ↦ refl | Warn ↦ refl | ForceWarn ↦ refl | Deny ↦ refl | Forbid ↦ refl ]))
+level_again = same_tree (λ x. string (level_text x)) (λ x. refl) level_of (elim [ Allow ↦ refl | Warn ↦ refl | ForceWarn ↦ refl | Deny ↦ refl | Forbid ↦ refl ])
 
 alone_again : (x : LintLevel) → lint_of (string (level_text x)) ≡ Some (level_alone x)
 alone_again = elim [ Allow ↦ refl | Warn ↦ refl | ForceWarn ↦ refl | Deny ↦ refl | Forbid ↦ refl ]
@@ -184,23 +156,24 @@ alone_again = elim [ Allow ↦ refl | Warn ↦ refl | ForceWarn ↦ refl | Deny 
 is_alone : (l : LintMeaning) → is_level_alone l ≡ true → level_alone l.level ≡ l
 is_alone l h1 = grind (arith, and_parts, nil_left, Decides-int_eq)
 
-lint_members : (l : LintMeaning) (ms : Members) → IsApart l → Ascend (keys_of l.config) → AreWritten (lint_rows l) no_members ms → table_lint ms ≡ Some l
-lint_members l ms apart ascend written =
-    let known = required_row (codes "level") level_way l.level ∷ required_row (codes "priority") small_way l.priority ∷ [] in
-    let read = collected free_way (λ d. Some d) lint_keys l.config known ms free_again apart ascend refl refl written in
+lint_members : (l : LintMeaning) (old ms : Members) → IsApart l → IsMap free_way l.config old → AreWritten (lint_rows l) old ms → table_lint ms ≡ Some l
+lint_members l old ms apart map written =
+    let read = collected free_way (λ d. Some d) lint_keys l.config (lint_rows l) old ms free_again apart map refl refl written in
     search (read_back, level_again, small_again, step) depth 30 fits 4000
 
-lint_either : (b : Bool) (l : LintMeaning) (d : Data) → b ≡ is_level_alone l → IsApart l → MatchBool b (level_way.trees l.level d) (table_lint_way.trees l d) → lint_of d ≡ Some l
-lint_either b l d h1 h2 h3 = grind (arith, alone_again, is_alone, lint_members)
+lint_either : (b : Bool) (l : LintMeaning) (d : Data) → b ≡ is_level_alone l → IsApart l → (lint_part b l).way.trees (lint_part b l).value d → lint_of d ≡ Some l
+lint_either true l d alone apart is = ap lint_of is ∙ alone_again l.level ∙ ap Some (is_alone l (sym alone))
+lint_either false l d alone apart (old, ms, is, map, written) = ap lint_of is ∙ lint_members l old ms apart map written
 
 pub lint_again : AgainAs lint_way lint_of IsApart (λ (l : LintMeaning). l)
 lint_again = record { each = λ l apart d tree. lint_either (is_level_alone l) l d refl apart tree }
 
--- a lint that is written as its table
-pub lint_writing : (l : LintMeaning) (r : Result Value Error) → is_level_alone l ≡ false → IsWriting table_lint_way l r → IsWriting lint_way l r
-lint_writing l (Ok v) alone written = rw alone written
-lint_writing l (Err e) alone (inl memory) = inl memory
-lint_writing l (Err e) alone (inr refused) = inr (rw alone refused)
+-- a lint that is written as its level, or as its table
+pub lint_writing : (b : Bool) (l : LintMeaning) (r : Result Value Error) → is_level_alone l ≡ b → IsWriting (lint_part b l).way (lint_part b l).value r → IsWriting lint_way l r
+lint_writing b l (Ok v) is written = subst (λ (b : Bool). (lint_part b l).way.trees (lint_part b l).value (view v)) (sym is) written
+lint_writing b l (Err e) is (inl memory) = inl memory
+lint_writing b l (Err e) is (inr refused) =
+    inr (subst (λ (b : Bool). ((d : Data) → ¬ ((lint_part b l).way.trees (lint_part b l).value d)) × (lint_part b l).way.refuses (lint_part b l).value e) (sym is) refused)
 
 -- the lints by tool
 abbrev pub LintGroups : Type 0
@@ -224,13 +197,13 @@ strict_members i ms h1 h2 = grind (arith, nil, read_back, texts_again, truth_aga
 detail_members : (d : DetailMeaning) (ms : Members) → IfSome d.version CanBeRead → Some (record d { inherited = false }) ≡ Some d → AllHeld (known_rows d) ms → others_read detail_keys (λ x. Some x) ms ≡ Some d.unstable → detail_of_table ms ≡ Some d
 detail_members d ms version last held others = search (read_back, texts_again, text_again, requirement_again, nil, step {B = DetailMeaning} (others_read detail_keys (λ x. Some x) ms)) depth 50 fits 4000
 
-detail_table : (d : DetailMeaning) (ms : Members) → DetailAgain d → Ascend (keys_of d.unstable) → AreWritten (detail_rows d) no_members ms → detail_of_table ms ≡ Some d
-detail_table d ms law ordered written =
-    let read = collected free_way (λ x. Some x) detail_keys d.unstable (known_rows d) ms free_again law.apart ordered refl refl written in
+detail_table : (d : DetailMeaning) (old ms : Members) → DetailAgain d → IsMap free_way d.unstable old → AreWritten (known_rows d) old ms → detail_of_table ms ≡ Some d
+detail_table d old ms law map written =
+    let read = collected free_way (λ x. Some x) detail_keys d.unstable (known_rows d) old ms free_again law.apart map refl refl written in
     detail_members d ms law.version (ap (λ (b : Bool). Some (record d { inherited = b })) (sym law.not_inherited)) read.0 read.1
 
 pub detail_again : AgainAs detail_way detail_reads DetailAgain (λ (x : DetailMeaning). x)
-detail_again = record { each = λ x law d (ordered, (ms, is, written)). ap detail_reads is ∙ detail_table x ms law ordered written }
+detail_again = record { each = λ x law d (old, ms, is, map, written). ap detail_reads is ∙ detail_table x old ms law map written }
 
 -- a dependency: a detail that was read has all other keys of its table, and so whatever stands at `workspace`
 abbrev Keeps : Members → DetailMeaning → Type 0
@@ -255,8 +228,8 @@ unfolding dependency_of
 dependency_tree (simple r) (text, h) d is = ap dependency_of is ∙ ap (λ o. option_map simple (result_ok o)) (spelled_again text r h)
 dependency_tree (inherited i) told d (ms, is, written) =
     ap dependency_of is ∙ ap (λ o. inherited_or o (detail_of_table ms)) (strict_members i ms written told)
-dependency_tree (detailed x) (law, none) d (ordered, (ms, is, written)) =
-    ap dependency_of is ∙ detailed_table x ms (detail_table x ms law ordered written) none
+dependency_tree (detailed x) (law, none) d (old, ms, is, map, written) =
+    ap dependency_of is ∙ detailed_table x ms (detail_table x old ms law map written) none
 
 pub dependency_again : AgainAs dependency_way dependency_of DependencyAgain (λ (x : DependencyMeaning). x)
 dependency_again = record { each = dependency_tree }
@@ -264,13 +237,10 @@ dependency_again = record { each = dependency_tree }
 -- an inherited dependency that says that it isn't has the table of a detail
 as_detail : (i : InheritedMeaning) (d : Data) → i.workspace ≡ false → inherited_way.trees i d → detail_way.trees (record no_detail { features = i.features; optional = i.optional }) d
 unfolding IsStrictlySortedBy
-as_detail i d says (ms, is, (one, features, (two, optional, (three, workspace, last)))) =
-    let none : workspace.0 ≡ None = subst (λ (b : Bool). IsHeld truth_way (unless_missing false b) workspace.0) says workspace.1 in
-    let same : ms ≡ two = last ∙ workspace.3 ∙ ap (λ (o : Option Data). put_some (codes "workspace") o two) none in
-    let rest : Told (given_row (codes "features") texts_way i.features ∷ flag_row (codes "optional") false i.optional ∷ flag_row (codes "default-features") true true ∷ []) no_members ms
-    = record { written = (one, features, (two, optional, (two, (None, refl, tt, refl), same))) } in
-    let told : Told (known_rows (record no_detail { features = i.features; optional = i.optional })) no_members ms = search nothing depth 20 in
-    (tt, (ms, is, told.written))
+as_detail i d says (ms, is, (features, features_held, (optional, optional_held, (workspace, workspace_held, last)))) =
+    let none : workspace ≡ None = subst (λ (b : Bool). IsHeld truth_way (unless_missing false b) workspace) says workspace_held in
+    let same = last ∙ ap (λ (o : Option Data). put_some (codes "workspace") o (put_some (codes "optional") optional (put_some (codes "features") features no_members))) none in
+    (no_members, ms, is, (tt, tt), (None, refl, (None, refl, (None, refl, (None, refl, (None, refl, (None, refl, (None, refl, (None, refl, (None, refl, (features, features_held, (optional, optional_held, (None, refl, same)))))))))))))
 
 at_flag : (b : Bool) (i : InheritedMeaning) (d : Data) → i.workspace ≡ b → inherited_way.trees i d
     → dependency_way.trees (cond b (inherited i) (detailed (record no_detail { features = i.features; optional = i.optional }))) d
@@ -279,7 +249,9 @@ at_flag false i d says tree = as_detail i d says tree
 
 -- each dependency is read as it is read again
 reread_tree : (x : DependencyMeaning) (d : Data) → dependency_way.trees x d → dependency_way.trees (reread_dependency x) d
-reread_tree x d h1 = grind (arith, at_flag)
+reread_tree (simple r) d tree = tree
+reread_tree (inherited i) d tree = at_flag i.workspace i d refl tree
+reread_tree (detailed x) d tree = tree
 
 abbrev pub Reread : DependencyMeaning → Type 0
 Reread x = DependencyAgain (reread_dependency x)
@@ -300,7 +272,7 @@ said (Some d) = d
 plain_list : (enables : List (List ℕ)) (ds : Items) → list_of (array ds) ≡ Some enables → feature_of (array ds) ≡ Some (enables, plain_detail)
 plain_list enables ds h = rw h refl
 
-feature_again : (enables : List (List ℕ)) (detail : Option Detail) (d : Data) → FeatureTree enables detail d → feature_of d ≡ Some (enables, said detail)
+feature_again : (enables : List (List ℕ)) (detail : Option Detail) (d : Data) → feature_way.trees (enables, detail) d → feature_of d ≡ Some (enables, said detail)
 feature_again enables None d (ds, is, items) = rw is (plain_list enables ds (texts_again.each enables tt (array ds) (ds, refl, items)))
 feature_again enables (Some detail) d (ms, is, written) = rw is (told_again.each (enables, detail) tt (table ms) (ms, refl, written))
 
@@ -344,9 +316,6 @@ named_above : (name n : List ℕ) (names : List (List ℕ)) → AreAbove name na
 named_above name n [] h inside = absurd (false≢true inside)
 named_above name n (m ∷ names) h inside = named_at (bytes_eq m n) name m n names refl h.0 inside (named_above name n names h.1)
 
-abbrev AreNamed : List (List ℕ) → List (List ℕ × Detail) → Type 0
-AreNamed names es = AllByRecursion (λ e. IsTrue (is_among names e.0)) es
-
 still_named : (name : List ℕ) (names : List (List ℕ)) (es : List (List ℕ × Detail)) → AreAbove name (keys_of es) → AreNamed (name ∷ names) es → AreNamed names es
 still_named name names [] above named = tt
 still_named name names (e ∷ es) above named =
@@ -354,9 +323,6 @@ still_named name names (e ∷ es) above named =
 
 not_first : (b : Bool) (names : List (List ℕ)) (n : List ℕ) → b ≡ false → IsTrue (cond b true (is_among names n)) → IsTrue (is_among names n)
 not_first b names n h1 h2 = grind (arith, false≢true)
-
-abbrev AreSaid : List (List ℕ × Detail) → Type 0
-AreSaid es = AllByRecursion (λ e. is_plain e.1 ≡ false) es
 
 -- what is read of features, each with what is said of it
 abbrev read_all : Beside → List (List ℕ × (List (List ℕ) × Detail))
@@ -408,10 +374,10 @@ same_names (f ∷ fs) es = ap (λ names. f.0 ∷ names) (same_names fs es)
 -- both halves are read again
 features_tree : (fs : FeaturesMeaning) → AreTold fs → ReadsAs features_way features_of fs fs
 features_tree fs told d (details, tree) =
-    let lists : Ascend (keys_of fs.0) = subst Ascend (sym (same_names fs.0 fs.1)) tree.0 in
+    let lists : Ascend (keys_of fs.0) = subst Ascend (sym (same_names fs.0 fs.1)) tree.2.0 in
     let named : AreNamed (keys_of fs.0) fs.1 = recursion_from_All (λ (e : List ℕ × Detail). IsTrue (is_among (keys_of fs.0) e.0)) fs.1 told.named in
     let said_all : AreSaid fs.1 = recursion_from_All (λ (e : List ℕ × Detail). is_plain e.1 ≡ false) fs.1 told.told in
-    let any = All-from_recursion (λ (e : List ℕ × (List (List ℕ) × Option Detail)). Unit {0}) (told_features fs) (nothing_asked (told_features fs)) in
+    let any = all_of (λ (e : List ℕ × (List (List ℕ) × Option Detail)). Unit {0}) (λ e. tt) (told_features fs) in
     let one : AgainAs feature_way feature_of Any (λ f. (f.0, said f.1)) = record { each = λ f h. feature_again f.0 f.1 } in
     ap (option_map apart) ((map_as one).each (told_features fs) any d tree)
     ∙ ap (λ (ls : List (List ℕ × List (List ℕ))). Some (ls, details_of (joined fs.0 fs.1))) (lists_again fs.0 fs.1)
@@ -433,8 +399,7 @@ no_feature = record { each = λ fs told. none_at fs.0 fs.1 (recursion_from_All (
 pub manifest_features : {M : Type 0} (metadata : Way M) (m : ManifestMeaning M) → AreTold (all_features m)
     → (d : Data) → (manifest_way metadata).trees m d → features_in d ≡ Some (all_features m)
 manifest_features metadata m told d (ms, is, written) =
-    let (its_package, (workspace, (plain, (dev, (build, (target, (features, rest))))))) = whole (manifest_rows metadata m) ms refl written in
-    ap features_in is ∙ given (get_member (codes "features") ms) (Some true) (all_features m) no_features features features_again told no_feature
+    ap features_in is ∙ given (get_member (codes "features") ms) (Some true) (all_features m) no_features (whole (manifest_rows metadata m) ms refl written).1.1.1.1.1.1.0 features_again told no_feature
 
 -- packages and templates read as themselves
 -- what the workspace may give

@@ -1,52 +1,32 @@
 -- What was read of a tree that holds no float is such as is asked, where each part that was read is: it is as asked of what is
 -- written, it is told so that it is read again, and then it stays.
 use Prim.Native.String.{String as Words}
-use Rattle.std.proofs.Common.{◌≡◌, refl, ap, subst, ℕ, List, [], ◌∷◌, codes, Bool, true, false, IsTrue, Option, Some, None, IfSome, option_map, option_and_then, Ordering, nat_cmp, if◌then◌else◌, sym, arith, ◌∙◌, cond, not, ◌++◌, lit<, Result, Ok, ◌&&◌}
-use Rattle.std.specs.Cmp.Lexicographic.{slice_cmp}
-use Rattle.std.specs.Ordering.{match_ordering}
-use Rattle.std.specs.List.{AllByRecursion, All}
-use Rattle.std.proofs.lemmas.Bool.{and_parts, false≢true}
-use Rattle.std.proofs.lemmas.List.Elements.{All-from_recursion, recursion_from_All}
+use Rattle.std.proofs.Common.{◌≡◌, refl, ap, subst, ℕ, List, [], ◌∷◌, codes, Bool, true, false, IsTrue, Option, Some, None, IfSome, option_map, option_and_then, Ordering, nat_cmp, if◌then◌else◌, sym, arith, ◌∙◌, cond, not, lit<, Result, Ok}
+use Rattle.std.proofs.Common.{◌&&◌}
+use Rattle.std.proofs.{lemmas.Bool.and_parts, lemmas.Bool.false≢true, lemmas.List.Elements.All-from_recursion, lemmas.List.Elements.recursion_from_All, lemmas.Slice.Eq.bytes_eq-Decides}
+use Rattle.std.specs.{Cmp.Lexicographic.slice_cmp, Ordering.match_ordering, List.AllByRecursion, List.All, Map.keys_of, Result.result_ok, Str.bytes_eq}
 use Rattle.toml.specs.Data.{Data, table, Members, no_members, member, get_member, as_table, string, as_bool}
-use Rattle.cargo_toml_dependencies.specs.Dependencies.{DependencyMeaning, dependency_of, InheritedMeaning, DetailMeaning, simple, inherited, detailed, no_detail, strict_of, inherited_or, detail_keys, detail_of_table}
-use Rattle.cargo_toml_dependencies.specs.Features.{features_of, no_features, apart, details_of, feature_of, lists_of}
-use Rattle.cargo_toml_dependencies.specs.Targets.{target_of, TargetMeaning}
+use Rattle.cargo_toml_package.specs.Dependencies.{DependencyMeaning, dependency_of, InheritedMeaning, DetailMeaning, simple, inherited, detailed, no_detail, strict_of, inherited_or, detail_keys, detail_of_table}
+use Rattle.cargo_toml_package.specs.{Features.features_of, Features.no_features, Features.apart, Features.details_of, Features.feature_of, Features.lists_of, Targets.target_of, Targets.TargetMeaning, Packages.PackageMeaning}
+use Rattle.cargo_toml_package.specs.{Packages.package_reads, Packages.package_of_table, Templates.template_reads, Templates.template_of, Workspaces.WorkspaceMeaning, Workspaces.workspace_of, Workspaces.workspace_reads, Details.Detail}
+use Rattle.cargo_toml_package.specs.{Details.is_plain, Sharing.LintsByTool}
 use Rattle.cargo_toml_manifest.specs.Manifests.{ManifestMeaning, by_zero_rule, target_reads, product_reads, badges_reads, no_badges, profiles_reads, no_profiles, manifest_of, manifest_reads, zero_rule_applies}
-use Rattle.cargo_toml_package.specs.Packages.{PackageMeaning, package_reads, package_of_table}
-use Rattle.cargo_toml_package.specs.Templates.{template_reads, template_of}
-use Rattle.cargo_toml_package.specs.Workspaces.{WorkspaceMeaning, workspace_of, workspace_reads}
-use Rattle.cargo_toml_parts.specs.declared.inheritable.Inheritable.TheVariants.{Set, Inherited}
-use Rattle.cargo_toml_parts.specs.Floats.{has_no_float, members_have_no_float, without_floats}
-use Rattle.cargo_toml_parts.specs.Inherits.{by_flag, set_or, inheritable_of, workspace_flag}
-use Rattle.cargo_toml_parts.specs.Reads.{optional_of, optional_at, given_of, given_at, is_among, others_read, map_of, map_at, array_of, flag_at, list_at, required_at, required_of}
-use Rattle.cargo_toml_parts.specs.Keys.{inherited_at}
-use Rattle.cargo_toml_tables.specs.Lints.{LintMeaning, lint_of, level_alone, level_of, lint_keys, table_lint}
-use Rattle.cargo_toml_write.specs.Asked.{EachValue, IfSet, Asked, ManifestMeets, TargetMeets, WorkspaceMeets}
-use Rattle.std.specs.Map.{keys_of}
-use Rattle.std.specs.Result.{result_ok}
-use Rattle.std.specs.Str.{bytes_eq}
-use Rattle.std.specs.Bool.{MatchBool}
-use Rattle.std.proofs.lemmas.Slice.Eq.{bytes_eq-Decides}
-use Rattle.semver.specs.Parse.{Held, req_of, version_parts}
-use Rattle.semver.specs.declared.error.Error.{Error}
-use Rattle.semver.proofs.Grammar.{version_parts-complete, version_parts-sound}
-use Rattle.cargo_toml_dependencies.specs.Details.{Detail, is_plain}
 use Rattle.cargo_toml_manifest.specs.Texts.{any_tree, document_reads}
-use Rattle.cargo_toml_parts.specs.Versions.{Parts, requirement_of, version_of}
-use Rattle.cargo_toml_tables.specs.Settings.{everywhere}
-use Rattle.cargo_toml_tables.specs.Profiles.{ProfileMeaning, profile_keys, profile_of, profile_reads, profiles_of}
-use Rattle.cargo_toml_write.specs.Lawful.{asked_with}
-use Rattle.cargo_toml_write.specs.Requirements.{CanBeRead}
-use Rattle.cargo_toml_write.specs.Reread.{SaysTrue, reread_dependency, told, each_value, reread, says_true, reread_target, reread_workspace, IsTold}
-use Rattle.cargo_toml_write.specs.Ways.{entry_rows, free_way, is_nil, map_way, members_of, inheritable_way, is_set_and}
-use Rattle.cargo_toml_write.specs.Writes.{Row, RowsAsk, Way, unless}
-use Rattle.cargo_toml_write.specs.WrittenDependencies.{DetailAgain, DependencyAgain, dependency_way, AreTold, detail_way, known_rows, dependencies_way, target_way}
-use Rattle.cargo_toml_write.specs.WrittenPackages.{IsVersionAgain, TemplateAgain, VersionAgain, package_way, workspace_way}
-use Rattle.cargo_toml_write.specs.WrittenTables.{IsApart, AreApart, is_level_alone, lint_way, profiles_way, profile_way, table_lint_way, has_no_profile, lint_groups_way}
-use Rattle.cargo_toml_write.proofs.ReadAgain.{other_member}
+use Rattle.cargo_toml_parts.specs.Reads.{optional_of, optional_at, given_of, given_at, is_among, others_read, map_of, map_at, array_of, flag_at, list_at, required_at, required_of}
+use Rattle.cargo_toml_parts.specs.{declared.inheritable.Inheritable.TheVariants.Set, declared.inheritable.Inheritable.TheVariants.Inherited, Floats.has_no_float, Floats.members_have_no_float, Floats.without_floats, Inherits.by_flag}
+use Rattle.cargo_toml_parts.specs.{Inherits.set_or, Inherits.inheritable_of, Inherits.workspace_flag, Keys.inherited_at, Lints.LintMeaning, Lints.lint_of, Lints.level_alone, Lints.level_of, Lints.lint_keys, Lints.table_lint, Versions.Parts}
+use Rattle.cargo_toml_parts.specs.{Versions.requirement_of, Versions.version_of, Settings.everywhere, Profiles.ProfileMeaning, Profiles.profile_keys, Profiles.profile_of, Profiles.profile_reads, Profiles.profiles_of}
 use Rattle.cargo_toml_parts.specs.declared.inheritable.Inheritable.{Inheritable}
-use Rattle.cargo_toml_write.specs.WrittenManifests.{manifest_way}
-use Rattle.cargo_toml_package.specs.Sharing.{LintsByTool}
+use Rattle.cargo_toml_write.proofs.ReadAgain.{AreOthers, other_member}
+use Rattle.cargo_toml_write.specs.Reread.{IsTold, SaysTrue, each_value, reread, reread_dependency, reread_target, reread_workspace, says_true, told}
+use Rattle.cargo_toml_write.specs.Ways.{AsksOf, free_way, inheritable_way, is_nil, is_set_and, map_way, members_of}
+use Rattle.cargo_toml_write.specs.WrittenDependencies.{AreTold, DependencyAgain, DetailAgain, dependencies_way, dependency_way, detail_way, target_way}
+use Rattle.cargo_toml_write.specs.WrittenTables.{AreApart, IsApart, has_no_profile, is_level_alone, lint_groups_way, lint_part, lint_way, profile_way, profiles_way}
+use Rattle.cargo_toml_write.specs.{Asked.Asked, Asked.EachValue, Asked.IfSet, Asked.ManifestMeets, Asked.TargetMeets, Asked.WorkspaceMeets, Asked.nothing_asked, Requirements.CanBeRead, Writes.unless, WrittenManifests.manifest_way}
+use Rattle.cargo_toml_write.specs.WrittenPackages.{IsVersionAgain, TemplateAgain, VersionAgain, package_way, workspace_way}
+use Rattle.cargo_toml_write.specs.{Lawful.AllFloatless as MembersFloatless, Ways.HoldsNoFloat as Floatless}
+use Rattle.semver.specs.{Parse.Held, Parse.req_of, Parse.version_parts, declared.error.Error.Error}
+use Rattle.semver.proofs.Grammar.{version_parts-complete, version_parts-sound}
 
 -- what is given, if anything, is such
 pub record Gives {A : Type 0} (P : A → Type 0) (o : Option A) : Type 0 where
@@ -55,13 +35,8 @@ pub record Gives {A : Type 0} (P : A → Type 0) (o : Option A) : Type 0 where
 pub gives_none : {A : Type 0} {P : A → Type 0} → Gives P None
 gives_none = record { each = λ x e. absurd cc }
 
-or_else : {A : Type 0} → A → Option A → A
-or_else x None = x
-or_else x (Some y) = y
-
 pub gives_some : {A : Type 0} {P : A → Type 0} (x : A) → P x → Gives P (Some x)
-unfolding or_else
-gives_some {P = P} x h = record { each = λ y e. subst P (ap (or_else x) e) h }
+gives_some {P = P} x h = record { each = λ y e. subst P (cc) h }
 
 -- a step and what follows, and a step of which nothing is asked
 pub bind : {A B : Type 0} {Q : A → Type 0} {P : B → Type 0} (o : Option A) (f : A → Option B) → Gives Q o → ((x : A) → Q x → Gives P (f x)) → Gives P (option_and_then f o)
@@ -76,12 +51,6 @@ mapped o f h1 h2 = grind (arith, gives_none, gives_some)
 -- a reader that gives such of a tree that holds no float
 abbrev pub Reads : {M : Type 0} → (M → Type 0) → (Data → Option M) → Type 0
 Reads P reads = (d : Data) → IsTrue (has_no_float d) → Gives P (reads d)
-
-abbrev pub Floatless : Data → Type 0
-Floatless d = IsTrue (has_no_float d)
-
-abbrev pub MembersFloatless : Members → Type 0
-MembersFloatless ms = IsTrue (members_have_no_float ms)
 
 chosen : (o : Ordering) (r s : Option Data) → Gives Floatless r → Gives Floatless s → Gives Floatless (match_ordering o r s r)
 chosen o r s h1 h2 = grind arith
@@ -191,17 +160,13 @@ module _ {M : Type 0} (asked : Asked M) (metadata_of : Data → Option M) (leave
   lints_read : Reads Lints (map_of (map_of lint_of))
   lints_read = map_reads (map_of lint_of) (map_reads lint_of leaves.lint)
 
-  workspace_holds : (w : WorkspaceMeaning M) → IfSome w.metadata asked.metadata → asked.template w.«package» → EachValue Dependency w.dependencies → Lints w.lints → Gives (WorkspaceMeets asked) (Some w)
-  workspace_holds w metadata template dependencies lints =
-      gives_some {P = WorkspaceMeets asked} w (record { metadata = metadata; template = template; dependencies = dependencies; lints = lints })
-
   workspace_members : (ms : Members) → MembersFloatless ms → Gives (WorkspaceMeets asked) (workspace_of metadata_of ms)
   workspace_members ms h =
       let metadata : Gives (λ x. IfSome x asked.metadata) (optional_at "metadata" metadata_of ms) = optional_reads {P = asked.metadata} "metadata" metadata_of leaves.metadata ms h in
       let template : Gives asked.template (optional_at "package" template_reads ms) = leaves.template (get_member (codes "package") ms) in
       let its_dependencies : Gives (EachValue Dependency) (map_at "dependencies" dependency_of ms) = dependencies ms h "dependencies" in
       let lints : Gives Lints (map_at "lints" (map_of lint_of) ms) = map_at_reads {P = EachValue asked.lint} "lints" (map_of lint_of) (map_reads lint_of leaves.lint) ms h in
-      search (bind, skip, workspace_holds) depth 60 fits 4000
+      search (bind, skip, gives_some {P = WorkspaceMeets asked}) depth 60 fits 4000
 
   pub workspace_read : Reads (WorkspaceMeets asked) (workspace_reads metadata_of)
   unfolding workspace_reads
@@ -244,29 +209,10 @@ module _ {M : Type 0} (asked : Asked M) (metadata_of : Data → Option M) (leave
 pub unless_asked : {X : Type 0} (P : X → Type 0) (b : Bool) (x : X) → P x → IfSome (unless b x) P
 unless_asked P b x h1 = grind arith
 
-module _ {X : Type 0} (way : Way X) (P : X → Type 0) (f : (x : X) → P x → way.asks x) where
-  entries_asked : (es : List (List ℕ × X)) → AllByRecursion (λ (e : List ℕ × X). P e.1) es → RowsAsk (entry_rows way es)
-  entries_asked [] h = tt
-  entries_asked (e ∷ es) h = asked_with way.asks_nothing _ _ (f e.1 h.0) (entries_asked es h.1)
-
-  -- a map, and the entries of one with the rows behind them
-  pub map_asked : (es : List (List ℕ × X)) → EachValue P es → RowsAsk (entry_rows way es)
-  map_asked es h = entries_asked es (recursion_from_All (λ (e : List ℕ × X). P e.1) es h)
-
-  asked_before : (es : List (List ℕ × X)) (rows : List Row) → AllByRecursion (λ (e : List ℕ × X). P e.1) es → RowsAsk rows → RowsAsk (entry_rows way es ++ rows)
-  asked_before [] rows h rest = rest
-  asked_before (e ∷ es) rows h rest = asked_with way.asks_nothing _ _ (f e.1 h.0) (asked_before es rows h.1 rest)
-
-  pub map_before : (es : List (List ℕ × X)) (rows : List Row) → EachValue P es → RowsAsk rows → RowsAsk (entry_rows way es ++ rows)
-  map_before es rows h rest = asked_before es rows (recursion_from_All (λ (e : List ℕ × X). P e.1) es h) rest
-
-detail_holds : (d : DetailMeaning) → EachValue Floatless d.unstable → Gives detail_way.asks (Some d)
-detail_holds d unstable = gives_some {P = detail_way.asks} d (map_before free_way Floatless (λ x h. h) d.unstable (known_rows d) unstable tt)
-
 detail_members : (ms : Members) → MembersFloatless ms → Gives detail_way.asks (detail_of_table ms)
 detail_members ms h =
     let unstable : Gives (EachValue Floatless) (others_read detail_keys (λ d. Some d) ms) = others_reads {P = Floatless} detail_keys (λ d. Some d) tree_reads ms h in
-    search (bind, skip, detail_holds) depth 60 fits 4000
+    search (bind, skip, gives_some {P = detail_way.asks}) depth 60 fits 4000
 
 inherited_gives : (i : Option InheritedMeaning) (d : Option DetailMeaning) → Gives detail_way.asks d → Gives dependency_way.asks (inherited_or i d)
 inherited_gives i d h1 = grind (arith, gives_some, mapped)
@@ -279,8 +225,7 @@ dependency_read _ h = gives_none
 
 profile_holds : (p : ProfileMeaning) → IfSome p.opt_level Floatless → EachValue Floatless p.«package» → IfSome p.build_override Floatless → Gives profile_way.asks (Some p)
 profile_holds p opt_level its_package build_override =
-    let whole = map_asked free_way Floatless (λ x h. h) p.«package» its_package in
-    gives_some {P = profile_way.asks} p (opt_level, (unless_asked (map_way free_way).asks (is_nil p.«package») p.«package» whole, (build_override, tt)))
+    gives_some {P = profile_way.asks} p (opt_level, (unless_asked (EachValue Floatless) (is_nil p.«package») p.«package» its_package, (build_override, tt)))
 
 profile_members : (ms : Members) → MembersFloatless ms → Gives profile_way.asks (profile_of ms)
 profile_members ms h =
@@ -301,19 +246,16 @@ profiles_members ms h =
     (bind {P = profiles_way.asks} (optional_at "bench" profile_reads ms) _ (one "bench") (λ bench h_bench.
     (bind {P = profiles_way.asks} (optional_at "doc" profile_reads ms) _ (one "doc") (λ doc h_doc.
     (bind {P = profiles_way.asks} (others_read profile_keys profile_reads ms) _ (others_reads {P = profile_way.asks} profile_keys profile_reads profile_read ms h) (λ custom h_custom.
-    gives_some {P = profiles_way.asks} _ (map_before profile_way profile_way.asks (λ x h. h) custom _ h_custom (h_release, (h_dev, (h_test, (h_bench, (h_doc, tt))))))))))))))))))
+    gives_some {P = profiles_way.asks} _ (h_custom, (h_release, (h_dev, (h_test, (h_bench, (h_doc, tt))))))))))))))))))
 
-lint_asked : (b : Bool) (l : LintMeaning) → EachValue Floatless l.config → MatchBool b (Unit {0}) (table_lint_way.asks l)
+lint_asked : (b : Bool) (l : LintMeaning) → EachValue Floatless l.config → AsksOf (lint_part b l)
 lint_asked true l config = tt
-lint_asked false l config = map_before free_way Floatless (λ x h. h) l.config _ config tt
-
-lint_holds : (l : LintMeaning) → EachValue Floatless l.config → Gives lint_way.asks (Some l)
-lint_holds l config = gives_some {P = lint_way.asks} l (lint_asked (is_level_alone l) l config)
+lint_asked false l config = (config, tt)
 
 lint_members : (ms : Members) → MembersFloatless ms → Gives lint_way.asks (table_lint ms)
 lint_members ms h =
     let config : Gives (EachValue Floatless) (others_read lint_keys (λ d. Some d) ms) = others_reads {P = Floatless} lint_keys (λ d. Some d) tree_reads ms h in
-    search (bind, skip, lint_holds) depth 30
+    search (bind, skip, gives_some {P = lint_way.asks}, lint_asked) depth 30
 
 lint_read : Reads lint_way.asks lint_of
 lint_read (table ms) h = lint_members ms h
@@ -342,14 +284,12 @@ unfolding package_reads
 package_read d h = table_reads (package_of_table any_tree) package_members d h
 
 abbrev pub as_asked : Asked Data
-as_asked = record {
+as_asked = record nothing_asked {
   metadata = Floatless;
   «package» = (package_way free_way).asks;
-  template = λ t. Unit {0};
   dependency = dependency_way.asks;
   lint = lint_way.asks;
   profiles = profiles_way.asks;
-  features = λ fs. Unit {0};
 }
 
 pub asked_leaves : Leaves as_asked any_tree
@@ -360,7 +300,7 @@ asked_leaves = record {
   dependency = dependency_read;
   lint = lint_read;
   profiles = λ d h. table_reads profiles_of profiles_members d h;
-  no_profile = (tt, (tt, (tt, (tt, (tt, tt)))));
+  no_profile = (no_entries profile_way.asks, (tt, (tt, (tt, (tt, (tt, tt))))));
   features = λ o. anything _;
 }
 
@@ -385,9 +325,6 @@ optional_told : {X : Type 0} (P : X → Type 0) (reads : Data → Option X) → 
 optional_told P reads h1 h2 = grind (arith, gives_some, mapped)
 
 -- what is collected has other keys than those that are known
-abbrev AreOthers : {X : Type 0} → List (List ℕ) → List (List ℕ × X) → Type 0
-AreOthers {X = X} names es = AllByRecursion (λ (e : List ℕ × X). is_among names e.0 ≡ false) es
-
 abbrev EachKey : {X : Type 0} → List (List ℕ) → List (List ℕ × X) → Type 0
 EachKey {X = X} names es = All (λ (e : List ℕ × X). is_among names e.0 ≡ false) es
 
@@ -466,7 +403,7 @@ stays x h1 h2 = grind (arith, same_at)
 abbrev Written : Type 0
 Written = List (List ℕ × (List (List ℕ) × Detail))
 
-abbrev AreNamed : List (List ℕ) → List (List ℕ × Detail) → Type 0
+abbrev pub AreNamed : List (List ℕ) → List (List ℕ × Detail) → Type 0
 AreNamed names es = AllByRecursion (λ e. IsTrue (is_among names e.0)) es
 
 more : (b c : Bool) → IsTrue c → IsTrue (cond b true c)
@@ -483,7 +420,7 @@ named : (fs : Written) → AreNamed (keys_of (lists_of fs)) (details_of fs)
 named [] = tt
 named (f ∷ fs) = named_first (not (is_plain f.1.1)) f.0 f.1.1 (keys_of (lists_of fs)) (details_of fs) (named fs)
 
-abbrev AreSaid : List (List ℕ × Detail) → Type 0
+abbrev pub AreSaid : List (List ℕ × Detail) → Type 0
 AreSaid es = AllByRecursion (λ e. is_plain e.1 ≡ false) es
 
 said_first : (b : Bool) (name : List ℕ) (d : Detail) (es : List (List ℕ × Detail)) → is_plain d ≡ b → AreSaid es → AreSaid (cond (not b) ((name, d) ∷ es) es)
@@ -585,15 +522,7 @@ ruled_twice b p h1 = grind (arith, and_false)
 module _ {M : Type 0} where
   -- what holds of a manifest that was read
   abbrev pub kept : Asked M
-  kept = record {
-    metadata = λ x. Unit {0};
-    «package» = λ p. by_zero_rule p ≡ p;
-    template = λ t. Unit {0};
-    dependency = ToldAgain;
-    lint = λ l. Unit {0};
-    profiles = λ p. Unit {0};
-    features = λ fs. Unit {0};
-  }
+  kept = record nothing_asked { «package» = λ p. by_zero_rule p ≡ p; dependency = ToldAgain }
 
   pub kept_leaves : (metadata_of : Data → Option M) → Leaves kept metadata_of
   kept_leaves metadata_of = record {
@@ -631,44 +560,35 @@ abbrev ◌also◌ : {A B : Type 0} → A → B → A × B
 a also b = (a, b)
 
 -- a manifest of which each part is as asked is as asked
-abbrev ItsDependency : DependencyMeaning → Type 0
-ItsDependency = dependency_way.asks
+abbrev Its : DependencyMeaning → Type 0
+Its = dependency_way.asks
 
-entries : (es : List (List ℕ × DependencyMeaning)) → EachValue ItsDependency es → dependencies_way.asks es
-entries es h = map_asked dependency_way ItsDependency (λ x h. h) es h
-
-given_entries : (es : List (List ℕ × DependencyMeaning)) → EachValue ItsDependency es → IfSome (unless (is_nil es) es) dependencies_way.asks
-given_entries es h = unless_asked dependencies_way.asks (is_nil es) es (entries es h)
-
-target : (t : TargetMeaning) → TargetMeets ItsDependency t → target_way.asks t
-target t h = (entries t.dependencies h.dependencies, (entries t.dev_dependencies h.dev_dependencies, (entries t.build_dependencies h.build_dependencies, tt)))
-
-lints : (ls : List (List ℕ × LintMeaning)) → EachValue lint_way.asks ls → (map_way lint_way).asks ls
-lints ls h = map_asked lint_way lint_way.asks (λ x h. h) ls h
-
-groups : (gs : LintsByTool) → EachValue (EachValue lint_way.asks) gs → lint_groups_way.asks gs
-groups gs h = map_asked (map_way lint_way) (EachValue lint_way.asks) lints gs h
+targets : (ts : List (List ℕ × TargetMeaning)) → AllByRecursion (λ (e : List ℕ × TargetMeaning). TargetMeets Its e.1) ts → AllByRecursion (λ (e : List ℕ × TargetMeaning). target_way.asks e.1) ts
+targets [] all = tt
+targets (t ∷ ts) all = ((all.0.dependencies, (all.0.dev_dependencies, (all.0.build_dependencies, tt))), targets ts all.1)
 
 either_groups : (gs : Inheritable LintsByTool) → IfSet (EachValue (EachValue lint_way.asks)) gs → (inheritable_way lint_groups_way).asks gs
-either_groups (Set gs) h = groups gs h
+either_groups (Set gs) h = h
 either_groups Inherited h = tt
 
 workspace : (o : Option (WorkspaceMeaning Data)) → IfSome o (WorkspaceMeets as_asked) → IfSome o (workspace_way free_way).asks
 workspace None h = tt
-workspace (Some w) h = (h.metadata, (given_entries w.dependencies h.dependencies, (unless_asked lint_groups_way.asks (is_nil w.lints) w.lints (groups w.lints h.lints), tt)))
+workspace (Some w) h = (h.metadata, (unless_asked (EachValue Its) (is_nil w.dependencies) w.dependencies h.dependencies, (unless_asked lint_groups_way.asks (is_nil w.lints) w.lints h.lints, tt)))
+
+given_entries : (es : List (List ℕ × DependencyMeaning)) → EachValue Its es → IfSome (unless (is_nil es) es) dependencies_way.asks
+given_entries es h = unless_asked dependencies_way.asks (is_nil es) es h
 
 whole : (m : ManifestMeaning Data) → ManifestMeets as_asked m → (manifest_way free_way).asks m
 whole m h =
-    let targets = map_asked target_way (TargetMeets ItsDependency) target m.target h.target in
-    let patches = map_asked dependencies_way (EachValue ItsDependency) entries m.patch h.patch in
+    let each = All-from_recursion (λ (e : List ℕ × TargetMeaning). target_way.asks e.1) m.target (targets m.target (recursion_from_All (λ (e : List ℕ × TargetMeaning). TargetMeets Its e.1) m.target h.target)) in
     h.«package»
     also workspace m.workspace h.workspace
     also given_entries m.dependencies h.dependencies
     also given_entries m.dev_dependencies h.dev_dependencies
     also given_entries m.build_dependencies h.build_dependencies
-    also unless_asked (map_way target_way).asks (is_nil m.target) m.target targets
+    also unless_asked (map_way target_way).asks (is_nil m.target) m.target each
     also given_entries m.replace h.replace
-    also unless_asked (map_way dependencies_way).asks (is_nil m.patch) m.patch patches
+    also unless_asked (map_way dependencies_way).asks (is_nil m.patch) m.patch h.patch
     also unless_asked profiles_way.asks (has_no_profile m.profile) m.profile h.profile
     also unless_asked (inheritable_way lint_groups_way).asks (is_set_and is_nil m.lints) m.lints (either_groups m.lints h.lints)
     also tt

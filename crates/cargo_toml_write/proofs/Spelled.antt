@@ -1,26 +1,16 @@
 -- What the reader of `semver` reads as a requirement is read again from its own text.
-use Rattle.std.proofs.Common.{◌≡◌, ◌<◌, ◌≤◌, ◌^◌, ◌==◌, ℕ, zero, suc, List, [], ◌∷◌, length, Option, Some, None, Result, Ok, Bool, true, false, not, refl, sym, ◌∙◌, subst, arith, inl, inr, ◌&&◌, ◌||◌, ◌++◌, ◌+◌, ap, append_assoc, append-nil}
-use Rattle.std.specs.Prelude.{◌⊎◌, if◌then◌else◌}
-use Rattle.std.specs.List.{list_all}
-use Rattle.std.proofs.lemmas.Bool.{cases_Bool, eq-eqb}
-use Rattle.std.specs.Char.{is_ascii_digit}
-use Rattle.std.specs.Fmt.{decimal}
-use Rattle.std.proofs.lemmas.List.{drop_at, take_at}
-use Rattle.semver.specs.Grammar.{is_pre_identifier, is_pre_release}
-use Rattle.semver.specs.Order.{parts}
-use Rattle.semver.specs.Parse.{◌>>=◌, Held, Minor, Parsed, Patch, comparator_in, comparator_of, comparator_or, first_or_equal, build_part, has, minor_of, minor_part, next_text, numeric, op_of, patch_number, patch_of, patch_part, pre_part, req_after, req_from, req_next, req_of, strip_spaces, wild_req, wildcard_of, identifier_of, digits_from, identifier_len, prepend, scan}
-use Rattle.semver.specs.declared.error.Error.{Error}
-use Rattle.semver.specs.declared.error.Position.{Position}
-use Rattle.semver.specs.declared.error.Position.TheVariants as place
-use Rattle.semver.specs.declared.Op.{Op}
-use Rattle.semver.specs.declared.Op.TheVariants.{Wildcard, Caret}
-use Rattle.semver.proofs.Grammar.{bind-ok, identifier-ok}
-use Rattle.semver.proofs.Numerals.{numeric-text, ok-value, numeric-of_text, starts_digit}
-use Rattle.semver.proofs.Requirements.{held, req-end, req-more}
-use Rattle.semver.proofs.Segments.{and-left, and-right, good, not_zero, scan-all, stops}
-use Rattle.semver.specs.Identifiers.{marked}
-use Rattle.semver.specs.OrderLaws.{join-parts, join_dots, parts-shape}
+use Rattle.std.proofs.Common.{◌≡◌, ◌<◌, ◌≤◌, ◌^◌, ◌==◌, ℕ, zero, suc, List, [], ◌∷◌, length, Option, Some, None, Result, Ok, Bool, true, false, not, refl, sym, ◌∙◌, subst, arith, inl, inr, ◌&&◌, ◌||◌, ◌++◌, ◌+◌, ap, append_assoc}
+use Rattle.std.proofs.Common.{append-nil}
+use Rattle.std.proofs.{lemmas.Bool.cases_Bool, lemmas.Bool.eq-eqb, lemmas.List.drop_at, lemmas.List.take_at}
+use Rattle.std.specs.{Prelude.◌⊎◌, Prelude.if◌then◌else◌, List.list_all, Char.is_ascii_digit, Fmt.decimal}
+use Rattle.semver.specs.Parse.{◌>>=◌, Held, Minor, Parsed, Patch, comparator_in, comparator_of, comparator_or, first_or_equal, build_part, has, minor_of, minor_part, next_text, numeric, op_of, patch_number, patch_of, patch_part, pre_part}
+use Rattle.semver.specs.Parse.{req_after, req_from, req_next, req_of, strip_spaces, wild_req, wildcard_of, identifier_of, digits_from, identifier_len, prepend, scan}
+use Rattle.semver.specs.{Grammar.is_pre_identifier, Grammar.is_pre_release, Order.parts, declared.error.Error.Error, declared.error.Position.Position, declared.Op.Op, declared.Op.TheVariants.Wildcard, declared.Op.TheVariants.Caret}
+use Rattle.semver.specs.{Identifiers.marked, OrderLaws.join-parts, OrderLaws.join_dots, OrderLaws.parts-shape}
+use Rattle.semver.proofs.{Grammar.bind-ok, Grammar.identifier-ok, Numerals.numeric-text, Numerals.ok-value, Numerals.numeric-of_text, Numerals.starts_digit, Requirements.held, Requirements.req-end, Requirements.req-more, Segments.and-left}
+use Rattle.semver.proofs.Segments.{and-right, good, not_zero, scan-all, stops}
 use Rattle.cargo_toml_write.specs.Requirements.{after_major, comparator_text, requirement_text, sign_of, star_of}
+use Rattle.semver.specs.declared.error.Position.TheVariants as place
 
 -- what is read are comparators that a text can say
 abbrev pub is_wildcard : Op → Bool
@@ -101,22 +91,18 @@ patch_of-ok : (default : Bool) (o : Op) (wild : Bool) (pos : Position) (text : L
 patch_of-ok default o wild pos text p h1 = grind (arith, ok-value, patch_number-ok)
 
 -- what was read of the pre-release. The kit keeps these three to its own proofs.
-good-pre : (p : List ℕ) → good place.Pre p ≡ is_pre_identifier p
-good-pre p = grind arith
+good-at : (p : List ℕ) → good place.Pre p ≡ is_pre_identifier p
+good-at p = grind arith
 
-pub all-same : (f g : List ℕ → Bool) (xs : List (List ℕ)) → ((x : List ℕ) → f x ≡ g x) → list_all f xs ≡ true → list_all g xs ≡ true
-all-same f g [] same h = refl
-all-same f g (x ∷ rest) same h =
-    let first : g x ≡ true = sym (same x) ∙ and-left (f x) (list_all f rest) h in
-    let others : list_all g rest ≡ true = all-same f g rest same (and-right (f x) (list_all f rest) h) in
-    rw (first, others) refl
+good-pre : good place.Pre ≡ is_pre_identifier
+good-pre = λ d p. good-at p d
 
 pre-good : (id : List ℕ) → list_all (good place.Pre) (parts id) ≡ true → is_pre_release id ≡ true
 pre-good [] h = refl
-pre-good (x ∷ rest) h = all-same (good place.Pre) is_pre_identifier (parts (x ∷ rest)) good-pre h
+pre-good (x ∷ rest) h = subst (λ (f : List ℕ → Bool). list_all f (parts (x ∷ rest)) ≡ true) good-pre h
 
-pub good-of_pre : (x : ℕ) (rest : List ℕ) → is_pre_release (x ∷ rest) ≡ true → list_all (good place.Pre) (parts (x ∷ rest)) ≡ true
-good-of_pre x rest h = all-same is_pre_identifier (good place.Pre) (parts (x ∷ rest)) (λ p. sym (good-pre p)) h
+good-of_pre : (x : ℕ) (rest : List ℕ) → is_pre_release (x ∷ rest) ≡ true → list_all (good place.Pre) (parts (x ∷ rest)) ≡ true
+good-of_pre x rest h = subst (λ (f : List ℕ → Bool). list_all f (parts (x ∷ rest)) ≡ true) (sym good-pre) h
 
 abbrev PreIs : Bool → List ℕ → Type 0
 PreIs true pre = is_pre_release pre ≡ true
@@ -233,16 +219,30 @@ decimal-starts n rest fits =
     let alone = read-starts (decimal n ++ []) (n, []) (numeric-of_text place.Major n [] fits refl) in
     starts-before (decimal n) rest (rw append-nil at alone)
 
--- what such a text is read as before the number
-digit-strip : (text : List ℕ) → starts_digit text ≡ true → strip_spaces text ≡ text
+-- a text whose front is neither a space nor a wildcard
+abbrev is_front : List ℕ → Bool
+is_front [] = false
+is_front (b ∷ rest) = not (b == 32) && not (b == 42 || b == 120 || b == 88)
+
+digit-front : (o : Op) (text : List ℕ) → starts_digit text ≡ true → is_front (sign_of o ++ text) ≡ true
+digit-front o text h1 = grind arith
+
+front-strip : (text : List ℕ) → is_front text ≡ true → strip_spaces text ≡ text
 unfolding strip_spaces
-digit-strip [] h = refl
-digit-strip (b ∷ rest) h =
+front-strip [] h = refl
+front-strip (b ∷ rest) h =
     let e : (b == 32) ≡ false = grind arith in
     rw e refl
 
+front-wild : (text : List ℕ) → is_front text ≡ true → wildcard_of text ≡ None
+front-wild text h1 = grind arith
+
+-- what such a text is read as before the number
+digit-strip : (text : List ℕ) → starts_digit text ≡ true → strip_spaces text ≡ text
+digit-strip text h = front-strip text (digit-front Wildcard text h)
+
 digit-wild : (text : List ℕ) → starts_digit text ≡ true → wildcard_of text ≡ None
-digit-wild text h1 = grind arith
+digit-wild text h = front-wild text (digit-front Wildcard text h)
 
 -- the operator that is read where this one is written
 abbrev read_op : Op → Op
@@ -318,9 +318,6 @@ unfolding strip_spaces
 minor_end default o major minor next = grind arith
 
 -- the same reading, by another text
-same-text : (f : List ℕ → Result Parsed Error) (s t : List ℕ) (c : Held) (next : Option (List ℕ)) → s ≡ t → Reads (f t) c next → Reads (f s) c next
-same-text f s t c next e h = subst (λ (z : List ℕ). Reads (f z) c next) (sym e) h
-
 same-read : (r s : Result Parsed Error) (c : Held) (next : Option (List ℕ)) → r ≡ s → Reads s c next → Reads r c next
 same-read r s c next e h = subst (λ (z : Result Parsed Error). Reads z c next) (sym e) h
 
@@ -332,7 +329,7 @@ plain-again default o major None (Some y) pre next s = absurd s
 plain-again default o major (Some x) None pre next s =
     let text : 46 ∷ ((decimal x ++ []) ++ after next) ≡ 46 ∷ (decimal x ++ after next) = rw append-nil refl in
     let whole = same-read _ _ _ next (bind-on _ _ _ (minor-again default o x (after next) s.0 (after-no_digit next))) (minor_end default o major x next) in
-    let said = same-text (from_major default o major) _ _ _ next text whole in
+    let said = same-read _ _ _ next (ap (from_major default o major) text) whole in
     subst (λ (z : List ℕ). Reads (from_major default o major (46 ∷ ((decimal x ++ []) ++ after next))) (o, major, Some x, None, z) next) (sym s.1) said
 plain-again default o major (Some x) (Some y) pre next s =
     let tail = marked 45 pre ++ after next in
@@ -340,7 +337,7 @@ plain-again default o major (Some x) (Some y) pre next s =
     = ap (λ (l : List ℕ). 46 ∷ l) (append_assoc (decimal x) _ _ ∙ ap (λ (l : List ℕ). decimal x ++ (46 ∷ l)) (append_assoc (decimal y) _ _)) in
     let minor = bind-on _ _ (from_minor default major) (minor-again default o x (46 ∷ (decimal y ++ tail)) s.0 refl) in
     let patch = bind-on _ _ (from_patch major (Some x)) (patch-again default o place.Minor y tail s.1 (no-digit pre next)) in
-    same-text (from_major default o major) _ _ _ next text (same-read _ _ _ next (minor ∙ patch) (pre-again o major x y pre next s.2))
+    same-read _ _ _ next (ap (from_major default o major) text) (same-read _ _ _ next (minor ∙ patch) (pre-again o major x y pre next s.2))
 
 -- a wildcard
 star-again : (major : ℕ) (next : Option (List ℕ)) → Reads (from_major true Caret major (46 ∷ 42 ∷ after next)) (Wildcard, major, None, None, []) next
@@ -360,7 +357,7 @@ wild-again major None (Some y) pre next s = absurd s
 wild-again major (Some x) None pre next s =
     let text : 46 ∷ ((decimal x ++ (46 ∷ 42 ∷ [])) ++ after next) ≡ 46 ∷ (decimal x ++ (46 ∷ 42 ∷ after next)) = rw append_assoc refl in
     let whole = same-read _ _ _ next (bind-on _ _ _ (minor-again true Caret x (46 ∷ 42 ∷ after next) s.0 refl)) (star_end major x next) in
-    let said = same-text (from_major true Caret major) _ _ _ next text whole in
+    let said = same-read _ _ _ next (ap (from_major true Caret major) text) whole in
     subst (λ (z : List ℕ). Reads (from_major true Caret major (46 ∷ ((decimal x ++ (46 ∷ 42 ∷ [])) ++ after next))) (Wildcard, major, Some x, None, z) next) (sym s.1) said
 wild-again major (Some x) (Some y) pre next s = let w = s.3 in absurd cc
 
@@ -395,24 +392,7 @@ comparator-again c next s =
     same-read _ _ c next (numbered (comparator_text c ++ after next) (read_op c.0) body c.1 rest op (digit-strip body starts) major)
     (rest-again c.0 (comparator_text c ++ after next) body c.1 c.2 c.3 c.4 next text s.1)
 
--- the front of a comparator's text is neither a space nor a wildcard
-abbrev is_front : List ℕ → Bool
-is_front [] = false
-is_front (b ∷ rest) = not (b == 32) && not (b == 42 || b == 120 || b == 88)
-
-digit-front : (o : Op) (text : List ℕ) → starts_digit text ≡ true → is_front (sign_of o ++ text) ≡ true
-digit-front o text h1 = grind arith
-
-front-strip : (text : List ℕ) → is_front text ≡ true → strip_spaces text ≡ text
-unfolding strip_spaces
-front-strip [] h = refl
-front-strip (b ∷ rest) h =
-    let e : (b == 32) ≡ false = grind arith in
-    rw e refl
-
-front-wild : (text : List ℕ) → is_front text ≡ true → wildcard_of text ≡ None
-front-wild text h1 = grind arith
-
+-- the front of a comparator's text
 text-front : (c : Held) (more : List ℕ) → c.1 < 2 ^ 64 → is_front (comparator_text c ++ more) ≡ true
 text-front c more fits =
     let text : comparator_text c ++ more ≡ sign_of c.0 ++ (decimal c.1 ++ (after_major (star_of c.0) c.2 c.3 c.4 ++ more))

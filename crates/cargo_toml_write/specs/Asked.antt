@@ -1,15 +1,15 @@
 -- What is asked of a manifest, part by part, wherever the part stands.
 use Rattle.std.specs.Prelude.{ℕ, List, Option, IfSome, All}
-use Rattle.cargo_toml_dependencies.specs.Dependencies.{DependencyMeaning}
-use Rattle.cargo_toml_dependencies.specs.Features.{FeaturesMeaning}
-use Rattle.cargo_toml_dependencies.specs.Targets.{TargetMeaning}
+use Rattle.cargo_toml_package.specs.Dependencies.{DependencyMeaning}
+use Rattle.cargo_toml_package.specs.Features.{FeaturesMeaning}
+use Rattle.cargo_toml_package.specs.Targets.{TargetMeaning}
 use Rattle.cargo_toml_manifest.specs.Manifests.{ManifestMeaning}
 use Rattle.cargo_toml_package.specs.Packages.{PackageMeaning}
 use Rattle.cargo_toml_package.specs.Templates.{TemplateMeaning}
 use Rattle.cargo_toml_parts.specs.declared.inheritable.Inheritable.{Inheritable}
 use Rattle.cargo_toml_parts.specs.declared.inheritable.Inheritable.TheVariants.{Set, Inherited}
-use Rattle.cargo_toml_tables.specs.Lints.{LintMeaning}
-use Rattle.cargo_toml_tables.specs.Profiles.{ProfilesMeaning}
+use Rattle.cargo_toml_parts.specs.Lints.{LintMeaning}
+use Rattle.cargo_toml_parts.specs.Profiles.{ProfilesMeaning}
 use Rattle.cargo_toml_package.specs.Workspaces.{WorkspaceMeaning}
 
 -- each value of a map, and a value that a workspace may give
@@ -29,6 +29,18 @@ pub record Asked (M : Type 0) : Type 1 where
   pub lint : LintMeaning → Type 0
   pub profiles : ProfilesMeaning → Type 0
   pub features : FeaturesMeaning → Type 0
+
+-- nothing is asked
+abbrev pub nothing_asked : {M : Type 0} → Asked M
+nothing_asked = record {
+  metadata = λ x. Unit {0};
+  «package» = λ p. Unit {0};
+  template = λ t. Unit {0};
+  dependency = λ d. Unit {0};
+  lint = λ l. Unit {0};
+  profiles = λ p. Unit {0};
+  features = λ fs. Unit {0};
+}
 
 -- each dependency of a target, each part of a workspace, and each of a manifest is such
 pub record TargetMeets (Dependency : DependencyMeaning → Type 0) (t : TargetMeaning) : Type 0 where

@@ -2,30 +2,23 @@
 use Rattle.std.specs.Prelude.{[], ◌∷◌, codes, true, false, Some}
 use Rattle.toml.specs.Data.{Data, string, boolean, array, table}
 use Rattle.toml.specs.Data.{no_items, item, Members, no_members, member}
-use Rattle.cargo_toml_dependencies.specs.Dependencies.{DetailMeaning, DependencyMeaning, detailed}
-use Rattle.cargo_toml_dependencies.specs.Dependencies.{no_detail}
-use Rattle.cargo_toml_tables.specs.declared.settings.Edition.TheVariants.{E2021}
-use Rattle.cargo_toml_tables.specs.Products.{ProductMeaning, no_product}
+use Rattle.cargo_toml_package.specs.Dependencies.{DependencyMeaning, detailed, no_detail}
+use Rattle.cargo_toml_parts.specs.declared.settings.Edition.TheVariants.{E2021}
+use Rattle.cargo_toml_parts.specs.Products.{ProductMeaning, no_product}
 
 -- an optional dependency of a path, with one feature
-abbrev pub path_detail : DetailMeaning
-path_detail = record no_detail {
+abbrev pub path_dependency : DependencyMeaning
+path_dependency = detailed (record no_detail {
   path = Some (codes "../log");
   features = codes "std" ∷ [];
   optional = true;
-}
-
-abbrev pub path_dependency : DependencyMeaning
-path_dependency = detailed path_detail
-
-abbrev pub path_dependency_members : Members
-path_dependency_members =
-    member (codes "features") (array (item (string (codes "std")) no_items))
-    (member (codes "optional") (boolean true)
-    (member (codes "path") (string (codes "../log")) no_members))
+})
 
 abbrev pub path_dependency_tree : Data
-path_dependency_tree = table path_dependency_members
+path_dependency_tree =
+    table (member (codes "features") (array (item (string (codes "std")) no_items))
+    (member (codes "optional") (boolean true)
+    (member (codes "path") (string (codes "../log")) no_members)))
 
 -- a binary that is not tested
 abbrev pub untested_binary : ProductMeaning
@@ -35,15 +28,12 @@ untested_binary = record no_product {
   edition = Some E2021;
 }
 
-abbrev pub untested_binary_members : Members
-untested_binary_members =
-    member (codes "edition") (string (codes "2021"))
+abbrev pub untested_binary_tree : Data
+untested_binary_tree =
+    table (member (codes "edition") (string (codes "2021"))
     (member (codes "name") (string (codes "tool"))
     (member (codes "required-features") (array no_items)
-    (member (codes "test") (boolean false) no_members)))
-
-abbrev pub untested_binary_tree : Data
-untested_binary_tree = table untested_binary_members
+    (member (codes "test") (boolean false) no_members))))
 
 -- the keys of a package of which only the name is said
 abbrev pub only_name : Members

@@ -6,11 +6,9 @@ pub mod Asked
 pub mod WrittenDependencies
 pub mod WrittenManifests
 pub mod WrittenPackages
-pub mod WrittenSettings
 pub mod WrittenTables
 pub mod Reread
 -- why each way is lawful, the code's own steps, and worked examples: nothing here has to be
 -- believed
 pub mod Lawful
-pub mod Pairs
 pub mod Examples

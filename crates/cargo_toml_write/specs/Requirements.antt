@@ -19,14 +19,8 @@ sign_of Caret = codes "^"
 sign_of Wildcard = []
 
 abbrev pub star_of : Op → List ℕ
-star_of Exact = []
-star_of Greater = []
-star_of GreaterEq = []
-star_of Less = []
-star_of LessEq = []
-star_of Tilde = []
-star_of Caret = []
 star_of Wildcard = codes ".*"
+star_of _ = []
 
 -- what follows the first number, and the second
 abbrev pub after_minor : List ℕ → Option ℕ → List ℕ → List ℕ

@@ -1,14 +1,14 @@
 -- What is read of what was written of a manifest, and of which manifests that is said.
 use Rattle.std.specs.Prelude.{◌≡◌, ℕ, List, map, true, false, if◌then◌else◌, IfSome, option_map}
-use Rattle.cargo_toml_dependencies.specs.Dependencies.{DependencyMeaning, no_detail}
-use Rattle.cargo_toml_dependencies.specs.Dependencies as kind
-use Rattle.cargo_toml_dependencies.specs.Targets.{TargetMeaning}
+use Rattle.cargo_toml_package.specs.Dependencies.{DependencyMeaning, no_detail}
+use Rattle.cargo_toml_package.specs.Dependencies as kind
+use Rattle.cargo_toml_package.specs.Targets.{TargetMeaning}
 use Rattle.cargo_toml_manifest.specs.Choosing.{Choice}
 use Rattle.cargo_toml_manifest.specs.Choosing as choice
 use Rattle.cargo_toml_manifest.specs.Manifests.{ManifestMeaning, by_zero_rule}
 use Rattle.cargo_toml_package.specs.Sharing.{Shared}
 use Rattle.cargo_toml_package.specs.Workspaces.{WorkspaceMeaning}
-use Rattle.cargo_toml_write.specs.Asked.{Asked, EachValue, ManifestMeets}
+use Rattle.cargo_toml_write.specs.Asked.{Asked, EachValue, ManifestMeets, nothing_asked}
 use Rattle.cargo_toml_write.specs.WrittenDependencies.{DependencyAgain, AreTold}
 use Rattle.cargo_toml_write.specs.WrittenPackages.{TemplateAgain, VersionAgain}
 use Rattle.cargo_toml_write.specs.WrittenTables.{AreApart, IsApart}
@@ -52,8 +52,7 @@ reread m = record m {
 
 -- versions and requirements are such as texts say, and no key was collected that is known
 abbrev pub told : {M : Type 0} → Asked M
-told = record {
-  metadata = λ x. Unit {0};
+told = record nothing_asked {
   «package» = λ p. VersionAgain p.version;
   template = λ t. IfSome t TemplateAgain;
   dependency = λ d. DependencyAgain (reread_dependency d);
@@ -71,15 +70,7 @@ SaysTrue (kind.inherited i) = i.workspace ≡ true
 SaysTrue other = Unit {0}
 
 abbrev pub says_true : {M : Type 0} → Asked M
-says_true = record {
-  metadata = λ x. Unit {0};
-  «package» = λ p. Unit {0};
-  template = λ t. Unit {0};
-  dependency = SaysTrue;
-  lint = λ l. Unit {0};
-  profiles = λ p. Unit {0};
-  features = λ fs. Unit {0};
-}
+says_true = record nothing_asked { dependency = SaysTrue }
 
 -- what a workspace gives to its members is told
 pub record SharedIsTold (w : Shared) : Type 0 where

@@ -1,14 +1,20 @@
--- What a writer answers, and how a table is written key by key.
-use Rattle.std.specs.Prelude.{◌≡◌, ◌⊎◌, ℕ, List, [], ◌∷◌, Bool, true, false}
-use Rattle.std.specs.Prelude.{IsTrue, Result, Ok, Err, IfOk, Option, Some, None, IfSome, MatchBool}
-use Rattle.std.specs.Cmp.Lexicographic.{slice_cmp}
-use Rattle.std.specs.Ordering.{nat_cmp, match_ordering}
-use Rattle.toml.specs.Data.{Data, table, Members, no_members, member}
+-- What a writer answers, and how lists, maps and tables are written part by part.
+use Rattle.std.specs.Prelude.{◌≡◌, ◌⊎◌, ℕ, List, [], ◌∷◌, map, Bool, true, false, IsTrue, Result}
+use Rattle.std.specs.Prelude.{Ok, Err, IfOk, Option, Some, None, IfSome, MatchBool}
+use Rattle.std.specs.{Cmp.Lexicographic.slice_cmp, Ordering.nat_cmp, Ordering.match_ordering}
+use Rattle.toml.specs.Data.{Data, Items, no_items, item, table, Members, no_members, member}
 use Rattle.toml.specs.View.{view, table_view}
 use Rattle.toml.specs.declared.value.Value.{Value}
 use Rattle.cargo_toml_parts.specs.declared.error.Error.{Error, Memory}
 use Rattle.cargo_toml_parts.specs.Floats.{has_no_float, without_floats}
 use Rattle.cargo_toml_write.specs.declared.write.writing.Writing.{Writing}
+
+-- no tree holds a float, and a value has one only if it is as asked; then it is never refused
+pub record AreLawful (trees : Data → Type 0) (asks : Type 0)
+    (refuses : Error → Type 0) : Type 0 where
+  pub floatless : (d : Data) → trees d → IsTrue (has_no_float d)
+  pub only : (d : Data) → trees d → asks
+  pub never : asks → (e : Error) → ¬ (refuses e)
 
 -- how what values hold is written: the trees of each, and the faults of one that has no tree; which
 -- value is left out of a table, since a missing key stands for it; and what is asked of a value so
@@ -19,6 +25,8 @@ pub record Way (X : Type 0) : Type 1 where
   pub left_out : X → Bool
   pub asks : X → Type 0
   pub asks_nothing : Bool
+  pub lawful : (x : X) → AreLawful (trees x) (asks x) (refuses x)
+  pub nothing : IsTrue asks_nothing → (x : X) → asks x
 
 abbrev pub never_left_out : {X : Type 0} → X → Bool
 never_left_out x = false
@@ -27,33 +35,34 @@ never_left_out x = false
 abbrev pub Refuses : {X : Type 0} → Way X → X → Error → Type 0
 Refuses way x e = ((d : Data) → ¬ (way.trees x d)) × way.refuses x e
 
--- no tree holds a float, and a value has one only if it is as asked; then it is never refused
-pub record AreLawful (trees : Data → Type 0) (asks : Type 0)
-    (refuses : Error → Type 0) : Type 0 where
-  pub floatless : (d : Data) → trees d → IsTrue (has_no_float d)
-  pub only : (d : Data) → trees d → asks
-  pub never : asks → (e : Error) → ¬ (refuses e)
-
-abbrev pub IsLawfulAt : {X : Type 0} → Way X → X → Type 0
-IsLawfulAt way x = AreLawful (way.trees x) (way.asks x) (way.refuses x)
-
-pub record IsLawful {X : Type 0} (way : Way X) : Type 0 where
-  pub each : (x : X) → IsLawfulAt way x
-  pub nothing : IsTrue way.asks_nothing → (x : X) → way.asks x
-
 -- the answer is a tree of what is held; where there is none, it is a fault that says why; or
 -- there was no memory
 abbrev pub IsWriting : {X : Type 0} → Way X → X → Result Value Error → Type 0
 IsWriting way x (Ok v) = way.trees x (view v)
 IsWriting way x (Err e) = (e ≡ Memory) ⊎ Refuses way x e
 
--- a way of which each tree tells something of its value besides, as that the keys of a map ascend
-abbrev pub telling : {X : Type 0} → (X → Type 0) → Way X → Way X
-telling P way = record way { trees = λ x d. P x × way.trees x d }
-
 -- the public reader, which refuses a float at any depth, reads the tree again as what was held
 abbrev pub IsReadAgain : {M : Type 0} → (Data → Option M) → M → Result Value Error → Type 0
 IsReadAgain reads m answer = IfOk answer (λ v. without_floats reads (view v) ≡ Some m)
+
+-- a tree for each element of a list, and the fault of one that has none
+abbrev pub AreItems : {X : Type 0} → Way X → List X → Items → Type 0
+AreItems way [] no_items = Unit {0}
+AreItems way (x ∷ xs) (item d ds) = way.trees x d × AreItems way xs ds
+AreItems way _ _ = ⊥
+
+abbrev pub ItemsRefused : {X : Type 0} → Way X → List X → Error → Type 0
+ItemsRefused way [] e = ⊥
+ItemsRefused way (x ∷ xs) e = way.refuses x e ⊎ ItemsRefused way xs e
+
+-- the same of a map: a member for each entry, in their order
+abbrev pub AreEntries : {X : Type 0} → Way X → List (List ℕ × X) → Members → Type 0
+AreEntries way [] no_members = Unit {0}
+AreEntries way (e ∷ es) (member k d ms) = (k ≡ e.0) × way.trees e.1 d × AreEntries way es ms
+AreEntries way _ _ = ⊥
+
+abbrev pub EntriesRefused : {X : Type 0} → Way X → List (List ℕ × X) → Error → Type 0
+EntriesRefused way es e = ItemsRefused way (map (λ x. x.1) es) e
 
 -- the members, with d at the key k
 abbrev pub put_member : List ℕ → Data → Members → Members
@@ -99,25 +108,16 @@ unless false x = Some x
 abbrev pub given_row : {X : Type 0} → List ℕ → Way X → X → Row
 given_row key way x = optional_row key way (unless (way.left_out x) x)
 
--- what a table holds after a row was written, of which no float comes into it
-abbrev pub RowWritten : Row → Members → Members → Type 0
-RowWritten row old new =
-    (d : Option Data) × IsHeld row.way row.value d × IfSome d (λ tree. IsTrue (has_no_float tree))
-    × (new ≡ put_some row.key d old)
-
--- the same of rows, one after the other
+-- what a table holds after rows were written, one after the other
 abbrev pub AreWritten : List Row → Members → Members → Type 0
 AreWritten [] old new = new ≡ old
-AreWritten (row ∷ rows) old new = (mid : Members) × RowWritten row old mid × AreWritten rows mid new
+AreWritten (row ∷ rows) old new =
+    (d : Option Data) × IsHeld row.way row.value d × AreWritten rows (put_some row.key d old) new
 
 -- the fault of a row for which there is no tree
-abbrev pub RowRefused : Row → Error → Type 0
-RowRefused row e =
-    ((d : Option Data) → ¬ (IsHeld row.way row.value d)) × IsRefused row.way row.value e
-
 abbrev pub AreRefused : List Row → Error → Type 0
 AreRefused [] e = ⊥
-AreRefused (row ∷ rows) e = RowRefused row e ⊎ AreRefused rows e
+AreRefused (row ∷ rows) e = IsRefused row.way row.value e ⊎ AreRefused rows e
 
 -- from the fault and the members before some rows to those after them: a fault stands, and nothing
 -- else is said once there is one
@@ -140,16 +140,3 @@ abbrev pub RowsAsk : List Row → Type 0
 RowsAsk [] = Unit {0}
 RowsAsk (row ∷ rows) =
     MatchBool row.way.asks_nothing (RowsAsk rows) (IfSome row.value row.way.asks × RowsAsk rows)
-
--- a table of rows, and one of rows of which nothing is asked
-abbrev pub table_way : {X : Type 0} → (X → List Row) → Way X
-table_way rows = record {
-  trees = λ x d. (ms : Members) × (d ≡ table ms) × AreWritten (rows x) no_members ms;
-  refuses = λ x e. AreRefused (rows x) e;
-  left_out = never_left_out;
-  asks = λ x. RowsAsk (rows x);
-  asks_nothing = false;
-}
-
-abbrev pub plain_table_way : {X : Type 0} → (X → List Row) → Way X
-plain_table_way rows = record (table_way rows) { asks_nothing = true }

@@ -1,23 +1,22 @@
 -- How dependencies and features are written, and which are read again as they were.
-use Rattle.std.specs.Prelude.{◌≡◌, ℕ, List, [], ◌∷◌, ◌++◌, true, None, All, map, Some}
-use Rattle.std.specs.Prelude.{codes, false, Option, IfSome, option_and_then, if◌then◌else◌, IsTrue}
-use Rattle.std.specs.Map.{keys_of}
-use Rattle.std.specs.Str.{bytes_eq}
+use Rattle.std.specs.Prelude.{◌≡◌, ℕ, List, [], ◌∷◌, true, None, All, map, Some, refl, codes, false}
+use Rattle.std.specs.Prelude.{Option, IfSome, option_and_then, if◌then◌else◌, IsTrue}
+use Rattle.std.specs.{Map.keys_of, Str.bytes_eq}
+use Rattle.std.proofs.lemmas.Bool.{false≢true}
 use Rattle.toml.specs.Data.{Data, as_bool, as_table}
-use Rattle.cargo_toml_dependencies.specs.Dependencies.{InheritedMeaning, DependencyMeaning}
-use Rattle.cargo_toml_dependencies.specs.Dependencies.{DetailMeaning, inherited_of, detail_of_table}
-use Rattle.cargo_toml_dependencies.specs.Dependencies.{detail_keys}
-use Rattle.cargo_toml_dependencies.specs.Dependencies as kind
-use Rattle.cargo_toml_dependencies.specs.Targets.{TargetMeaning}
-use Rattle.cargo_toml_dependencies.specs.Details.{Detail, is_plain}
-use Rattle.cargo_toml_dependencies.specs.Features.{FeaturesMeaning, features_of, no_features}
-use Rattle.cargo_toml_parts.specs.declared.error.Error.{Error}
+use Rattle.cargo_toml_package.specs.Dependencies.{InheritedMeaning, DependencyMeaning}
+use Rattle.cargo_toml_package.specs.Dependencies.{DetailMeaning, inherited_of, detail_of_table}
+use Rattle.cargo_toml_package.specs.Dependencies.{detail_keys}
+use Rattle.cargo_toml_package.specs.Dependencies as kind
+use Rattle.cargo_toml_package.specs.Targets.{TargetMeaning}
+use Rattle.cargo_toml_package.specs.Details.{Detail, is_plain}
+use Rattle.cargo_toml_package.specs.Features.{FeaturesMeaning, features_of, no_features}
 use Rattle.cargo_toml_parts.specs.Reads.{is_among, required_at, given_at}
 use Rattle.cargo_toml_write.specs.Requirements.{CanBeRead}
-use Rattle.cargo_toml_write.specs.Ways.{text_way, Ascend, free_way, flag_row, is_nil}
-use Rattle.cargo_toml_write.specs.Ways.{texts_way, requirement_way, map_way, entry_rows, members_of}
-use Rattle.cargo_toml_write.specs.Writes.{Way, Row, table_way, plain_table_way, telling}
-use Rattle.cargo_toml_write.specs.Writes.{required_row, optional_row, given_row, never_left_out}
+use Rattle.cargo_toml_write.specs.Ways.{Ascend, AsksOf, Part, by_part, flag_row, free_way, is_nil}
+use Rattle.cargo_toml_write.specs.Ways.{map_way, members_of, over_way, part, plain_table_way}
+use Rattle.cargo_toml_write.specs.Ways.{requirement_way, table_way, telling, text_way, texts_way}
+use Rattle.cargo_toml_write.specs.Writes.{Row, Way, given_row, optional_row, required_row}
 
 abbrev pub inherited_rows : InheritedMeaning → List Row
 inherited_rows i =
@@ -27,7 +26,7 @@ inherited_rows i =
     ∷ []
 
 abbrev pub inherited_way : Way InheritedMeaning
-inherited_way = plain_table_way inherited_rows
+inherited_way = plain_table_way inherited_rows (λ i. tt)
 
 -- the keys that a detail knows
 abbrev pub known_rows : DetailMeaning → List Row
@@ -47,35 +46,17 @@ known_rows d =
     ∷ []
 
 -- first the keys that it collected, then those that it knows, which are put over them
-abbrev pub detail_rows : DetailMeaning → List Row
-detail_rows d = entry_rows free_way d.unstable ++ known_rows d
-
 abbrev pub detail_way : Way DetailMeaning
-detail_way = telling (λ d. Ascend (keys_of d.unstable)) (table_way detail_rows)
+detail_way = over_way free_way (λ d. d.unstable) known_rows
 
 -- a requirement, or a table
-abbrev pub DependencyTree : DependencyMeaning → Data → Type 0
-DependencyTree (kind.simple r) d = requirement_way.trees r d
-DependencyTree (kind.inherited i) d = inherited_way.trees i d
-DependencyTree (kind.detailed x) d = detail_way.trees x d
-
-abbrev pub DependencyRefused : DependencyMeaning → Error → Type 0
-DependencyRefused (kind.simple r) e = requirement_way.refuses r e
-DependencyRefused (kind.inherited i) e = inherited_way.refuses i e
-DependencyRefused (kind.detailed x) e = detail_way.refuses x e
-
-abbrev pub DependencyAsks : DependencyMeaning → Type 0
-DependencyAsks (kind.detailed x) = detail_way.asks x
-DependencyAsks other = Unit {0}
+abbrev pub dependency_part : DependencyMeaning → Part
+dependency_part (kind.simple r) = part requirement_way r
+dependency_part (kind.inherited i) = part inherited_way i
+dependency_part (kind.detailed x) = part detail_way x
 
 abbrev pub dependency_way : Way DependencyMeaning
-dependency_way = record {
-  trees = DependencyTree;
-  refuses = DependencyRefused;
-  left_out = never_left_out;
-  asks = DependencyAsks;
-  asks_nothing = false;
-}
+dependency_way = by_part dependency_part false (λ is x. absurd (false≢true is))
 
 -- the public readers of both tables
 abbrev pub inherited_reads : Data → Option InheritedMeaning
@@ -123,25 +104,19 @@ told_rows f =
     ∷ []
 
 abbrev pub told_way : Way (List (List ℕ) × Detail)
-told_way = plain_table_way told_rows
+told_way = plain_table_way told_rows (λ f. tt)
 
 -- the list of a feature, or its table where it has a detail
-abbrev pub FeatureTree : List (List ℕ) → Option Detail → Data → Type 0
-FeatureTree enables None d = texts_way.trees enables d
-FeatureTree enables (Some detail) d = told_way.trees (enables, detail) d
+abbrev pub feature_part : List (List ℕ) → Option Detail → Part
+feature_part enables None = part texts_way enables
+feature_part enables (Some detail) = part told_way (enables, detail)
 
-abbrev pub FeatureRefused : List (List ℕ) → Option Detail → Error → Type 0
-FeatureRefused enables None e = texts_way.refuses enables e
-FeatureRefused enables (Some detail) e = told_way.refuses (enables, detail) e
+pub feature_asked : (enables : List (List ℕ)) (o : Option Detail) → AsksOf (feature_part enables o)
+feature_asked enables None = texts_way.nothing refl enables
+feature_asked enables (Some detail) = tt
 
 abbrev pub feature_way : Way (List (List ℕ) × Option Detail)
-feature_way = record {
-  trees = λ f d. FeatureTree f.0 f.1 d;
-  refuses = λ f e. FeatureRefused f.0 f.1 e;
-  left_out = never_left_out;
-  asks = λ f. Unit {0};
-  asks_nothing = true;
-}
+feature_way = by_part (λ f. feature_part f.0 f.1) true (λ is f. feature_asked f.0 f.1)
 
 -- the detail of a name
 abbrev pub detail_under : List ℕ → List (List ℕ × Detail) → Option Detail
@@ -154,13 +129,11 @@ told_features fs = map (λ f. (f.0, (f.1, detail_under f.0 fs.1))) fs.0
 
 -- the features of a manifest, which are left out where there is none
 abbrev pub features_way : Way FeaturesMeaning
-features_way = record {
-  trees = λ fs d. Ascend (keys_of fs.1) × (map_way feature_way).trees (told_features fs) d;
-  refuses = λ fs e. (map_way feature_way).refuses (told_features fs) e;
-  left_out = λ fs. is_nil fs.0;
-  asks = λ fs. Unit {0};
-  asks_nothing = true;
-}
+features_way = record (telling (λ fs. Ascend (keys_of fs.1)) (by_part
+    (λ fs. part (map_way feature_way) (told_features fs)) true
+    (λ is fs. (map_way feature_way).nothing refl (told_features fs)))) {
+      left_out = λ fs. is_nil fs.0;
+    }
 
 -- each detail is of a feature that is there, and says something
 pub record AreTold (fs : FeaturesMeaning) : Type 0 where

@@ -1,13 +1,13 @@
 -- How manifests are written.
 use Rattle.std.specs.Prelude.{List, [], ◌∷◌, codes}
-use Rattle.cargo_toml_dependencies.specs.Features.{FeaturesMeaning}
+use Rattle.cargo_toml_package.specs.Features.{FeaturesMeaning}
 use Rattle.cargo_toml_manifest.specs.Manifests.{ManifestMeaning}
-use Rattle.cargo_toml_write.specs.Ways.{list_way, map_way, inheritable_way}
-use Rattle.cargo_toml_write.specs.WrittenDependencies.{dependencies_way, target_way, features_way}
+use Rattle.cargo_toml_write.specs.Ways.{inheritable_way, list_way, map_way, table_way}
+use Rattle.cargo_toml_write.specs.Writes.{Row, Way, given_row, optional_row}
+use Rattle.cargo_toml_write.specs.WrittenDependencies.{dependencies_way, features_way, target_way}
 use Rattle.cargo_toml_write.specs.WrittenPackages.{package_way, workspace_way}
-use Rattle.cargo_toml_write.specs.WrittenTables.{badges_way, lint_groups_way}
-use Rattle.cargo_toml_write.specs.WrittenTables.{product_way, profiles_way}
-use Rattle.cargo_toml_write.specs.Writes.{Way, Row, optional_row, given_row, table_way}
+use Rattle.cargo_toml_write.specs.WrittenTables.{badges_way, lint_groups_way, product_way}
+use Rattle.cargo_toml_write.specs.WrittenTables.{profiles_way}
 
 -- its features, and what is said of them
 abbrev pub all_features : {M : Type 0} → ManifestMeaning M → FeaturesMeaning

@@ -9,11 +9,11 @@ use Rattle.cargo_toml_package.specs.Workspaces.{WorkspaceMeaning}
 use Rattle.cargo_toml_parts.specs.declared.inheritable.Inheritable.{Inheritable}
 use Rattle.cargo_toml_parts.specs.Versions.{Parts}
 use Rattle.cargo_toml_write.specs.Asked.{IfSet}
-use Rattle.cargo_toml_write.specs.Ways.{text_way, texts_way, version_way, inheritable_way, flag_row}
-use Rattle.cargo_toml_write.specs.WrittenSettings.{edition_way, resolver_way, file_way, publish_way}
-use Rattle.cargo_toml_write.specs.Writes.{Way, Row, required_row, optional_row, given_row}
-use Rattle.cargo_toml_write.specs.Writes.{table_way, plain_table_way}
+use Rattle.cargo_toml_write.specs.Ways.{flag_row, inheritable_way, plain_table_way, table_way}
+use Rattle.cargo_toml_write.specs.Ways.{text_way, texts_way, version_way}
+use Rattle.cargo_toml_write.specs.Writes.{Row, Way, given_row, optional_row, required_row}
 use Rattle.cargo_toml_write.specs.WrittenDependencies.{dependencies_way}
+use Rattle.cargo_toml_write.specs.WrittenTables.{edition_way, file_way, publish_way, resolver_way}
 use Rattle.cargo_toml_write.specs.WrittenTables.{lint_groups_way}
 
 -- the rows of a package, whose metadata are written in the given way
@@ -96,7 +96,7 @@ template_rows t =
     ∷ []
 
 abbrev pub template_way : Way TemplateMeaning
-template_way = plain_table_way template_rows
+template_way = plain_table_way template_rows (λ t. tt)
 
 -- the rows of a workspace, whose metadata are written in the given way
 abbrev pub workspace_rows : {M : Type 0} → Way M → WorkspaceMeaning M → List Row

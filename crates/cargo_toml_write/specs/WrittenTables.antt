@@ -1,23 +1,121 @@
--- How products, profiles, lints and badges are written, and which are read again as they were.
-use Rattle.std.specs.Prelude.{List, ◌∷◌, codes, true, false, ◌++◌, Bool, ◌&&◌, is_none, MatchBool}
-use Rattle.std.specs.Prelude.{[], ◌≡◌, ℕ, All, pos}
-use Rattle.std.specs.Map.{keys_of}
+-- How the enums and settings that stand for one value, and products, profiles, lints and badges are
+-- written, and which are read again as they were.
+use Rattle.std.specs.Prelude.{List, ℕ, codes, pos, Bool, true, false, refl, ◌∷◌, ◌&&◌, is_none, []}
+use Rattle.std.specs.Prelude.{◌≡◌, All}
 use Rattle.std.specs.Ordering.{int_eq}
-use Rattle.toml.specs.Data.{Data}
+use Rattle.std.proofs.lemmas.Bool.{false≢true}
+use Rattle.toml.specs.Data.{Data, string, integer, boolean}
+use Rattle.cargo_toml_parts.specs.declared.profile_settings.DebugSetting.{DebugSetting}
+use Rattle.cargo_toml_parts.specs.declared.profile_settings.DebugSetting.TheVariants as debug
+use Rattle.cargo_toml_parts.specs.declared.profile_settings.LtoSetting.{LtoSetting}
+use Rattle.cargo_toml_parts.specs.declared.profile_settings.LtoSetting.TheVariants as lto
+use Rattle.cargo_toml_parts.specs.declared.profile_settings.StripSetting.{StripSetting}
+use Rattle.cargo_toml_parts.specs.declared.profile_settings.StripSetting.TheVariants as strip
+use Rattle.cargo_toml_parts.specs.declared.settings.Edition.{Edition}
+use Rattle.cargo_toml_parts.specs.declared.settings.Resolver.{Resolver}
+use Rattle.cargo_toml_parts.specs.Settings.{edition_text, resolver_text, File, flag, path}
+use Rattle.cargo_toml_parts.specs.Settings.{Registries, everywhere, among}
+use Rattle.cargo_toml_parts.specs.declared.badge.MaintenanceStatus.{MaintenanceStatus}
+use Rattle.cargo_toml_parts.specs.declared.badge.MaintenanceStatus.TheVariants as status
+use Rattle.cargo_toml_parts.specs.declared.lint.LintLevel.{LintLevel}
+use Rattle.cargo_toml_parts.specs.declared.lint.LintLevel.TheVariants.{Allow, Warn, ForceWarn, Deny}
+use Rattle.cargo_toml_parts.specs.declared.lint.LintLevel.TheVariants.{Forbid}
 use Rattle.cargo_toml_parts.specs.Reads.{is_among}
-use Rattle.cargo_toml_parts.specs.declared.error.Error.{Error}
-use Rattle.cargo_toml_tables.specs.Products.{ProductMeaning}
-use Rattle.cargo_toml_tables.specs.Profiles.{ProfileMeaning, ProfilesMeaning, profile_keys}
-use Rattle.cargo_toml_tables.specs.Lints.{LintMeaning, lint_keys}
-use Rattle.cargo_toml_tables.specs.declared.badge.MaintenanceStatus.{MaintenanceStatus}
-use Rattle.cargo_toml_tables.specs.declared.badge.MaintenanceStatus.TheVariants as status
-use Rattle.cargo_toml_tables.specs.Badges.{BadgeMeaning, BadgesMeaning}
-use Rattle.cargo_toml_write.specs.Ways.{text_way, flag_row, Ascend, free_way, map_way, is_nil}
-use Rattle.cargo_toml_write.specs.Ways.{texts_way, truth_way, number_way, entry_rows, small_way}
-use Rattle.cargo_toml_write.specs.WrittenSettings.{edition_way, debug_way, strip_way, status_way}
-use Rattle.cargo_toml_write.specs.WrittenSettings.{lto_way, level_way}
-use Rattle.cargo_toml_write.specs.Writes.{Way, Row, table_way, plain_table_way, telling}
-use Rattle.cargo_toml_write.specs.Writes.{required_row, optional_row, given_row, never_left_out}
+use Rattle.cargo_toml_parts.specs.Products.{ProductMeaning}
+use Rattle.cargo_toml_parts.specs.Profiles.{ProfileMeaning, ProfilesMeaning, profile_keys}
+use Rattle.cargo_toml_parts.specs.Lints.{LintMeaning, lint_keys}
+use Rattle.cargo_toml_parts.specs.Badges.{BadgeMeaning, BadgesMeaning}
+use Rattle.cargo_toml_write.specs.Ways.{AsksOf, Part, by_part, exactly, part, text_way, texts_way}
+use Rattle.cargo_toml_write.specs.Ways.{truth_way, word_way, flag_row, free_way, is_nil, map_way}
+use Rattle.cargo_toml_write.specs.Ways.{number_way, over_way, plain_table_way, small_way, table_way}
+use Rattle.cargo_toml_write.specs.Writes.{Way, Row, given_row, optional_row, required_row}
+
+abbrev pub edition_way : Way Edition
+edition_way = word_way edition_text
+
+abbrev pub resolver_way : Way Resolver
+resolver_way = word_way resolver_text
+
+abbrev pub level_text : LintLevel → List ℕ
+level_text Allow = codes "allow"
+level_text Warn = codes "warn"
+level_text ForceWarn = codes "force-warn"
+level_text Deny = codes "deny"
+level_text Forbid = codes "forbid"
+
+abbrev pub level_way : Way LintLevel
+level_way = word_way level_text
+
+abbrev pub status_text : MaintenanceStatus → List ℕ
+status_text status.None = codes "none"
+status_text status.ActivelyDeveloped = codes "actively-developed"
+status_text status.PassivelyMaintained = codes "passively-maintained"
+status_text status.AsIs = codes "as-is"
+status_text status.Experimental = codes "experimental"
+status_text status.LookingForMaintainer = codes "looking-for-maintainer"
+status_text status.Deprecated = codes "deprecated"
+
+abbrev pub status_way : Way MaintenanceStatus
+status_way = word_way status_text
+
+-- a file that is on or off, or its path; it is left out where it is on
+abbrev pub file_part : File → Part
+file_part (flag b) = part truth_way b
+file_part (path p) = part text_way p
+
+abbrev pub is_usual : File → Bool
+is_usual (flag b) = b
+is_usual _ = false
+
+abbrev pub file_way : Way File
+file_way = record (by_part file_part true (λ is. elim [ flag b ↦ tt | path p ↦ tt ])) {
+  left_out = is_usual;
+}
+
+-- everywhere or nowhere, or the registries; it is left out where it is everywhere
+abbrev pub publish_part : Registries → Part
+publish_part (everywhere b) = part truth_way b
+publish_part (among names) = part texts_way names
+
+abbrev pub is_unrestricted : Registries → Bool
+is_unrestricted (everywhere b) = b
+is_unrestricted _ = false
+
+abbrev pub publish_way : Way Registries
+publish_way =
+    record (by_part publish_part true
+    (λ is. elim [ everywhere b ↦ tt | among names ↦ texts_way.nothing refl names ])) {
+      left_out = is_unrestricted;
+    }
+
+abbrev pub debug_tree : DebugSetting → Data
+debug_tree debug.None = boolean false
+debug_tree debug.Lines = integer (pos 1)
+debug_tree debug.Full = boolean true
+
+abbrev pub debug_way : Way DebugSetting
+debug_way =
+    exactly debug_tree (elim [ debug.None ↦ refl | debug.Lines ↦ refl | debug.Full ↦ refl ])
+
+abbrev pub strip_tree : StripSetting → Data
+strip_tree strip.None = boolean false
+strip_tree strip.Debuginfo = string (codes "debuginfo")
+strip_tree strip.Symbols = boolean true
+
+abbrev pub strip_way : Way StripSetting
+strip_way =
+    exactly strip_tree (elim [ strip.None ↦ refl | strip.Debuginfo ↦ refl | strip.Symbols ↦ refl ])
+
+abbrev pub lto_tree : LtoSetting → Data
+lto_tree lto.None = string (codes "off")
+lto_tree lto.ThinLocal = boolean false
+lto_tree lto.Thin = string (codes "thin")
+lto_tree lto.Fat = boolean true
+
+abbrev pub lto_way : Way LtoSetting
+lto_way =
+    exactly lto_tree
+    (elim [ lto.None ↦ refl | lto.ThinLocal ↦ refl | lto.Thin ↦ refl | lto.Fat ↦ refl ])
 
 abbrev pub product_rows : ProductMeaning → List Row
 product_rows p =
@@ -36,7 +134,7 @@ product_rows p =
     ∷ []
 
 abbrev pub product_way : Way ProductMeaning
-product_way = plain_table_way product_rows
+product_way = plain_table_way product_rows (λ p. tt)
 
 abbrev pub profile_rows : ProfileMeaning → List Row
 profile_rows p =
@@ -69,10 +167,6 @@ known_profiles p =
     ∷ optional_row (codes "doc") profile_way p.doc
     ∷ []
 
--- first those of other names, then those that Cargo knows, which are put over them
-abbrev pub profiles_rows : ProfilesMeaning → List Row
-profiles_rows p = entry_rows profile_way p.custom ++ known_profiles p
-
 -- no profile
 abbrev pub has_no_profile : ProfilesMeaning → Bool
 has_no_profile p =
@@ -83,8 +177,9 @@ has_no_profile p =
     && is_none p.doc
     && is_nil p.custom
 
+-- first those of other names, then those that Cargo knows, which are put over them
 abbrev pub profiles_way : Way ProfilesMeaning
-profiles_way = record (telling (λ p. Ascend (keys_of p.custom)) (table_way profiles_rows)) {
+profiles_way = record (over_way profile_way (λ p. p.custom) known_profiles) {
   left_out = has_no_profile;
 }
 
@@ -99,30 +194,20 @@ is_level_alone l = int_eq l.priority (pos 0) && is_nil l.config
 -- what else is said of the lint, and the level and the priority put over it
 abbrev pub lint_rows : LintMeaning → List Row
 lint_rows l =
-    entry_rows free_way l.config
-    ++ required_row (codes "level") level_way l.level
+    required_row (codes "level") level_way l.level
     ∷ required_row (codes "priority") small_way l.priority
     ∷ []
 
 abbrev pub table_lint_way : Way LintMeaning
-table_lint_way = telling (λ l. Ascend (keys_of l.config)) (table_way lint_rows)
+table_lint_way = over_way free_way (λ l. l.config) lint_rows
 
 -- a level, or a table
-abbrev pub LintTree : LintMeaning → Data → Type 0
-LintTree l d = MatchBool (is_level_alone l) (level_way.trees l.level d) (table_lint_way.trees l d)
-
-abbrev pub LintRefused : LintMeaning → Error → Type 0
-LintRefused l e =
-    MatchBool (is_level_alone l) (level_way.refuses l.level e) (table_lint_way.refuses l e)
+abbrev pub lint_part : Bool → LintMeaning → Part
+lint_part true l = part level_way l.level
+lint_part false l = part table_lint_way l
 
 abbrev pub lint_way : Way LintMeaning
-lint_way = record {
-  trees = LintTree;
-  refuses = LintRefused;
-  left_out = never_left_out;
-  asks = λ l. MatchBool (is_level_alone l) (Unit {0}) (table_lint_way.asks l);
-  asks_nothing = false;
-}
+lint_way = by_part (λ l. lint_part (is_level_alone l) l) false (λ is l. absurd (false≢true is))
 
 -- the lints by tool
 abbrev pub lint_groups_way : Way (List (List ℕ × List (List ℕ × LintMeaning)))
@@ -142,13 +227,13 @@ badge_rows b =
     ∷ []
 
 abbrev pub badge_way : Way BadgeMeaning
-badge_way = plain_table_way badge_rows
+badge_way = plain_table_way badge_rows (λ b. tt)
 
 abbrev pub maintenance_rows : MaintenanceStatus → List Row
 maintenance_rows s = required_row (codes "status") status_way s ∷ []
 
 abbrev pub maintenance_way : Way MaintenanceStatus
-maintenance_way = plain_table_way maintenance_rows
+maintenance_way = plain_table_way maintenance_rows (λ s. tt)
 
 abbrev pub badges_rows : BadgesMeaning → List Row
 badges_rows b =
@@ -186,4 +271,4 @@ has_no_badge b =
     && is_unstated b.maintenance
 
 abbrev pub badges_way : Way BadgesMeaning
-badges_way = record (plain_table_way badges_rows) { left_out = has_no_badge }
+badges_way = record (plain_table_way badges_rows (λ b. tt)) { left_out = has_no_badge }

@@ -6,7 +6,7 @@ ghost use Rattle.cargo_toml_manifest.specs.Texts.{any_tree};
 ghost use Rattle.cargo_toml_package.specs.Packages.{package_of_table, new_package};
 ghost use Rattle.cargo_toml_parts.specs.declared.inheritable.Inheritable.TheVariants.{Set};
 ghost use Rattle.cargo_toml_parts.specs.declared.inheritable.Inheritable.TheVariants.{Inherited};
-ghost use Rattle.cargo_toml_tables.specs.Settings.{everywhere};
+ghost use Rattle.cargo_toml_parts.specs.Settings.{everywhere};
 ghost use Rattle.cargo_toml_write.specs.Examples.{path_dependency, untested_binary, only_name};
 ghost use Rattle.cargo_toml_write.specs.Examples.{path_dependency_tree, untested_binary_tree};
 ghost use Rattle.cargo_toml_write.specs.Ways.{text_way, inheritable_way};

@@ -2,21 +2,15 @@
 ghost use Rattle.std.specs.Prelude.{◌≡◌, OnOk, IfErr};
 ghost use Rattle.toml.specs.View.{view, table_view};
 ghost use Rattle.cargo_toml_parts.specs.declared.error.Error.{Error};
-ghost use Rattle.cargo_toml_write.specs.Writes.{Way, IsWriting, put_member, IsLawful};
+ghost use Rattle.cargo_toml_write.specs.Writes.{Way, IsWriting, put_member};
 
-pub mod badge;
 pub mod collections;
 pub mod dependency;
-mod feature;
-pub mod lint;
 pub mod manifest;
 pub mod package;
 pub mod plain;
-pub mod product;
-pub mod profile;
 pub mod requirement;
-pub mod settings;
-pub mod workspace;
+pub mod tables;
 pub mod writing;
 
 use cargo_toml_parts::Error;
@@ -28,8 +22,8 @@ use toml::{Table, Value};
 ///
 /// A type says what its values mean, and the way in which that is written: which trees it is
 /// written to, which faults a value that has none may be refused with, and what is asked of a value
-/// so that it has one. By the law `lawful` a value that is as asked is never refused, and no other
-/// has a tree; and no tree holds a float, so that no reader refuses one for that.
+/// so that it has one. A way is lawful: a value that is as asked is never refused, and no other has
+/// a tree; and no tree holds a float, so that no reader refuses one for that.
 pub trait ToValue {
     // what its values mean: the type of meanings
     ghost Meaning: { Type 0 };
@@ -50,9 +44,6 @@ pub trait ToValue {
     /// - one whose metadata, of a caller's own type, has none; that fault is handed on as it is.
     fn to_value(&self, alloc: Global) -> Result<Value, Error>
         ensures { IsWriting way (meaning self.now) result };
-
-    // no tree holds a float, and a value has one exactly if it is as asked
-    ghost lawful: { IsLawful way };
 }
 
 /// What is left out of a table where it is what a missing key stands for.

@@ -6,7 +6,7 @@ ghost use Rattle.std.specs.Option.{option_copied};
 ghost use Rattle.cargo_toml.specs.Dependencies.{dependency_meaning};
 ghost use Rattle.cargo_toml.specs.Settings.{edition_text};
 ghost use Rattle.cargo_toml.specs.Templates.{template_meaning};
-ghost use Rattle.cargo_toml_dependencies.specs.Replacing.{entries_meaning};
+ghost use Rattle.cargo_toml_package.specs.Replacing.{entries_meaning};
 ghost use Rattle.cargo_toml_audit.specs.Oddities.{differences, has_given, oddities_of, other_of};
 ghost use Rattle.cargo_toml_audit.specs.Oddities.{shared_oddities};
 

@@ -4,7 +4,7 @@ ghost use Rattle.std.specs.List.{flat_map};
 ghost use Rattle.cargo_toml.specs.Manifests.{held};
 ghost use Rattle.cargo_toml.specs.Reads.{map_meaning};
 ghost use Rattle.cargo_toml.specs.Targets.{target_meaning};
-ghost use Rattle.cargo_toml_dependencies.specs.Replacing.{entries_meaning};
+ghost use Rattle.cargo_toml_package.specs.Replacing.{entries_meaning};
 ghost use Rattle.cargo_toml_audit.specs.Entries.{entries_of, in_target, listed_of, own_by_kind};
 ghost use Rattle.cargo_toml_audit.specs.Entries.{with_kind};
 

@@ -20,7 +20,7 @@ use crate::audit::{
 };
 use crate::members::manifest_path;
 use cargo_toml::{Error, Manifest};
-use cargo_toml_held::HeldManifest;
+use cargo_toml_bench::HeldManifest;
 use cargo_toml_lint::{Finding as Fault, Level};
 use cargo_toml_tools::files::{findings_of, manifest_in};
 use std::alloc::{AllocError, Global};

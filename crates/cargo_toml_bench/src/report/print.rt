@@ -2,17 +2,15 @@
 ghost use Rattle.std.specs.Prelude.{◌≡◌, ◌++◌, IfErr, IfOk, OnOk, string_bytes};
 ghost use Rattle.std.specs.Io.KnownBytes.{Appends, Keeps};
 ghost use Rattle.toml.specs.View.{view};
-ghost use Rattle.cargo_toml.specs.Action.{Text};
-ghost use Rattle.cargo_toml.specs.Manifests.{manifest_meaning};
+ghost use Rattle.cargo_toml.specs.{Action.Text, Manifests.manifest_meaning};
 ghost use Rattle.cargo_toml_bench.specs.Printing.{Spells, IsManifest, IsReport, RefusesBytes};
 ghost use Rattle.cargo_toml_bench.specs.Printing.{RefusesToPrint, line_with, lines_with};
-ghost use Rattle.cargo_toml_bench.specs.Printing.{report_text};
+ghost use Rattle.cargo_toml_bench.{specs.Printing.report_text, specs.Reports.texts};
 ghost use Rattle.cargo_toml_resolve.specs.Texts.{texts_now};
-ghost use Rattle.cargo_toml_bench.specs.Reports.{texts};
 
+use crate::HeldManifest;
 use crate::report::{Report, make_report};
 use cargo_toml::Error;
-use cargo_toml_held::HeldManifest;
 use std::alloc::{AllocError, Global};
 use std::io::Write;
 

@@ -5,11 +5,10 @@ ghost use Rattle.cargo_toml_manifest.specs.Inheriting.{needs};
 ghost use Rattle.cargo_toml_manifest.specs.Manifests.{held};
 
 use super::Manifest;
-use cargo_toml_dependencies::inheriting::{any_inherited, any_target_inherits};
 use cargo_toml_package::Package;
 use cargo_toml_package::inheriting::any_field_inherited;
-use cargo_toml_parts::Inheritable;
-use cargo_toml_tables::LintGroups;
+use cargo_toml_package::workspace_dependencies::{any_inherited, any_target_inherits};
+use cargo_toml_parts::{Inheritable, LintGroups};
 
 impl<Metadata> Manifest<Metadata> {
     /// The package.

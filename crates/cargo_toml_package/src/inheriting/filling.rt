@@ -3,14 +3,13 @@ ghost use Rattle.std.specs.Prelude.{◌≡◌, Some, IfOk, IsOkAnd, false, optio
 ghost use Rattle.std.specs.Path.{path_join};
 ghost use Rattle.cargo_toml_parts.specs.Copies.{Finishes};
 ghost use Rattle.cargo_toml_parts.specs.Inherits.{inheritable_map};
-ghost use Rattle.cargo_toml_tables.specs.Settings.{file_meaning};
+ghost use Rattle.cargo_toml_parts.specs.Settings.{file_meaning};
 ghost use Rattle.cargo_toml_package.specs.Inheriting.{based, filled_field, filled_if_there};
 ghost use Rattle.cargo_toml_package.specs.Installing.{put_field, put_if_there, Fills};
 
-use cargo_toml_parts::Inheritable;
 use cargo_toml_parts::duplicate::Duplicate;
 use cargo_toml_parts::paths::join;
-use cargo_toml_tables::OptionalFile;
+use cargo_toml_parts::{Inheritable, OptionalFile};
 use std::alloc::{AllocError, Global};
 
 // The file of a workspace; its path is joined to the workspace's folder.

@@ -4,7 +4,7 @@ ghost use Rattle.cargo_toml.specs.PackageAnswers.{is_known};
 
 use crate::row::Shown;
 use cargo_toml::{Error, Inheritable, Package};
-use cargo_toml_held::HeldManifest;
+use cargo_toml_bench::HeldManifest;
 use std::alloc::Global;
 use std::fmt::Write;
 

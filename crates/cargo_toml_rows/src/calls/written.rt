@@ -3,7 +3,7 @@ use crate::row::Shown;
 use cargo_toml::{
     Dependency, Error, FeatureDetail, FeatureDetails, Manifest, Profile, Profiles, ToValue, Value,
 };
-use cargo_toml_held::HeldManifest;
+use cargo_toml_bench::HeldManifest;
 use std::alloc::{AllocError, Global};
 
 /// Says of a feature what is said of each that has no table of its own.

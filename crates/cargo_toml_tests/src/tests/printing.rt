@@ -1,6 +1,6 @@
 //! Output and input that fail, and what is printed of a manifest that is not completed.
 use cargo_toml::Error;
-use cargo_toml_held::HeldManifest;
+use cargo_toml_bench::HeldManifest;
 use cargo_toml_program::{print_complete, print_features};
 use std::io;
 use std::io::{Read, Write};

@@ -4,7 +4,7 @@ ghost use Rattle.std.specs.Prelude.{◌≡◌, false};
 
 use cargo_toml::features::Resolver;
 use cargo_toml::{Error, Inheritable};
-use cargo_toml_held::HeldManifest;
+use cargo_toml_bench::HeldManifest;
 use std::alloc::AllocError;
 use std::hash::{BuildHasher, FoldHasher};
 use std::test::Fail;
@@ -19,10 +19,14 @@ impl Clone for Costly {
     }
 }
 
+fn is_memory<T: Drop>(answer: Result<T, Error>) -> bool {
+    matches!(answer, Err(Error::Memory))
+}
+
 #[test]
 fn refused_memory_of_a_copy(rt: HostRuntime) {
     let mut own: Inheritable<Costly> = Inheritable::Inherited;
-    assert!(rt; matches!(own.inherit(&Costly), Err(Error::Memory)));
+    assert!(rt; is_memory(own.inherit(&Costly)));
     assert!(rt; !own.is_set());
 }
 

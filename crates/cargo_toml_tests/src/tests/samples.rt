@@ -6,7 +6,7 @@ mod docs_rs;
 use archive::Archive;
 use cargo_toml::Value;
 use cargo_toml::features::Resolver;
-use cargo_toml_held::HeldManifest;
+use cargo_toml_bench::HeldManifest;
 use counting::count_enabled;
 use docs_rs::documents_all;
 use std::alloc::{AllocError, Global};
@@ -40,6 +40,8 @@ fn helpers_over_features_and_metadata(rt: HostRuntime) -> Result<(), Fail> {
     let held = HeldManifest::from_str(alloc, text)?;
     assert!(rt; documents_all(&held.manifest));
     let resolved = Resolver::new().parse(alloc, &held.manifest)?;
-    assert_eq!(rt; count_enabled(alloc, &resolved)?, 4);
+    let count = count_enabled(alloc, &resolved);
+    drop(resolved);
+    assert_eq!(rt; count?, 4);
     Ok(())
 }

@@ -3,7 +3,7 @@
 use super::listing::is_private;
 use crate::escape::{Format, comma_before, push_escaped};
 use cargo_toml::Manifest;
-use cargo_toml::features::{DepAction, Feature, Features};
+use cargo_toml::features::{Feature, Features};
 use cargo_toml_lint::Links;
 use std::alloc::{AllocError, Global};
 use std::collections::BTreeSet;
@@ -40,12 +40,12 @@ pub fn graph<M, S: BuildHasher>(
 }
 
 fn push_label<M>(graph: &mut String, manifest: &Manifest<M>) -> Result<(), AllocError> {
-    let Some(package) = &manifest.package else {
-        return Ok(());
-    };
-    graph.push_str("    label=\"")?;
-    push_escaped(graph, package.name.as_str(), Format::Dot)?;
-    graph.push_str("\";\n")
+    if let Some(package) = &manifest.package {
+        graph.push_str("    label=\"")?;
+        push_escaped(graph, package.name.as_str(), Format::Dot)?;
+        graph.push_str("\";\n")?;
+    }
+    Ok(())
 }
 
 fn style_of(feature: &Feature<'_>) -> &'static str {
@@ -104,25 +104,23 @@ fn push_feature_edges(
     Ok(())
 }
 
-/// The edges from a feature to what it acts on.
+/// The edges from a feature to what it acts on, each with what is asked for, and whether that is
+/// conditional.
 fn push_dependency_edges(graph: &mut String, feature: &Feature<'_>) -> Result<(), AllocError> {
     for (key, action) in &feature.enables_deps {
         push_edge(graph, feature.key, "dependency", *key)?;
-        push_action(graph, action)?;
+        graph.push_str(" [label=\"")?;
+        for (i, asked) in action.dep_features.iter().enumerate() {
+            graph.push_str(comma_before(i))?;
+            push_escaped(graph, *asked, Format::Dot)?;
+        }
+        let style = if action.is_conditional {
+            "\", style=dotted"
+        } else {
+            "\""
+        };
+        graph.push_str(style)?;
+        graph.push_str("];\n")?;
     }
     Ok(())
-}
-
-/// What an action asks for, and whether it is conditional.
-fn push_action(graph: &mut String, action: &DepAction<'_>) -> Result<(), AllocError> {
-    graph.push_str(" [label=\"")?;
-    for (i, feature) in action.dep_features.iter().enumerate() {
-        graph.push_str(comma_before(i))?;
-        push_escaped(graph, *feature, Format::Dot)?;
-    }
-    graph.push_str("\"")?;
-    if action.is_conditional {
-        graph.push_str(", style=dotted")?;
-    }
-    graph.push_str("];\n")
 }

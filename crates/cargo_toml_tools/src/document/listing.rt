@@ -1,18 +1,15 @@
 //! The features that a page tells of, and what is told of each.
 ghost use Rattle.std.specs.Prelude.{◌≡◌, ◌↔◌, IfOk, IsTrue, codes};
-ghost use Rattle.cargo_toml.specs.Action.{Text};
-ghost use Rattle.cargo_toml.specs.Graph.{Table};
-ghost use Rattle.cargo_toml.specs.Manifests.{held};
-ghost use Rattle.cargo_toml.specs.Reached.{IsKeyed};
-ghost use Rattle.cargo_toml.specs.Views.{set_has, table_in};
+ghost use Rattle.std.specs.Option.{option_copied};
+ghost use Rattle.cargo_toml.specs.{Action.Text, Graph.Table, Manifests.held, Reached.IsKeyed};
+ghost use Rattle.cargo_toml.specs.{Views.set_has};
 ghost use Rattle.cargo_toml_lint.specs.Linked.{AreFound, AreLinks};
-ghost use Rattle.cargo_toml_tools.specs.Documented.{AreRowsOf, IsOn, IsRowOf};
-ghost use Rattle.cargo_toml_tools.specs.Documented.{is_internal, is_shown};
+ghost use Rattle.cargo_toml_tools.specs.Documented.{AreRowsOf, IsOn, IsRowOf, is_internal};
+ghost use Rattle.cargo_toml_tools.specs.Documented.{is_shown, told_at};
 
 use super::reached::{Reached, reach};
 use cargo_toml::Manifest;
 use cargo_toml::features::Feature;
-use cargo_toml_features::texts::keys_in_order;
 use cargo_toml_lint::Links;
 use std::alloc::{AllocError, Global};
 use std::collections::{BTreeSet, HashMap};
@@ -63,12 +60,9 @@ pub fn rows<'m, M, S: BuildHasher>(
     let has_default = manifest.features.contains_key("default");
     let defaults = links.turned_on(alloc, "default")?;
     let mut rows = Vec::new(alloc);
-    let names = names(alloc, features)?;
-    for name in &names {
-        if let Some(feature) = features.get(*name) {
-            if is_shown(feature, has_default) {
-                rows.push(row_of(alloc, &links, features, feature, &defaults)?)?;
-            }
+    for name in &links.names {
+        if let Some(feature) = told_at(features, *name, has_default) {
+            rows.push(row_of(alloc, &links, features, feature, &defaults)?)?;
         }
     }
     Ok(rows)
@@ -97,14 +91,16 @@ fn row_of<'m, S: BuildHasher>(
     })
 }
 
-/// The names of the features, in byte order.
-fn names<'m, S: BuildHasher>(
-    alloc: Global,
-    features: &FeatureMap<'m, S>,
-) -> Result<BTreeSet<&'m str>, AllocError>
-    ensures { IfOk result (λ s. (f : Text) → set_has s f ≡ (table_in features.now).has f) }
+/// The feature of this name, if it is told of.
+fn told_at<'f, 'm, S: BuildHasher>(
+    features: &'f FeatureMap<'m, S>,
+    name: &str,
+    has_default: bool,
+) -> Option<&'f Feature<'m>>
+    ensures { option_copied result ≡ told_at features.now has_default name.now }
 {
-    keys_in_order(alloc, features)
+    let feature = features.get(name)?;
+    is_shown(feature, has_default).then_some(feature)
 }
 
 /// Whether a feature is told of: one that isn't private, and `default` where the manifest has it.

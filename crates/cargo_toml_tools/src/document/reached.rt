@@ -1,8 +1,7 @@
 //! What a feature turns on, by any number of steps.
 ghost use Rattle.std.specs.Prelude.{◌≡◌, ◌&&◌, IfOk, IsTrue};
-ghost use Rattle.cargo_toml.specs.Action.{IsJoin, Text};
-ghost use Rattle.cargo_toml.specs.Graph.{Table};
-ghost use Rattle.cargo_toml.specs.Views.{action_at, set_has};
+ghost use Rattle.cargo_toml.specs.{Action.IsJoin, Action.Text, Graph.Table, Views.action_at};
+ghost use Rattle.cargo_toml.specs.{Views.set_has};
 ghost use Rattle.cargo_toml_lint.specs.Linked.{AreFound, AreLinks};
 ghost use Rattle.cargo_toml_tools.specs.Documented.{ActsOf, IsReachedFrom, is_beside};
 

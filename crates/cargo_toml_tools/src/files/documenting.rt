@@ -1,89 +1,64 @@
 //! What is documented of features.
-ghost use Rattle.std.specs.Prelude.{◌≡◌, true, IfErr, IfOk, List, OnOk};
+ghost use Rattle.std.specs.Prelude.{◌≡◌, true, IfErr, IfOk, OnOk};
 ghost use Rattle.cargo_toml.specs.Limits.{MAX_ITEMS};
 ghost use Rattle.cargo_toml.specs.Manifests.{held};
 ghost use Rattle.cargo_toml.specs.Parsed.{IsParsed};
 ghost use Rattle.cargo_toml.specs.Reached.{IsKeyed};
 ghost use Rattle.cargo_toml.specs.Views.{answer_of};
-ghost use Rattle.cargo_toml_tools.specs.DocumentedFiles.{AreRowsIn, IsDocumented};
-ghost use Rattle.cargo_toml_tools.specs.FromFiles.{IsOfInput, IsUnreadable};
-ghost use Rattle.cargo_toml_tools.specs.declared.document.listing.Row.{Row};
+ghost use Rattle.cargo_toml_tools.specs.DocumentedFiles.{IsDocumented, IsUndocumented};
+ghost use Rattle.cargo_toml_tools.specs.FromFiles.{IsOfInput};
 
-use super::reading::manifest_in;
 use crate::document::{Page, TakesRows, graph, rows};
 use cargo_toml::features::{Features, Resolver};
 use cargo_toml::{Error, Manifest};
+use cargo_toml_bench::HeldManifest;
 use std::hash::RandomState;
 use std::random::RandomSource;
-use std::rt::Files;
 use toml::Value;
 
-/// Hands on what is documented of the features of the crate of this file. Refused where the file
-/// can't be read as a manifest; nothing around it is read.
-pub fn document<R: Files + RandomSource + AllocGlobal, T: TakesRows>(
+/// Hands on what is documented of the features of the manifest in this text. Refused where it
+/// doesn't read; nothing around it is read.
+pub fn document<R: RandomSource + AllocGlobal, T: TakesRows>(
     rt: &R,
-    file: &str,
+    text: &str,
     taker: &mut T,
 ) -> Result<(), Error>
-    ensures documented { OnOk result (IsDocumented T.took taker.old taker.new) }
-    ensures refused { IfErr result IsUnreadable }
+    ensures documented { OnOk result (IsDocumented T.took text.now taker.old taker.new) }
+    ensures refused { IfErr result (IsUndocumented text.now) }
 {
-    let held = manifest_in(rt, file)?;
-    hand_on(rt, &*held.manifest, taker)
+    let held = HeldManifest::from_str(rt.alloc(), text)?;
+    let manifest = &*held.manifest;
+    let resolved = resolved(rt, manifest)?;
+    let rows = rows(rt.alloc(), manifest, &resolved.features)?;
+    let package = manifest.package.as_ref();
+    let name = package.map(|package| package.name.as_str());
+    taker.take(name, rows.as_slice())?;
+    Ok(())
 }
 
 /// The same as a page, or the graph in Graphviz's language where `dot` is set. Refused as above.
-pub fn document_text<R: Files + RandomSource + AllocGlobal>(
+pub fn document_text<R: RandomSource + AllocGlobal>(
     rt: &R,
-    file: &str,
+    text: &str,
     dot: bool,
 ) -> Result<String, Error>
-    ensures { IfErr result IsUnreadable }
+    ensures { IfErr result (IsUndocumented text.now) }
 {
     if dot {
-        return graph_in(rt, file);
+        return graph_of(rt, text);
     }
     let mut page = Page::new(rt.alloc());
-    document(rt, file, &mut page)?;
+    document(rt, text, &mut page)?;
     Ok(page.text)
 }
 
-/// The graph of the features of the crate of this file.
-fn graph_in<R: Files + RandomSource + AllocGlobal>(rt: &R, file: &str) -> Result<String, Error>
-    ensures { IfErr result IsUnreadable }
+/// The graph of the features of the manifest in this text.
+fn graph_of<R: RandomSource + AllocGlobal>(rt: &R, text: &str) -> Result<String, Error>
+    ensures { IfErr result (IsUndocumented text.now) }
 {
-    let held = manifest_in(rt, file)?;
-    graph_of(rt, &*held.manifest)
-}
-
-fn graph_of<R: RandomSource + AllocGlobal>(
-    rt: &R,
-    manifest: &Manifest<Value>,
-) -> Result<String, Error>
-    ensures { IfErr result IsOfInput }
-{
-    let resolved = resolved(rt, manifest)?;
-    Ok(graph(rt.alloc(), manifest, &resolved)?)
-}
-
-/// Hands on the rows of a manifest.
-fn hand_on<R: RandomSource + AllocGlobal, T: TakesRows>(
-    rt: &R,
-    manifest: &Manifest<Value>,
-    taker: &mut T,
-) -> Result<(), Error>
-    ensures documented { OnOk result ((rows : List Row) × AreRowsIn manifest.now rows
-        × T.took taker.old rows taker.new) }
-    ensures refused { IfErr result IsOfInput }
-{
-    let resolved = resolved(rt, manifest)?;
-    let rows = rows(rt.alloc(), manifest, &resolved.features)?;
-    let name = manifest
-        .package
-        .as_ref()
-        .map(|package| package.name.as_str());
-    taker.take(name, rows.as_slice())?;
-    Ok(())
+    let held = HeldManifest::from_str(rt.alloc(), text)?;
+    let resolved = resolved(rt, &*held.manifest)?;
+    Ok(graph(rt.alloc(), &*held.manifest, &resolved)?)
 }
 
 fn keep_every(_name: &str) -> bool

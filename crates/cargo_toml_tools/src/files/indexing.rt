@@ -1,16 +1,15 @@
 //! The line of a registry's index.
 ghost use Rattle.std.specs.Prelude.{IfErr, IfOk, IsSome, OnOk, string_bytes};
 ghost use Rattle.std.specs.Path.{path_parent};
-ghost use Rattle.serde_json.specs.View.{view};
-ghost use Rattle.cargo_toml_tools.specs.IndexedFiles.{IsIndexFault, IsIndexed, IsPrinted};
+ghost use Rattle.cargo_toml_tools.specs.IndexedFiles.{IsIndexFault, IsLineOf};
 ghost use Rattle.cargo_toml_tools.specs.Sections.{wanted_of};
 
 use super::linting::findings_of;
-use super::reading::{completed_of, text_in};
+use super::reading::completed_of;
 use crate::index::{IndexError, Options, index_entry};
-use cargo_toml::Error;
-use serde_json::Value;
-use std::alloc::AllocError;
+use cargo_toml::{Error, Inheritable, Manifest};
+use std::alloc::{AllocError, Global};
+use std::collections::BTreeMap;
 use std::fmt;
 use std::random::RandomSource;
 use std::rt::Files;
@@ -72,39 +71,57 @@ impl fmt::Display for Fault {
     }
 }
 
-/// The line that an index has of the crate of this file, which is completed first: an object of
-/// JSON. Refused where the file can't be read or completed as a manifest, or has what no index
-/// takes.
-pub fn index_line<R: Files + RandomSource + AllocGlobal>(
-    rt: &R,
-    file: &str,
-    options: Options<'_>,
-) -> Result<String, Fault>
-    ensures printed { IfOk result
-        (λ line. IsPrinted file.now (wanted_of options.entry) (string_bytes line)) }
-    ensures named { OnOk result (IsSome (path_parent file.now)) }
-    ensures refused { IfErr result (IsIndexFault file.now (wanted_of options.entry)) }
-{
-    let entry = entry_in(rt, file, options)?;
-    let mut line = entry.to_string(rt.alloc())?;
-    line.push_str("\n")?;
-    Ok(line)
+/// A line of an index, and the crate that it is of.
+#[derive(Debug, Drop)]
+pub struct Indexed {
+    /// The name of the crate.
+    pub name: String,
+    /// The line.
+    pub line: String,
 }
 
-/// The same as a value.
-fn entry_in<R: Files + RandomSource + AllocGlobal>(
+/// The line that an index has of the crate in this text of a file, which is completed first: an
+/// object of JSON, with the checksum of `NAME-VERSION.crate` among these where one is there.
+/// Refused where the text doesn't read or complete as a manifest, or has what no index takes.
+pub fn index_of<R: Files + RandomSource + AllocGlobal>(
     rt: &R,
     file: &str,
+    text: &str,
     options: Options<'_>,
-) -> Result<Value, Fault>
-    ensures indexed { IfOk result (λ v. IsIndexed file.now (wanted_of options.entry) (view v)) }
+    sums: &BTreeMap<&str, &str>,
+) -> Result<Indexed, Fault>
+    ensures printed { IfOk result (λ indexed. IsLineOf file.now text.now
+        (wanted_of options.entry) (string_bytes indexed.line)) }
     ensures named { OnOk result (IsSome (path_parent file.now)) }
-    ensures refused { IfErr result (IsIndexFault file.now (wanted_of options.entry)) }
+    ensures refused { IfErr result (IsIndexFault file.now text.now (wanted_of options.entry)) }
 {
-    let read = text_in(rt, file)?;
-    let text = read.as_str();
+    let alloc = rt.alloc();
     let held = completed_of(rt, file, text)?;
     let manifest = &*held.manifest;
+    let (name, archive) = archive_of(alloc, manifest)?;
+    let checksum = sums.get(archive.as_str()).copied().or(options.checksum);
     let findings = findings_of(rt, manifest)?;
-    Ok(index_entry(rt.alloc(), manifest, text, findings.as_slice(), options)?)
+    let options = Options {
+        checksum,
+        ..options
+    };
+    let entry = index_entry(alloc, manifest, text, findings.as_slice(), options)?;
+    let mut line = entry.to_string(alloc)?;
+    line.push_str("\n")?;
+    Ok(Indexed { name, line })
+}
+
+/// The name of a crate, and that of its archive. Both are empty where there is no package.
+fn archive_of(alloc: Global, manifest: &Manifest) -> Result<(String, String), AllocError> {
+    let Some(package) = &manifest.package else {
+        return Ok((String::new(alloc), String::new(alloc)));
+    };
+    let name = package.name.clone()?;
+    match &package.version {
+        Inheritable::Set(version) => {
+            let archive = format!(in alloc; "{name}-{version}.crate")?;
+            Ok((name, archive))
+        }
+        Inheritable::Inherited => Ok((name, String::new(alloc))),
+    }
 }

@@ -1,16 +1,12 @@
 //! Manifests that are read from files and held on the heap.
 ghost use Rattle.std.specs.Prelude.{IfErr, IfOk, IsSome, OnOk};
 ghost use Rattle.std.specs.Path.{path_parent};
-ghost use Rattle.toml.specs.View.{view};
 ghost use Rattle.cargo_toml.specs.Action.{Text};
-ghost use Rattle.cargo_toml.specs.Manifests.{ManifestRefuses, manifest_meaning, manifest_reads};
-ghost use Rattle.cargo_toml.specs.RealFiles.{IsTextFault};
-ghost use Rattle.cargo_toml.specs.Texts.{AnyRefuses, any_tree};
-ghost use Rattle.cargo_toml_tools.specs.FromFiles.{IsCompletedIn, IsManifestIn};
-ghost use Rattle.cargo_toml_tools.specs.FromFiles.{IsOfInput, IsUnreadable};
+ghost use Rattle.cargo_toml_tools.specs.FromFiles.{IsCompletedIn, IsManifestIn, IsOfInput};
+ghost use Rattle.cargo_toml_tools.specs.FromFiles.{IsUncompleted, IsUnreadable};
 
 use cargo_toml::Error;
-use cargo_toml_held::HeldManifest;
+use cargo_toml_bench::HeldManifest;
 use std::fs;
 use std::rt::Files;
 
@@ -30,8 +26,7 @@ pub fn completed_of<R: Files + AllocGlobal>(
 ) -> Result<HeldManifest, Error>
     ensures completed { IfOk result (λ h. IsCompletedIn file.now text.now h.manifest.value) }
     ensures named { OnOk result (IsSome (path_parent file.now)) }
-    ensures refused { IfErr result (IsTextFault file.now text.now (manifest_meaning view)
-        (manifest_reads any_tree) (ManifestRefuses any_tree AnyRefuses)) }
+    ensures refused { IfErr result (IsUncompleted file.now text.now) }
 {
     let mut held = HeldManifest::from_str(rt.alloc(), text)?;
     held.manifest.complete_from_path(rt, rt.alloc(), file)?;

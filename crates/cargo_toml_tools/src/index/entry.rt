@@ -3,10 +3,8 @@ ghost use Rattle.std.specs.Prelude.{◌≡◌, ◌++◌, [], IfOk, OnOk, map, st
 ghost use Rattle.std.specs.List.{flat_map};
 ghost use Rattle.serde_json.specs.View.{members_view, view};
 ghost use Rattle.cargo_toml.specs.Dependencies.{dependency_meaning};
-ghost use Rattle.cargo_toml_tools.specs.IndexEntries.{asks_default, has_default, index_entries};
-ghost use Rattle.cargo_toml_tools.specs.IndexEntries.{index_rows};
-ghost use Rattle.cargo_toml_tools.specs.IndexEntries.{kind_text, own_default};
-ghost use Rattle.cargo_toml_tools.specs.IndexEntries.{place_rows, req_text, required_version};
+ghost use Rattle.cargo_toml_tools.specs.IndexEntries.{has_default, index_entries, index_rows};
+ghost use Rattle.cargo_toml_tools.specs.IndexEntries.{kind_text, req_text, required_version};
 ghost use Rattle.cargo_toml_tools.specs.IndexEntries.{table_entries, wanted_rows};
 ghost use Rattle.cargo_toml_tools.specs.IndexRows.{with_rows};
 ghost use Rattle.cargo_toml_tools.specs.Sections.{table_of, wanted_of};
@@ -22,6 +20,7 @@ use cargo_toml::features::Kind;
 use cargo_toml_write::write::requirement::requirement_text;
 use serde_json::{Map, Value, push, put};
 use std::alloc::{AllocError, Global};
+use toml::Value as Written;
 
 /// The entries of all dependencies.
 pub(super) fn entries(
@@ -34,25 +33,17 @@ pub(super) fn entries(
 {
     let mut entries = Vec::new(alloc);
     for section in sections {
-        push_table(alloc, &mut entries, options, section)?;
+        for (key, dependency) in section.entries {
+            push_dependency(
+                alloc,
+                &mut entries,
+                options,
+                section,
+                (key.as_str(), dependency),
+            )?;
+        }
     }
     Ok(entries)
-}
-
-/// Adds the entries of a table.
-fn push_table(
-    alloc: Global,
-    entries: &mut Vec<Value>,
-    options: Options<'_>,
-    section: &Section<'_>,
-) -> Result<(), AllocError>
-    ensures { OnOk result (map view entries.new.items ≡ map view entries.old.items
-        ++ table_entries (wanted_of options.entry) (table_of section.now)) }
-{
-    for (key, dependency) in section.entries {
-        push_dependency(alloc, entries, options, section, (key.as_str(), dependency))?;
-    }
-    Ok(())
 }
 
 /// Adds the entry of a dependency, behind its key. One with a path or a repository and no version
@@ -91,7 +82,8 @@ fn entry(
     let mut entry = Map::new(alloc);
     put_wanted(alloc, &mut entry, section, key, dependency)?;
     put_text_if(alloc, &mut entry, "package", dependency.package())?;
-    put_place(alloc, &mut entry, section)?;
+    put_text(alloc, &mut entry, "target", section.target)?;
+    put_text(alloc, &mut entry, "kind", Some(kind_text(section.kind)))?;
     let registry = elsewhere(options.registry, source_of(options.names, dependency));
     put_text(alloc, &mut entry, "registry", registry)?;
     Ok(entry)
@@ -110,17 +102,12 @@ fn put_wanted(
         (dependency_meaning dependency.now)) (members_view entry.old.entries)) }
 {
     let requirement = requirement(alloc, dependency)?;
-    let default_features = has_default(section, key, dependency);
+    let has_default = has_default(section, key, dependency);
     put_text(alloc, entry, "name", Some(key))?;
     put(entry, alloc, "req", Value::from(requirement))?;
     put_texts(alloc, entry, "features", dependency.req_features())?;
     put(entry, alloc, "optional", Value::from(dependency.optional()))?;
-    put(
-        entry,
-        alloc,
-        "default_features",
-        Value::from(default_features),
-    )
+    put(entry, alloc, "default_features", Value::from(has_default))
 }
 
 /// The requirement on the version, as the index has it: `*` is any.
@@ -140,38 +127,11 @@ fn has_default(section: &Section<'_>, key: &str, dependency: &Dependency) -> boo
     ensures { result ≡ has_default (table_of section.now).written key.now
         (dependency_meaning dependency.now) }
 {
-    own_default(dependency) || asks_default(section, key)
-}
-
-fn asks_default(section: &Section<'_>, key: &str) -> bool
-    ensures { result ≡ asks_default (table_of section.now).written key.now }
-{
-    match section.flag(key, "default-features") {
-        Some(flag) => flag.as_bool().unwrap_or(false),
-        None => false,
-    }
-}
-
-fn own_default(dependency: &Dependency) -> bool
-    ensures { result ≡ own_default (dependency_meaning dependency.now) }
-{
-    match dependency {
-        Dependency::Detailed(detail) => detail.default_features,
-        _ => true,
-    }
-}
-
-/// The members that say where the dependency stands.
-fn put_place(
-    alloc: Global,
-    entry: &mut Map<String, Value>,
-    section: &Section<'_>,
-) -> Result<(), AllocError>
-    ensures { OnOk result (members_view entry.new.entries
-        ≡ with_rows (place_rows (table_of section.now)) (members_view entry.old.entries)) }
-{
-    put_text(alloc, entry, "target", section.target)?;
-    put_text(alloc, entry, "kind", Some(kind_text(section.kind)))
+    let Dependency::Detailed(detail) = dependency else {
+        return true;
+    };
+    let flag = section.flag(key, "default-features");
+    detail.default_features || flag.and_then(Written::as_bool).unwrap_or(false)
 }
 
 fn kind_text(kind: Kind) -> &'static str

@@ -1,15 +1,13 @@
 //! What the line of an index has of a crate's features.
-ghost use Rattle.std.specs.Prelude.{◌≡◌, ◌++◌, ◌∷◌, [], IfOk, OnOk, filter, map, string_bytes};
-ghost use Rattle.std.specs.List.{list_any};
+ghost use Rattle.std.specs.Prelude.{◌≡◌, ◌++◌, ◌∷◌, [], IfOk, OnOk, false, filter, map, true};
+ghost use Rattle.std.{specs.Prelude.string_bytes, specs.List.flat_map, specs.List.list_any};
 ghost use Rattle.serde_json.specs.View.{members_view, view};
 ghost use Rattle.cargo_toml.specs.Action.{item_of};
-ghost use Rattle.cargo_toml_dependencies.specs.Replacing.{entries_meaning};
-ghost use Rattle.cargo_toml_tools.specs.Checked.{lists_meaning};
-ghost use Rattle.cargo_toml_tools.specs.IndexFeatures.{feature_rows, is_extended, is_kept};
-ghost use Rattle.cargo_toml_tools.specs.IndexFeatures.{is_newer, keeps, kept_lists, list_rows};
-ghost use Rattle.cargo_toml_tools.specs.IndexFeatures.{lists_object, stays};
+ghost use Rattle.cargo_toml_package.specs.Replacing.{entries_meaning};
+ghost use Rattle.cargo_toml_tools.specs.IndexLines.{feature_rows, is_extended, is_kept, is_newer};
+ghost use Rattle.cargo_toml_tools.specs.IndexLines.{keeps, kept_lists, list_rows, stays};
 ghost use Rattle.cargo_toml_tools.specs.IndexRows.{text_array, with_rows};
-ghost use Rattle.cargo_toml_tools.specs.Sections.{kept_list, table_of};
+ghost use Rattle.cargo_toml_tools.specs.{Checked.lists_meaning, Sections.table_of};
 
 use super::refusals::lacks_version;
 use super::sections::Section;
@@ -18,34 +16,81 @@ use cargo_toml_features::action::read_action;
 use serde_json::{Map, Value, push, put};
 use std::alloc::{AllocError, Global};
 
-/// A feature, and the texts of its list that stay.
-#[derive(Drop)]
-pub(super) struct List<'m> {
-    name: &'m str,
-    texts: Vec<&'m str>,
+/// Puts the members that are of the features.
+pub(super) fn put_features(
+    alloc: Global,
+    line: &mut Map<String, Value>,
+    sections: &[Section<'_>],
+    features: &FeatureSet,
+) -> Result<(), AllocError>
+    ensures { OnOk result (members_view line.new.entries
+        ≡ with_rows (feature_rows (kept_lists (map table_of sections.now)
+        (lists_meaning features.now))) (members_view line.old.entries)) }
+{
+    let mut first = Map::new(alloc);
+    let mut second = Map::new(alloc);
+    let has_second = put_lists(alloc, &mut first, &mut second, sections, features)?;
+    put(line, alloc, "features", Value::from(first))?;
+    if !has_second {
+        return Ok(());
+    }
+    put(line, alloc, "features2", Value::from(second))?;
+    put(line, alloc, "v", Value::from(2u8))
 }
 
-/// The features with what stays of their lists: no text that acts on a dependency that the line
-/// hasn't.
-pub(super) fn kept_lists<'m>(
+/// Puts what stays of each list, and says whether one is extended.
+fn put_lists(
     alloc: Global,
+    first: &mut Map<String, Value>,
+    second: &mut Map<String, Value>,
     sections: &[Section<'_>],
-    features: &'m FeatureSet,
-) -> Result<Vec<List<'m>>, AllocError>
-    ensures { IfOk result (λ v. map kept_list v.items
-        ≡ kept_lists (map table_of sections.now) (lists_meaning features.now)) }
+    features: &FeatureSet,
+) -> Result<bool, AllocError>
+    ensures first { OnOk result (members_view first.new.entries
+        ≡ with_rows (flat_map (list_rows false) (kept_lists (map table_of sections.now)
+        (lists_meaning features.now))) (members_view first.old.entries)) }
+    ensures second { OnOk result (members_view second.new.entries
+        ≡ with_rows (flat_map (list_rows true) (kept_lists (map table_of sections.now)
+        (lists_meaning features.now))) (members_view second.old.entries)) }
+    ensures extended { IfOk result (λ some. some ≡ list_any (λ f. is_extended f.1)
+        (kept_lists (map table_of sections.now) (lists_meaning features.now))) }
 {
-    let mut lists = Vec::new(alloc);
+    let mut has_second = false;
     for (name, texts) in features {
         let texts = kept(alloc, sections, texts.as_slice())?;
-        lists.push(List {
-            name: name.as_str(),
-            texts,
-        })?;
+        has_second |= put_list(alloc, first, second, name.as_str(), texts.as_slice())?;
     }
-    Ok(lists)
+    Ok(has_second)
 }
 
+/// Puts a list, and says whether it is extended: then `features2` has it, and in `features` it is
+/// empty, so that others may name its feature.
+fn put_list(
+    alloc: Global,
+    first: &mut Map<String, Value>,
+    second: &mut Map<String, Value>,
+    name: &str,
+    texts: &[&str],
+) -> Result<bool, AllocError>
+    ensures first { OnOk result (members_view first.new.entries
+        ≡ with_rows (list_rows false (name.now, map (λ t. t.now) texts.now))
+        (members_view first.old.entries)) }
+    ensures second { OnOk result (members_view second.new.entries
+        ≡ with_rows (list_rows true (name.now, map (λ t. t.now) texts.now))
+        (members_view second.old.entries)) }
+    ensures extended { IfOk result (λ is. is ≡ is_extended (map (λ t. t.now) texts.now)) }
+{
+    let list = array(alloc, texts)?;
+    if !is_extended(texts) {
+        put(first, alloc, name, list)?;
+        return Ok(false);
+    }
+    put(first, alloc, name, array(alloc, &[])?)?;
+    put(second, alloc, name, list)?;
+    Ok(true)
+}
+
+/// The texts of a list that stay: no text that acts on a dependency that the line hasn't.
 fn kept<'m>(
     alloc: Global,
     sections: &[Section<'_>],
@@ -106,67 +151,6 @@ fn keeps(table: &DepsSet, key: &str) -> bool
     match table.get(key) {
         Some(dependency) => !lacks_version(dependency),
         None => false,
-    }
-}
-
-/// The members that are of the features.
-pub(super) fn put_features(
-    alloc: Global,
-    line: &mut Map<String, Value>,
-    lists: &[List<'_>],
-) -> Result<(), AllocError>
-    ensures { OnOk result (members_view line.new.entries
-        ≡ with_rows (feature_rows (map kept_list lists.now)) (members_view line.old.entries)) }
-{
-    put(line, alloc, "features", object(alloc, lists, false)?)?;
-    if !has_extended(lists) {
-        return Ok(());
-    }
-    put(line, alloc, "features2", object(alloc, lists, true)?)?;
-    put(line, alloc, "v", Value::from(2u8))
-}
-
-/// Whether some list is extended.
-fn has_extended(lists: &[List<'_>]) -> bool
-    ensures { result ≡ list_any (λ f. is_extended f.1) (map kept_list lists.now) }
-{
-    for list in lists {
-        if is_extended(list.texts.as_slice()) {
-            return true;
-        }
-    }
-    false
-}
-
-/// The lists as an index has them in `features2`, or in `features`.
-fn object(alloc: Global, lists: &[List<'_>], extended: bool) -> Result<Value, AllocError>
-    ensures { IfOk result (λ v. view v ≡ lists_object extended (map kept_list lists.now)) }
-{
-    let mut members = Map::new(alloc);
-    for list in lists {
-        put_list(alloc, &mut members, list, extended)?;
-    }
-    Ok(Value::from(members))
-}
-
-/// Puts a list. In `features` an extended one is empty, so that others may name its feature; in
-/// `features2` there are no others.
-fn put_list(
-    alloc: Global,
-    members: &mut Map<String, Value>,
-    list: &List<'_>,
-    extended: bool,
-) -> Result<(), AllocError>
-    ensures { OnOk result (members_view members.new.entries
-        ≡ with_rows (list_rows extended (kept_list list.now)) (members_view members.old.entries)) }
-{
-    let texts = list.texts.as_slice();
-    if is_extended(texts) == extended {
-        put(members, alloc, list.name, array(alloc, texts)?)
-    } else if extended {
-        Ok(())
-    } else {
-        put(members, alloc, list.name, array(alloc, &[])?)
     }
 }
 

@@ -1,24 +1,18 @@
 //! What an index refuses.
-ghost use Rattle.std.specs.Prelude.{◌≡◌, bytes_eq, map, option_map, string_bytes};
+ghost use Rattle.std.specs.Prelude.{◌≡◌, map, option_map, string_bytes};
 ghost use Rattle.std.specs.List.{list_any};
 ghost use Rattle.semver.specs.Identifiers.{parts_of};
 ghost use Rattle.toml.specs.View.{table_view, view};
-ghost use Rattle.cargo_toml.specs.Dependencies.{dependency_meaning};
-ghost use Rattle.cargo_toml.specs.Inheritable.TheVariants.{Set};
-ghost use Rattle.cargo_toml.specs.InheritedDependencies.{is_left};
-ghost use Rattle.cargo_toml.specs.InheritedPackages.{is_left_there};
-ghost use Rattle.cargo_toml.specs.Inherits.{inheritable_map};
-ghost use Rattle.cargo_toml.specs.Manifests.{is_zero};
-ghost use Rattle.cargo_toml.specs.Packages.{held_package};
-ghost use Rattle.cargo_toml.specs.Reads.{map_meaning};
-ghost use Rattle.cargo_toml.specs.Settings.{publish_meaning};
-ghost use Rattle.cargo_toml_tools.specs.Indexed.{choice_refusal, entry_refusal};
-ghost use Rattle.cargo_toml_tools.specs.Indexed.{finding_refusal, first_refusal};
-ghost use Rattle.cargo_toml_tools.specs.Indexed.{has_other_flag, is_dev, is_error, is_named};
-ghost use Rattle.cargo_toml_tools.specs.Indexed.{in_package, is_open, is_published};
-ghost use Rattle.cargo_toml_tools.specs.Indexed.{keeps_other_flag, lacks_version};
-ghost use Rattle.cargo_toml_tools.specs.Indexed.{other_name, package_refusal, publish_refusal};
-ghost use Rattle.cargo_toml_tools.specs.Indexed.{refuse_if, table_refusal, version_refusal};
+ghost use Rattle.cargo_toml.specs.{Dependencies.dependency_meaning, Inheritable.TheVariants.Set};
+ghost use Rattle.cargo_toml.specs.{InheritedDependencies.is_left, InheritedPackages.is_left_there};
+ghost use Rattle.cargo_toml.specs.{Inherits.inheritable_map, Manifests.is_zero};
+ghost use Rattle.cargo_toml.specs.{Packages.held_package, Settings.publish_meaning};
+ghost use Rattle.cargo_toml_tools.specs.Indexed.{choice_refusal, entry_refusal, finding_refusal};
+ghost use Rattle.cargo_toml_tools.specs.Indexed.{first_refusal, has_other_flag, in_package};
+ghost use Rattle.cargo_toml_tools.specs.Indexed.{is_error, is_named, is_open, is_published};
+ghost use Rattle.cargo_toml_tools.specs.Indexed.{keeps_other_flag, lacks_version, package_refusal};
+ghost use Rattle.cargo_toml_tools.specs.Indexed.{publish_refusal, table_refusal};
+ghost use Rattle.cargo_toml_tools.specs.Indexed.{unversioned_refusal, version_refusal};
 ghost use Rattle.cargo_toml_tools.specs.Sections.{names_of, refused, table_of, wanted_of};
 
 use super::Options;
@@ -28,7 +22,6 @@ use cargo_toml::features::Kind;
 use cargo_toml::{Dependency, Inheritable, Package, Publish, SemVer};
 use cargo_toml_lint::{Finding, Level};
 use cargo_toml_parts::read::member;
-use std::collections::BTreeMap;
 use toml::{Table, Value};
 
 /// What an index doesn't take.
@@ -56,21 +49,7 @@ pub enum Fault {
 }
 
 /// A fault, and the key or the name that has it.
-#[derive(Clone, Copy)]
-pub(super) struct Refusal<'a> {
-    pub fault: Fault,
-    pub subject: &'a str,
-}
-
-fn refuse_if<'a>(is_refused: bool, fault: Fault, subject: &'a str) -> Option<Refusal<'a>>
-    ensures { option_map refused result ≡ refuse_if is_refused fault subject.now }
-{
-    if is_refused {
-        Some(Refusal { fault, subject })
-    } else {
-        None
-    }
-}
+pub(super) type Refusal<'a> = (Fault, &'a str);
 
 /// The first refusal of a package, which was read from this document, and of its tables of
 /// dependencies. `findings` is what lint finds of its features.
@@ -85,14 +64,10 @@ pub(super) fn package_refusal<'a, M>(
         findings.now (table_view document.now) (map table_of sections.now)
         (held_package «package».now) }
 {
-    let rust_version = refuse_if(
-        is_left_there(&package.rust_version),
-        Fault::Incomplete,
-        "rust-version",
-    );
+    let is_left = is_left_there(&package.rust_version);
     version_refusal(&package.version, document)
         .or(tables_refusal(options.names, sections))
-        .or(rust_version)
+        .or(is_left.then_some((Fault::Incomplete, "rust-version")))
         .or(choice_refusal(package, document, findings, options))
 }
 
@@ -117,14 +92,11 @@ fn version_refusal(version: &Inheritable<SemVer>, document: &Table) -> Option<Re
     ensures { option_map refused result ≡ version_refusal (table_view document.now)
         (inheritable_map parts_of version.now) }
 {
-    match version {
-        Inheritable::Set(version) => refuse_if(
-            is_zero(version) && in_package(document, "version").is_none(),
-            Fault::NoVersion,
-            "",
-        ),
-        Inheritable::Inherited => refuse_if(true, Fault::Incomplete, "version"),
-    }
+    let Inheritable::Set(version) = version else {
+        return Some((Fault::Incomplete, "version"));
+    };
+    let is_missing = is_zero(version) && in_package(document, "version").is_none();
+    is_missing.then_some((Fault::NoVersion, ""))
 }
 
 /// Whether the version is 0.0.0, with nothing behind it.
@@ -142,10 +114,7 @@ fn is_zero(version: &SemVer) -> bool
 fn in_package<'a>(document: &'a Table, key: &str) -> Option<&'a Value>
     ensures { option_map (λ v. view v.now) result ≡ in_package key.now (table_view document.now) }
 {
-    match table_in(document, "package") {
-        Some(package) => member(package, key),
-        None => None,
-    }
+    member(table_in(document, "package")?, key)
 }
 
 /// What a package may leave to the workspace.
@@ -161,9 +130,8 @@ fn tables_refusal<'a>(names: &'a [Named<'a>], sections: &'a [Section<'a>]) -> Op
         ≡ first_refusal (table_refusal (names_of names.now)) (map table_of sections.now) }
 {
     for section in sections {
-        let found = table_refusal(names, section);
-        if found.is_some() {
-            return found;
+        if let Some(refusal) = table_refusal(names, section) {
+            return Some(refusal);
         }
     }
     None
@@ -173,38 +141,18 @@ fn table_refusal<'a>(names: &'a [Named<'a>], section: &'a Section<'a>) -> Option
     ensures { option_map refused result
         ≡ table_refusal (names_of names.now) (table_of section.now) }
 {
-    let name = other_name(section.kind);
-    refuse_if(section.has_other_name, Fault::OtherTable, name).or(entries_refusal(names, section))
-}
-
-/// The name of a table with `_` in it.
-fn other_name(kind: Kind) -> &'static str
-    ensures { result.now ≡ other_name kind }
-{
-    match kind {
-        Kind::Normal => "dependencies",
-        Kind::Dev => "dev_dependencies",
-        Kind::Build => "build_dependencies",
+    if let Some(name) = section.other_name {
+        return Some((Fault::OtherTable, name));
     }
-}
-
-/// The first refusal of the dependencies of a table.
-fn entries_refusal<'a>(names: &'a [Named<'a>], section: &'a Section<'a>) -> Option<Refusal<'a>>
-    ensures { option_map refused result
-        ≡ first_refusal (entry_refusal (names_of names.now) (table_of section.now))
-        (table_of section.now).entries }
-{
     for (key, dependency) in section.entries {
-        let found = entry_refusal(names, section, key.as_str(), dependency);
-        if found.is_some() {
-            return found;
+        if let Some(refusal) = entry_refusal(names, section, key.as_str(), dependency) {
+            return Some(refusal);
         }
     }
     None
 }
 
-/// The refusal of a dependency. One with a path or a repository and no version is refused, unless
-/// it is a dev-dependency.
+/// The refusal of a dependency.
 fn entry_refusal<'a>(
     names: &'a [Named<'a>],
     section: &Section<'a>,
@@ -216,19 +164,25 @@ fn entry_refusal<'a>(
         (key.now, dependency_meaning dependency.now) }
 {
     if is_left(dependency) {
-        return refuse_if(true, Fault::Incomplete, key);
+        Some((Fault::Incomplete, key))
+    } else if has_other_flag(section, key, dependency) {
+        Some((Fault::OtherFlag, key))
+    } else if lacks_version(dependency) {
+        unversioned_refusal(section.kind, key)
+    } else {
+        let is_unknown = source_of(names, dependency).is_none();
+        is_unknown.then_some((Fault::NoAddress, key))
     }
-    if has_other_flag(section, key, dependency) {
-        return refuse_if(true, Fault::OtherFlag, key);
+}
+
+/// The refusal of one with a path or a repository and no version: none of a dev-dependency.
+fn unversioned_refusal(kind: Kind, key: &str) -> Option<Refusal<'_>>
+    ensures { option_map refused result ≡ unversioned_refusal kind key.now }
+{
+    match kind {
+        Kind::Normal | Kind::Build => Some((Fault::NoRequirement, key)),
+        Kind::Dev => None,
     }
-    if lacks_version(dependency) {
-        return refuse_if(!is_dev(section.kind), Fault::NoRequirement, key);
-    }
-    refuse_if(
-        source_of(names, dependency).is_none(),
-        Fault::NoAddress,
-        key,
-    )
 }
 
 /// Whether a dependency is left to the workspace.
@@ -250,15 +204,9 @@ fn keeps_other_flag(dependency: &Dependency) -> bool
     ensures { result ≡ keeps_other_flag (dependency_meaning dependency.now) }
 {
     match dependency {
-        Dependency::Detailed(detail) => has_key(&detail.unstable, "default_features"),
+        Dependency::Detailed(detail) => detail.unstable.contains_key("default_features"),
         _ => false,
     }
-}
-
-fn has_key(values: &BTreeMap<String, Value>, key: &str) -> bool
-    ensures { result ≡ list_any (λ e. bytes_eq key.now e.0) (map_meaning view values.now) }
-{
-    values.contains_key(key)
 }
 
 /// Whether a dependency has a path or a repository, and no version.
@@ -273,12 +221,6 @@ pub(super) fn lacks_version(dependency: &Dependency) -> bool
     }
 }
 
-fn is_dev(kind: Kind) -> bool
-    ensures { result ≡ is_dev kind }
-{
-    matches!(kind, Kind::Dev)
-}
-
 /// The refusal of a package that isn't published in the registry.
 fn publish_refusal(
     options: Options<'_>,
@@ -288,13 +230,11 @@ fn publish_refusal(
     ensures { option_map refused result ≡ publish_refusal (wanted_of options.entry)
         (table_view document.now) (inheritable_map publish_meaning publish.now) }
 {
-    match publish {
-        Inheritable::Set(publish) => {
-            let is_published = is_published(options, document, publish);
-            refuse_if(!is_published, Fault::NotPublished, "")
-        }
-        Inheritable::Inherited => refuse_if(true, Fault::Incomplete, "publish"),
-    }
+    let Inheritable::Set(publish) = publish else {
+        return Some((Fault::Incomplete, "publish"));
+    };
+    let is_published = is_published(options, document, publish);
+    (!is_published).then_some((Fault::NotPublished, ""))
 }
 
 fn is_published(options: Options<'_>, document: &Table, publish: &Publish) -> bool
@@ -337,7 +277,7 @@ fn features_refusal<'a>(findings: &'a [Finding<'a>]) -> Option<Refusal<'a>>
 {
     for finding in findings {
         if is_error(finding.code.level()) {
-            return refuse_if(true, Fault::Features, finding.feature);
+            return Some((Fault::Features, finding.feature));
         }
     }
     None

@@ -2,10 +2,9 @@
 ghost use Rattle.std.specs.Prelude.{◌≡◌, ◌++◌, ◌∷◌, [], IfOk, OnOk, map, option_map};
 ghost use Rattle.std.specs.Option.{option_copied};
 ghost use Rattle.toml.specs.View.{table_view, view};
-ghost use Rattle.cargo_toml.specs.Manifests.{held};
-ghost use Rattle.cargo_toml.specs.Targets.{target_meaning};
-ghost use Rattle.cargo_toml_dependencies.specs.Replacing.{entries_meaning};
-ghost use Rattle.cargo_toml_tools.specs.Indexed.{dependency_tables, has_other_name, place_of};
+ghost use Rattle.cargo_toml.specs.{Manifests.held, Targets.target_meaning};
+ghost use Rattle.cargo_toml_package.specs.Replacing.{entries_meaning};
+ghost use Rattle.cargo_toml_tools.specs.Indexed.{dependency_tables, name_in, other_name, place_of};
 ghost use Rattle.cargo_toml_tools.specs.Indexed.{section_in, table_at, table_in, table_name};
 ghost use Rattle.cargo_toml_tools.specs.Indexed.{target_tables, written_flag};
 ghost use Rattle.cargo_toml_tools.specs.Sections.{table_of};
@@ -23,16 +22,9 @@ pub(super) struct Section<'a> {
     pub target: Option<&'a str>,
     /// The table as it is written.
     pub written: Option<&'a Table>,
-    /// Whether one with `_` in its name is written, too.
-    pub has_other_name: bool,
+    /// The name with `_` under which one is written, too.
+    pub other_name: Option<&'static str>,
     pub entries: &'a DepsSet,
-}
-
-/// A package or a target, and the table in which its tables of dependencies are written.
-#[derive(Clone, Copy)]
-struct Place<'a> {
-    target: Option<&'a str>,
-    written: Option<&'a Table>,
 }
 
 /// All tables of dependencies of a manifest, which was read from this document: its own, and then
@@ -46,13 +38,16 @@ pub(super) fn sections<'a, M>(
         ≡ dependency_tables (table_view document.now) (held manifest.now)) }
 {
     let mut all = Vec::new(alloc);
-    let own = Place {
-        target: None,
-        written: Some(document),
-    };
-    push_section(&mut all, own, Kind::Normal, &manifest.dependencies)?;
-    push_section(&mut all, own, Kind::Dev, &manifest.dev_dependencies)?;
-    push_section(&mut all, own, Kind::Build, &manifest.build_dependencies)?;
+    let place = Some(document);
+    push_section(&mut all, None, place, Kind::Normal, &manifest.dependencies)?;
+    push_section(&mut all, None, place, Kind::Dev, &manifest.dev_dependencies)?;
+    push_section(
+        &mut all,
+        None,
+        place,
+        Kind::Build,
+        &manifest.build_dependencies,
+    )?;
     for (name, target) in &manifest.target {
         push_target(&mut all, document, name.as_str(), target)?;
     }
@@ -69,31 +64,35 @@ fn push_target<'a>(
     ensures { OnOk result (map table_of all.new.items ≡ map table_of all.old.items
         ++ target_tables (table_view document.now) (name.now, target_meaning target.now)) }
 {
-    let place = Place {
-        target: Some(name),
-        written: place_of(document, name),
-    };
-    push_section(all, place, Kind::Normal, &target.dependencies)?;
-    push_section(all, place, Kind::Build, &target.build_dependencies)?;
-    push_section(all, place, Kind::Dev, &target.dev_dependencies)
+    let place = place_of(document, name);
+    push_section(all, Some(name), place, Kind::Normal, &target.dependencies)?;
+    push_section(
+        all,
+        Some(name),
+        place,
+        Kind::Build,
+        &target.build_dependencies,
+    )?;
+    push_section(all, Some(name), place, Kind::Dev, &target.dev_dependencies)
 }
 
+/// Adds the table of a kind, which is written in this place, if it is.
 fn push_section<'a>(
     all: &mut Vec<Section<'a>>,
-    place: Place<'a>,
+    target: Option<&'a str>,
+    place: Option<&'a Table>,
     kind: Kind,
     entries: &'a DepsSet,
 ) -> Result<(), AllocError>
     ensures { OnOk result (map table_of all.new.items ≡ map table_of all.old.items
-        ++ table_at (option_copied place.entry.target)
-        (option_map (λ t. table_view t.now) place.entry.written)
+        ++ table_at (option_copied target.entry) (option_map (λ t. table_view t.now) place.entry)
         kind (entries_meaning entries.now) ∷ []) }
 {
     all.push(Section {
         kind,
-        target: place.target,
-        written: section_in(place.written, kind),
-        has_other_name: has_other_name(place.written, kind),
+        target,
+        written: section_in(place, kind),
+        other_name: other_name(place, kind),
         entries,
     })?;
     Ok(())
@@ -104,10 +103,7 @@ fn place_of<'a>(document: &'a Table, target: &str) -> Option<&'a Table>
     ensures { option_map (λ t. table_view t.now) result
         ≡ place_of (table_view document.now) target.now }
 {
-    match table_in(document, "target") {
-        Some(targets) => table_in(targets, target),
-        None => None,
-    }
+    table_in(table_in(document, "target")?, target)
 }
 
 /// The table of dependencies of a kind, as it is written.
@@ -115,20 +111,14 @@ fn section_in(place: Option<&Table>, kind: Kind) -> Option<&Table>
     ensures { option_map (λ t. table_view t.now) result
         ≡ section_in (option_map (λ t. table_view t.now) place.entry) kind }
 {
-    match place {
-        Some(place) => table_in(place, table_name(kind)),
-        None => None,
-    }
+    table_in(place?, table_name(kind))
 }
 
 /// The table of this key in another.
 pub(super) fn table_in<'a>(table: &'a Table, key: &str) -> Option<&'a Table>
     ensures { option_map (λ t. table_view t.now) result ≡ table_in key.now (table_view table.now) }
 {
-    match member(table, key) {
-        Some(value) => value.as_table(),
-        None => None,
-    }
+    member(table, key)?.as_table()
 }
 
 fn table_name(kind: Kind) -> &'static str
@@ -141,18 +131,24 @@ fn table_name(kind: Kind) -> &'static str
     }
 }
 
-/// Whether a table of the kind is written with `_` in its name.
-fn has_other_name(place: Option<&Table>, kind: Kind) -> bool
-    ensures { result ≡ has_other_name (option_map (λ t. table_view t.now) place.entry) kind }
+/// The name with `_` under which a table of the kind is written.
+fn other_name(place: Option<&Table>, kind: Kind) -> Option<&'static str>
+    ensures { option_copied result
+        ≡ other_name (option_map (λ t. table_view t.now) place.entry) kind }
 {
-    match place {
-        Some(place) => match kind {
-            Kind::Normal => false,
-            Kind::Dev => member(place, "dev_dependencies").is_some(),
-            Kind::Build => member(place, "build_dependencies").is_some(),
-        },
-        None => false,
+    match kind {
+        Kind::Normal => None,
+        Kind::Dev => name_in(place?, "dev_dependencies"),
+        Kind::Build => name_in(place?, "build_dependencies"),
     }
+}
+
+/// A name, where something is written under it.
+fn name_in(table: &Table, name: &'static str) -> Option<&'static str>
+    ensures { option_copied result ≡ name_in name.now (table_view table.now) }
+{
+    member(table, name)?;
+    Some(name)
 }
 
 impl<'a> Section<'a> {
@@ -161,8 +157,6 @@ impl<'a> Section<'a> {
         ensures { option_map (λ v. view v.now) result
             ≡ written_flag (table_of self.now).written dependency.now key.now }
     {
-        let written = self.written?;
-        let entry = table_in(written, dependency)?;
-        member(entry, key)
+        member(table_in(self.written?, dependency)?, key)
     }
 }

@@ -1,15 +1,10 @@
 //! Lists and maps of what can be written, and values that a workspace may give.
-ghost use Rattle.std.specs.Prelude.{ℕ, IfOk, List, map};
-ghost use Rattle.std.specs.List.Sorted.{IsStrictlySortedBy};
-ghost use Rattle.std.specs.Map.{keys_of};
-ghost use Rattle.std.specs.String.{string_cmp};
+ghost use Rattle.std.specs.Prelude.{ℕ, List, map};
 ghost use Rattle.cargo_toml_parts.specs.declared.inheritable.Inheritable.{Inheritable};
 ghost use Rattle.cargo_toml_parts.specs.Inherits.{inheritable_map};
 ghost use Rattle.cargo_toml_parts.specs.Reads.{map_meaning};
-ghost use Rattle.cargo_toml_write.specs.Lawful.{inheritable_lawful, list_lawful, map_lawful};
-ghost use Rattle.cargo_toml_write.specs.Pairs.{AreGathered};
-ghost use Rattle.cargo_toml_write.specs.Ways.{entry_rows, map_way, inheritable_way, inherited_tree};
-ghost use Rattle.cargo_toml_write.specs.Ways.{list_way, exactly};
+ghost use Rattle.cargo_toml_write.specs.Ways.{MakesTable};
+ghost use Rattle.cargo_toml_write.specs.Ways.{map_way, inheritable_way, left_way, list_way};
 ghost use Rattle.cargo_toml_write.specs.Writes.{IsWriting};
 
 use crate::write::{LeftOut, ToValue, put};
@@ -25,8 +20,6 @@ impl<T: ToValue> ToValue for Vec<T> {
     ghost meaning = { λ v. map T.meaning v.items };
 
     ghost way = { list_way T.way };
-
-    ghost lawful = { list_lawful T.way T.lawful };
 
     fn to_value(&self, alloc: Global) -> Result<Value, Error> {
         let mut values = Vec::with_capacity(alloc, self.len())?;
@@ -44,20 +37,16 @@ impl<T: ToValue> LeftOut for Vec<T> {
     }
 }
 
-// The keys of a map, each with the tree of its value.
-fn pairs_of<T: ToValue>(
-    alloc: Global,
-    map: &BTreeMap<String, T>,
-) -> Result<Vec<(String, Value)>, Error>
-    ensures rows { AreGathered (entry_rows T.way (map_meaning T.meaning map.now)) result }
-    ensures ascend { IfOk result (λ v. IsStrictlySortedBy string_cmp (keys_of v.items)) }
+// The table of a map: its keys, each with the tree of its value.
+pub(crate) fn table_of<T: ToValue>(alloc: Global, map: &BTreeMap<String, T>) -> Result<Table, Error>
+    ensures { MakesTable T.way (map_meaning T.meaning map.now) result }
 {
     let mut pairs = Vec::with_capacity(alloc, map.len())?;
     for (key, x) in map.iter() {
         let name = String::from_str(alloc, key.as_str())?;
         pairs.push((name, x.to_value(alloc)?))?;
     }
-    Ok(pairs)
+    Ok(map_of_pairs(alloc, pairs)?)
 }
 
 impl<T: ToValue> ToValue for BTreeMap<String, T> {
@@ -67,13 +56,8 @@ impl<T: ToValue> ToValue for BTreeMap<String, T> {
 
     ghost way = { map_way T.way };
 
-    ghost lawful = { map_lawful T.way T.lawful };
-
     fn to_value(&self, alloc: Global) -> Result<Value, Error> {
-        let _ascend = self.len();
-        let pairs = pairs_of(alloc, self)?;
-        let table = map_of_pairs(alloc, pairs)?;
-        Ok(Value::Table(table))
+        Ok(Value::Table(table_of(alloc, self)?))
     }
 }
 
@@ -86,7 +70,7 @@ impl<T: ToValue> LeftOut for BTreeMap<String, T> {
 
 /// The table `{ workspace = true }`, which says that the workspace gives a value.
 fn inherited_value(alloc: Global) -> Result<Value, Error>
-    ensures { IsWriting (exactly (λ x. x)) inherited_tree result }
+    ensures { IsWriting left_way tt result }
 {
     let mut table = Table::new(alloc);
     put(&mut table, alloc, "workspace", Value::Boolean(true))?;
@@ -100,8 +84,6 @@ impl<T: ToValue> ToValue for Inheritable<T> {
     ghost meaning = { inheritable_map T.meaning };
 
     ghost way = { inheritable_way T.way };
-
-    ghost lawful = { inheritable_lawful T.way T.lawful };
 
     fn to_value(&self, alloc: Global) -> Result<Value, Error> {
         match self {

@@ -1,28 +1,35 @@
-//! Writers of dependencies.
-ghost use Rattle.std.specs.Prelude.{◌≡◌, IfErr};
-ghost use Rattle.cargo_toml_dependencies.specs.Dependencies.{InheritedMeaning, DetailMeaning};
-ghost use Rattle.cargo_toml_dependencies.specs.Dependencies.{DependencyMeaning, inherited_meaning};
-ghost use Rattle.cargo_toml_dependencies.specs.Dependencies.{detail_meaning, dependency_meaning};
-ghost use Rattle.cargo_toml_dependencies.specs.Dependencies.{dependency_of};
-ghost use Rattle.cargo_toml_dependencies.specs.Targets.{TargetMeaning, target_meaning};
+//! Writers of dependencies, and of features, each with its detail.
+ghost use Rattle.std.specs.Prelude.{◌≡◌, IfErr, map, string_bytes};
 ghost use Rattle.cargo_toml_manifest.specs.Manifests.{target_reads};
+ghost use Rattle.cargo_toml_package.specs.Dependencies.{InheritedMeaning, DetailMeaning};
+ghost use Rattle.cargo_toml_package.specs.Dependencies.{DependencyMeaning, inherited_meaning};
+ghost use Rattle.cargo_toml_package.specs.Dependencies.{detail_meaning, dependency_meaning};
+ghost use Rattle.cargo_toml_package.specs.Dependencies.{dependency_of};
+ghost use Rattle.cargo_toml_package.specs.Details.{detail_of};
+ghost use Rattle.cargo_toml_package.specs.Features.{FeaturesMeaning, features_meaning};
+ghost use Rattle.cargo_toml_package.specs.Targets.{TargetMeaning, target_meaning};
+ghost use Rattle.cargo_toml_parts.specs.Reads.{map_meaning};
 ghost use Rattle.cargo_toml_parts.specs.declared.error.Error.{Error};
 ghost use Rattle.cargo_toml_write.specs.Asked.{TargetMeets};
-ghost use Rattle.cargo_toml_write.specs.Lawful.{dependency_lawful, detail_lawful, inherited_lawful};
-ghost use Rattle.cargo_toml_write.specs.Lawful.{target_lawful};
+ghost use Rattle.cargo_toml_write.specs.Ways.{MakesTable};
 ghost use Rattle.cargo_toml_write.specs.Reread.{reread_dependency, reread_target};
 ghost use Rattle.cargo_toml_write.specs.Writes.{IsWriting, IsReadAgain};
 ghost use Rattle.cargo_toml_write.specs.WrittenDependencies.{inherited_way, dependency_way};
 ghost use Rattle.cargo_toml_write.specs.WrittenDependencies.{detail_way, detail_reads, DetailAgain};
-ghost use Rattle.cargo_toml_write.specs.WrittenDependencies.{target_way};
-ghost use Rattle.cargo_toml_write.specs.WrittenDependencies.{inherited_reads, DependencyAgain};
+ghost use Rattle.cargo_toml_write.specs.WrittenDependencies.{target_way, inherited_reads};
+ghost use Rattle.cargo_toml_write.specs.WrittenDependencies.{DependencyAgain, feature_way};
+ghost use Rattle.cargo_toml_write.specs.WrittenDependencies.{detail_under, features_way};
+ghost use Rattle.cargo_toml_write.specs.WrittenDependencies.{told_features};
 
-use crate::write::ToValue;
 use crate::write::writing::Writing;
-use cargo_toml_dependencies::{Dependency, DependencyDetail, InheritedDependencyDetail, Target};
+use crate::write::{LeftOut, ToValue};
+use cargo_toml_package::{
+    Dependency, DependencyDetail, FeatureDetails, FeatureSet, InheritedDependencyDetail, Target,
+};
 use cargo_toml_parts::Error;
+use cargo_toml_parts::read::map_of_pairs;
 use std::alloc::Global;
-use toml::Value;
+use toml::{Table, Value};
 
 impl ToValue for InheritedDependencyDetail {
     ghost Meaning = { InheritedMeaning };
@@ -30,8 +37,6 @@ impl ToValue for InheritedDependencyDetail {
     ghost meaning = { inherited_meaning };
 
     ghost way = { inherited_way };
-
-    ghost lawful = { inherited_lawful };
 
     fn to_value(&self, alloc: Global) -> Result<Value, Error>
         ensures written { IsWriting inherited_way (inherited_meaning self.now) result }
@@ -55,8 +60,6 @@ impl ToValue for DependencyDetail {
 
     ghost way = { detail_way };
 
-    ghost lawful = { detail_lawful };
-
     fn to_value(&self, alloc: Global) -> Result<Value, Error>
         ensures written { IsWriting detail_way (detail_meaning self.now) result }
         ensures read_again { DetailAgain (detail_meaning self.now)
@@ -64,8 +67,7 @@ impl ToValue for DependencyDetail {
         ensures memory { detail_way.asks (detail_meaning self.now)
             → IfErr result (λ e. e ≡ Error.Memory) }
     {
-        let mut writing = Writing::new(alloc);
-        writing.entries(&self.unstable);
+        let mut writing = Writing::over(alloc, &self.unstable);
         writing.optional("version", &self.version);
         writing.optional("package", &self.package);
         writing.optional("registry", &self.registry);
@@ -88,8 +90,6 @@ impl ToValue for Dependency {
     ghost meaning = { dependency_meaning };
 
     ghost way = { dependency_way };
-
-    ghost lawful = { dependency_lawful };
 
     fn to_value(&self, alloc: Global) -> Result<Value, Error>
         ensures written { IsWriting dependency_way (dependency_meaning self.now) result }
@@ -114,8 +114,6 @@ impl ToValue for Target {
 
     ghost way = { target_way };
 
-    ghost lawful = { target_lawful };
-
     fn to_value(&self, alloc: Global) -> Result<Value, Error>
         ensures written { IsWriting target_way (target_meaning self.now) result }
         ensures read_again { TargetMeets (λ d. DependencyAgain (reread_dependency d))
@@ -129,5 +127,67 @@ impl ToValue for Target {
         writing.required("dev-dependencies", &self.dev_dependencies);
         writing.required("build-dependencies", &self.build_dependencies);
         writing.finish()
+    }
+}
+
+// The list of a feature, or its table where it has a detail.
+fn feature_value(
+    alloc: Global,
+    name: &String,
+    enables: &Vec<String>,
+    details: &FeatureDetails,
+) -> Result<Value, Error>
+    ensures { IsWriting feature_way (
+      map string_bytes enables.now.items,
+      detail_under (string_bytes name.now) (map_meaning detail_of details.now),
+    ) result }
+{
+    let Some(detail) = details.get(name.as_str()) else {
+        return enables.to_value(alloc);
+    };
+    let mut writing = Writing::new(alloc);
+    writing.given("enables", enables);
+    writing.flag("public", true, detail.public);
+    writing.optional("doc", &detail.doc);
+    writing.finish()
+}
+
+// The table of features: the name of each, with its tree.
+fn table_of(alloc: Global, lists: &FeatureSet, details: &FeatureDetails) -> Result<Table, Error>
+    ensures { MakesTable feature_way (told_features (features_meaning lists.now details.now))
+        result }
+{
+    let mut pairs = Vec::with_capacity(alloc, lists.len())?;
+    for (name, enables) in lists.iter() {
+        let key = String::from_str(alloc, name.as_str())?;
+        pairs.push((key, feature_value(alloc, name, enables, details)?))?;
+    }
+    Ok(map_of_pairs(alloc, pairs)?)
+}
+
+// The features of a manifest.
+#[derive(Drop)]
+pub(crate) struct Features<'m> {
+    pub(crate) lists: &'m FeatureSet,
+    pub(crate) details: &'m FeatureDetails,
+}
+
+impl ToValue for Features<'_> {
+    ghost Meaning = { FeaturesMeaning };
+
+    ghost meaning = { λ f. features_meaning f.lists.now f.details.now };
+
+    ghost way = { features_way };
+
+    fn to_value(&self, alloc: Global) -> Result<Value, Error> {
+        let _details_ascend = self.details.len();
+        Ok(Value::Table(table_of(alloc, self.lists, self.details)?))
+    }
+}
+
+/// Features are left out where there is none.
+impl LeftOut for Features<'_> {
+    fn is_left_out(&self) -> bool {
+        self.lists.is_empty()
     }
 }

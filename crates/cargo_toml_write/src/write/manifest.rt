@@ -3,7 +3,6 @@ ghost use Rattle.std.specs.Prelude.{◌≡◌, IfErr};
 ghost use Rattle.cargo_toml_manifest.specs.Manifests.{ManifestMeaning, manifest_meaning};
 ghost use Rattle.cargo_toml_manifest.specs.Manifests.{manifest_reads};
 ghost use Rattle.cargo_toml_parts.specs.declared.error.Error.{Error};
-ghost use Rattle.cargo_toml_write.specs.Lawful.{manifest_lawful};
 ghost use Rattle.cargo_toml_write.specs.Reread.{IsTold, reread};
 ghost use Rattle.cargo_toml_write.specs.Writes.{IsReadAgain, IsWriting};
 ghost use Rattle.cargo_toml_write.specs.WrittenDependencies.{AreTold, features_in};
@@ -11,7 +10,7 @@ ghost use Rattle.cargo_toml_write.specs.WrittenManifests.{all_features, manifest
 ghost use Rattle.cargo_toml_write.specs.WrittenPackages.{AreReadAgain};
 
 use crate::write::ToValue;
-use crate::write::feature::Features;
+use crate::write::dependency::Features;
 use crate::write::writing::Writing;
 use cargo_toml_manifest::Manifest;
 use cargo_toml_parts::{Error, FromValue};
@@ -31,8 +30,6 @@ impl<Metadata: FromValue + ToValue> ToValue for Manifest<Metadata> {
 
     ghost way = { manifest_way Metadata.way };
 
-    ghost lawful = { manifest_lawful Metadata.way Metadata.lawful };
-
     fn to_value(&self, alloc: Global) -> Result<Value, Error>
         ensures written { IsWriting (manifest_way Metadata.way)
             (manifest_meaning Metadata.ToValue.meaning self.now) result }
@@ -49,7 +46,10 @@ impl<Metadata: FromValue + ToValue> ToValue for Manifest<Metadata> {
             (manifest_meaning Metadata.ToValue.meaning self.now)
             → IfErr result (λ e. e ≡ Error.Memory) }
     {
-        let features = Features::of(&self.features, &self.feature_details);
+        let features = Features {
+            lists: &self.features,
+            details: &self.feature_details,
+        };
         let mut writing = Writing::new(alloc);
         writing.optional("package", &self.package);
         writing.optional("workspace", &self.workspace);

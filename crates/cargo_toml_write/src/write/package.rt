@@ -1,22 +1,27 @@
-//! The writers of packages, and of the templates of their fields.
-ghost use Rattle.std.specs.Prelude.{◌≡◌, IfErr};
-ghost use Rattle.semver.specs.Identifiers.{parts_of};
+//! The writers of packages, of the templates of their fields, and of workspaces.
+ghost use Rattle.std.specs.Prelude.{◌≡◌, IfErr, Option};
+ghost use Rattle.toml.specs.Data.{Data};
 ghost use Rattle.toml.specs.View.{view};
+ghost use Rattle.semver.specs.Identifiers.{parts_of};
 ghost use Rattle.cargo_toml_manifest.specs.Texts.{any_tree};
 ghost use Rattle.cargo_toml_package.specs.Packages.{PackageMeaning, package_meaning, package_reads};
 ghost use Rattle.cargo_toml_package.specs.Templates.{TemplateMeaning, template_meaning};
 ghost use Rattle.cargo_toml_package.specs.Templates.{template_reads};
-ghost use Rattle.cargo_toml_parts.specs.declared.error.Error.{Error};
+ghost use Rattle.cargo_toml_package.specs.Workspaces.{WorkspaceMeaning, workspace_meaning};
+ghost use Rattle.cargo_toml_package.specs.Workspaces.{workspace_reads};
 ghost use Rattle.cargo_toml_parts.specs.Inherits.{inheritable_map};
-ghost use Rattle.cargo_toml_write.specs.Lawful.{package_lawful, template_lawful};
+ghost use Rattle.cargo_toml_parts.specs.declared.error.Error.{Error};
+ghost use Rattle.cargo_toml_write.specs.Asked.{WorkspaceMeets};
+ghost use Rattle.cargo_toml_write.specs.Reread.{reread_workspace, told};
 ghost use Rattle.cargo_toml_write.specs.Ways.{free_way};
 ghost use Rattle.cargo_toml_write.specs.Writes.{IsWriting, IsReadAgain};
 ghost use Rattle.cargo_toml_write.specs.WrittenPackages.{package_way, MetadataAgain, TemplateAgain};
 ghost use Rattle.cargo_toml_write.specs.WrittenPackages.{VersionAgain, template_way, AreReadAgain};
+ghost use Rattle.cargo_toml_write.specs.WrittenPackages.{workspace_way};
 
 use crate::write::ToValue;
 use crate::write::writing::Writing;
-use cargo_toml_package::{Package, PackageTemplate};
+use cargo_toml_package::{Package, PackageTemplate, Workspace};
 use cargo_toml_parts::{Error, FromValue};
 use std::alloc::Global;
 use toml::Value;
@@ -30,8 +35,6 @@ impl<Metadata: FromValue + ToValue> ToValue for Package<Metadata> {
     ghost meaning = { package_meaning Metadata.ToValue.meaning };
 
     ghost way = { package_way Metadata.way };
-
-    ghost lawful = { package_lawful Metadata.way Metadata.lawful };
 
     fn to_value(&self, alloc: Global) -> Result<Value, Error>
         ensures written { IsWriting (package_way Metadata.way)
@@ -92,8 +95,6 @@ impl ToValue for PackageTemplate {
 
     ghost way = { template_way };
 
-    ghost lawful = { template_lawful };
-
     fn to_value(&self, alloc: Global) -> Result<Value, Error>
         ensures written { IsWriting template_way (template_meaning self.now) result }
         ensures read_again { TemplateAgain (template_meaning self.now)
@@ -117,6 +118,40 @@ impl ToValue for PackageTemplate {
         writing.optional("repository", &self.repository);
         writing.optional("rust-version", &self.rust_version);
         writing.optional("version", &self.version);
+        writing.finish()
+    }
+}
+
+/// The members are written even where there are none. A workspace that is told, as each that was
+/// read, is read again as `reread_workspace` says, by any reader that reads its metadata again.
+impl<Metadata: ToValue> ToValue for Workspace<Metadata> {
+    ghost Meaning = { WorkspaceMeaning Metadata.Meaning };
+
+    ghost meaning = { workspace_meaning Metadata.meaning };
+
+    ghost way = { workspace_way Metadata.way };
+
+    fn to_value(&self, alloc: Global) -> Result<Value, Error>
+        ensures written { IsWriting (workspace_way Metadata.way)
+            (workspace_meaning Metadata.meaning self.now) result }
+        ensures read_again { (reads : Data → Option Metadata.Meaning)
+            → AreReadAgain Metadata.way Metadata.meaning Metadata.meaning reads
+            → WorkspaceMeets told (workspace_meaning Metadata.meaning self.now)
+            → IsReadAgain (workspace_reads reads)
+            (reread_workspace (workspace_meaning Metadata.meaning self.now)) result }
+        ensures memory { (workspace_way Metadata.way).asks
+            (workspace_meaning Metadata.meaning self.now)
+            → IfErr result (λ e. e ≡ Error.Memory) }
+    {
+        let mut writing = Writing::new(alloc);
+        writing.required("members", &self.members);
+        writing.given("default-members", &self.default_members);
+        writing.optional("package", &self.package);
+        writing.given("exclude", &self.exclude);
+        writing.optional("metadata", &self.metadata);
+        writing.optional("resolver", &self.resolver);
+        writing.given("dependencies", &self.dependencies);
+        writing.given("lints", &self.lints);
         writing.finish()
     }
 }

@@ -3,15 +3,14 @@
 //! A type that is a table is written in a straight line: each key by a call, and then
 //! [`Writing::finish`], which is the only place where a fault comes out.
 ghost use Rattle.std.specs.Prelude.{◌≡◌, [], ◌∷◌, None, Some, option_map};
-ghost use Rattle.std.specs.BTreeMap.{IsOrdered};
-ghost use Rattle.std.specs.String.{string_cmp};
 ghost use Rattle.toml.specs.Data.{no_members};
 ghost use Rattle.toml.specs.View.{table_view};
 ghost use Rattle.cargo_toml_parts.specs.Reads.{map_meaning};
-ghost use Rattle.cargo_toml_write.specs.Ways.{entry_rows, flag_row};
-ghost use Rattle.cargo_toml_write.specs.Writes.{WritesRows};
-ghost use Rattle.cargo_toml_write.specs.Writes.{WritingEnds, optional_row, required_row, given_row};
+ghost use Rattle.cargo_toml_write.specs.Ways.{Begins, flag_row};
+ghost use Rattle.cargo_toml_write.specs.Writes.{WritesRows, WritingEnds, optional_row};
+ghost use Rattle.cargo_toml_write.specs.Writes.{required_row, given_row};
 
+use crate::write::collections::table_of;
 use crate::write::{LeftOut, ToValue, put};
 use cargo_toml_parts::Error;
 use std::alloc::Global;
@@ -41,6 +40,23 @@ impl Writing {
             alloc,
             table: Table::new(alloc),
             fault: None,
+        }
+    }
+
+    /// A writing that begins with the values of a map, each at its key.
+    pub fn over<T: ToValue>(alloc: Global, map: &BTreeMap<String, T>) -> Writing
+        ensures { Begins T.way (map_meaning T.meaning map.now) result.fault
+            (table_view result.table) }
+    {
+        match table_of(alloc, map) {
+            Ok(table) => Writing {
+                table,
+                ..Writing::new(alloc)
+            },
+            Err(fault) => Writing {
+                fault: Some(fault),
+                ..Writing::new(alloc)
+            },
         }
     }
 
@@ -89,26 +105,11 @@ impl Writing {
         }
     }
 
-    /// Writes each value of a map at its key, in the order of the keys.
-    pub fn entries<T: ToValue>(&mut self, map: &BTreeMap<String, T>)
-        ensures written { WritesRows (entry_rows T.way (map_meaning T.meaning map.now))
-            self.old self.new }
-        ensures ordered { IsOrdered string_cmp map.now }
-    {
-        for (key, x) in map.iter() {
-            self.required(key.as_str(), x);
-        }
-    }
-
     /// The table, unless a fault was met.
     pub fn finish(self) -> Result<Value, Error>
         ensures { WritingEnds self.fault (table_view self.table) result }
     {
-        let Writing {
-            alloc: _,
-            table,
-            fault,
-        } = self;
+        let Writing { table, fault, .. } = self;
         match fault {
             None => Ok(Value::Table(table)),
             Some(fault) => Err(fault),

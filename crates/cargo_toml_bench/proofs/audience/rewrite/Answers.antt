@@ -1,13 +1,9 @@
 use Rattle.std.proofs.Common.{arith, ℕ, List, Result, Err, inl, inr}
 use Rattle.std.proofs.lemmas.Result.{IfErr-weaker, IfOk-weaker, err_from_is_err_and}
 use Rattle.std.specs.Prelude.{IfErr, IfOk}
-use Rattle.toml.specs.View.{view}
-use Rattle.toml.specs.declared.value.Value.{Value}
-use Rattle.cargo_toml.specs.Error.{Error}
+use Rattle.toml.specs.{View.view, declared.value.Value.Value}
 use Rattle.cargo_toml.specs.Manifests.{ManifestMeaning, ManifestRefuses, manifest_reads, manifest_meaning}
-use Rattle.cargo_toml.specs.Texts.{IsFromBytes}
-use Rattle.cargo_toml.specs.Writes.{Way, IsWriting}
-use Rattle.cargo_toml.specs.WrittenManifests.{manifest_way}
+use Rattle.cargo_toml.specs.{Error.Error, Texts.IsFromBytes, Writes.Way, Writes.IsWriting, WrittenManifests.manifest_way}
 use Rattle.cargo_toml_bench.specs.Audiences.{AudienceRefuses, Refuses, audience_reads, IsRewrittenOwn, RefusesRewriting, audience_way}
 use Rattle.cargo_toml_bench.specs.declared.audience.Audience.{Audience}
 use Rattle.cargo_toml_bench.proofs.audience.rewrite.Goals as goal

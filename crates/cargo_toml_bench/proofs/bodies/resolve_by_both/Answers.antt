@@ -1,13 +1,7 @@
 use Rattle.std.proofs.Common.{rules, ℕ, Bool, IsTrue}
-use Rattle.cargo_toml.specs.Action.{Text}
-use Rattle.cargo_toml.specs.Admitted.{admitted}
 use Rattle.cargo_toml.specs.Manifests.{ManifestMeaning, manifest_meaning}
-use Rattle.cargo_toml.specs.OwnBins.{own_of}
 use Rattle.cargo_toml.specs.Parsed.{IsParsed, parsed_entries, parsed_table, requirements}
-use Rattle.cargo_toml.specs.Removal.{is_removed}
-use Rattle.cargo_toml.specs.Resolved.{Answer}
-use Rattle.cargo_toml.specs.Limits.{MAX_ITEMS}
-use Rattle.cargo_toml.specs.Views.{answer_of}
+use Rattle.cargo_toml.specs.{Action.Text, Admitted.admitted, OwnBins.own_of, Removal.is_removed, Resolved.Answer, Limits.MAX_ITEMS, Views.answer_of}
 use Rattle.cargo_toml_graph.proofs.InByteOrder.{passed_once}
 use Rattle.cargo_toml_features.proofs.Agreement.{settled}
 use Rattle.cargo_toml_bench.specs.Alike.{AreAlike}

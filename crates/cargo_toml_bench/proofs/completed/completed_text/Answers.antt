@@ -1,18 +1,10 @@
 use Rattle.std.proofs.Common.{arith, IfSome, Option, Some, option_map, string_bytes, subst, sym}
 use Rattle.std.proofs.lemmas.Result.{IfOk-weaker}
-use Rattle.toml.specs.Parse.{parse_document}
-use Rattle.toml.specs.View.{view}
-use Rattle.toml.specs.declared.value.Value.{Value}
-use Rattle.cargo_toml.specs.Asked.{WorkspaceMeets}
-use Rattle.cargo_toml.specs.Choosing.{from}
-use Rattle.cargo_toml.specs.Manifest.{Manifest}
-use Rattle.cargo_toml.specs.Manifests.{held, manifest_meaning}
-use Rattle.cargo_toml.specs.Reread.{SharedIsTold, told}
-use Rattle.cargo_toml.specs.Sharing.{shared_of}
-use Rattle.cargo_toml_package.specs.declared.workspace.Workspace.{Workspace}
-use Rattle.cargo_toml_package.specs.Workspaces.{workspace_meaning}
-use Rattle.cargo_toml_bench.specs.Printing.{Spells}
-use Rattle.cargo_toml_bench.specs.Versioned.{IsPrinted}
+use Rattle.toml.specs.{Parse.parse_document, View.view, declared.value.Value.Value}
+use Rattle.cargo_toml.specs.{Asked.WorkspaceMeets, Choosing.from, Manifest.Manifest, Manifests.held, Manifests.manifest_meaning, Reread.SharedIsTold}
+use Rattle.cargo_toml.specs.{Reread.told, Sharing.shared_of}
+use Rattle.cargo_toml_package.specs.{declared.workspace.Workspace.Workspace, Workspaces.workspace_meaning}
+use Rattle.cargo_toml_bench.specs.{Printing.Spells, Versioned.IsPrinted}
 use Rattle.cargo_toml_bench.proofs.completed.completed_text.Goals as goal
 
 -- what a workspace that is told gives is told

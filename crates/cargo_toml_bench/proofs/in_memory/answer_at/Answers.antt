@@ -1,5 +1,4 @@
-use Rattle.std.proofs.Common.{arith}
-use Rattle.std.proofs.lemmas.Grind.{common_steps}
+use Rattle.std.{proofs.Common.arith, proofs.lemmas.Grind.common_steps}
 use Rattle.cargo_toml_bench.proofs.ToldAt.{told_at-drop}
 use Rattle.cargo_toml_bench.proofs.in_memory.answer_at.Goals as goal
 

@@ -1,9 +1,7 @@
 use Rattle.std.proofs.Common.{◌≡◌, ℕ, Bool, true, cond, ◌||◌, List, [], ◌∷◌, ◌++◌, map, take, get_or, length, ◌+◌, ◌<◌, sym, arith, string_bytes}
 use Rattle.std.proofs.Math.Bool.{or-false, or_assoc}
-use Rattle.std.proofs.lemmas.List.{take_more, map_push}
-use Rattle.std.proofs.lemmas.Map.Text.{hash_set_updates_text}
-use Rattle.std.specs.Str.{bytes_eq}
-use Rattle.std.specs.List.{list_any}
+use Rattle.std.proofs.lemmas.{List.take_more, List.map_push, Map.Text.hash_set_updates_text}
+use Rattle.std.specs.{Str.bytes_eq, List.list_any}
 use Rattle.cargo_toml_graph.proofs.Texts.{bytes_eq_sym}
 use Rattle.cargo_toml_bench.proofs.in_memory.set_of.Goals as goal
 

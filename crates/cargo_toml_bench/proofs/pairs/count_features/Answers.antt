@@ -1,27 +1,12 @@
 use Rattle.std.proofs.Common.{arith, ◌≡◌, ℕ, false, Option, Some, None, Result, Ok, IsSome, IfSome, Bor, sym, subst, ◌||◌, List, [], ◌∷◌, map, bytes_eq, is_some, refl, ap, inl, inr, ◌∙◌}
-use Rattle.std.proofs.lemmas.Bool.{false≢true}
-use Rattle.std.proofs.lemmas.List.{length-map}
-use Rattle.std.proofs.lemmas.Map.Made.{is_some-lookup}
-use Rattle.std.proofs.lemmas.Slice.Eq.{bytes_eq-Decides}
-use Rattle.std.specs.HashMap.{HashMap, IsUnique, hash_map_len}
-use Rattle.std.specs.List.{AllByRecursion, IsDistinct, list_any}
-use Rattle.cargo_toml.specs.Error.{Error}
-use Rattle.cargo_toml.specs.Filter.{Asked}
-use Rattle.cargo_toml.specs.Completing.{Outcome}
-use Rattle.cargo_toml.specs.Lent.{IsLeft, IsResolvedAfter, with_lent}
-use Rattle.cargo_toml.specs.Limits.{MAX_ITEMS}
-use Rattle.cargo_toml.specs.Manifest.{Manifest}
-use Rattle.cargo_toml.specs.Manifests.{ManifestMeaning, held}
-use Rattle.cargo_toml.specs.Parsed.{IsParsed, IsParsedBy, parsed_table}
-use Rattle.cargo_toml.specs.Views.{answer_of, resolution_of, value_at}
-use Rattle.cargo_toml.specs.Action.{Text}
-use Rattle.cargo_toml.specs.Feature.{Feature}
-use Rattle.cargo_toml.specs.Graph.{IsResolved}
-use Rattle.cargo_toml.specs.Reach.{Among, IsOnce}
+use Rattle.std.proofs.lemmas.{Bool.false≢true, List.length-map, Map.Made.is_some-lookup, Slice.Eq.bytes_eq-Decides}
+use Rattle.std.specs.{HashMap.HashMap, HashMap.IsUnique, HashMap.hash_map_len, List.AllByRecursion, List.IsDistinct, List.list_any}
+use Rattle.cargo_toml.specs.{Error.Error, Filter.Asked, Completing.Outcome, Lent.IsLeft, Lent.IsResolvedAfter, Lent.with_lent, Limits.MAX_ITEMS}
+use Rattle.cargo_toml.specs.{Manifest.Manifest, Manifests.ManifestMeaning, Manifests.held, Parsed.IsParsed, Parsed.IsParsedBy, Parsed.parsed_table}
+use Rattle.cargo_toml.specs.{Views.answer_of, Views.resolution_of, Views.value_at, Action.Text, Feature.Feature, Graph.IsResolved, Reach.Among, Reach.IsOnce}
 use Rattle.cargo_toml_features.specs.declared.features.Features.{Features}
 use Rattle.cargo_toml_bench.proofs.Asked.{keeps_none, parsed_at}
-use Rattle.cargo_toml_graph.specs.Removal.{lists_text}
-use Rattle.cargo_toml_graph.proofs.BinLists.{among-true, is_among-true}
+use Rattle.cargo_toml_graph.{specs.Removal.lists_text, proofs.BinLists.among-true, proofs.BinLists.is_among-true}
 use Rattle.cargo_toml_resolve.specs.Texts.{texts_now}
 use Rattle.cargo_toml_bench.specs.Pairs.{IsFeatureCount, IsHidden}
 use Rattle.cargo_toml_bench.proofs.pairs.count_features.Goals as goal

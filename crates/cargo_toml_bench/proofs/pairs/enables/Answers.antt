@@ -1,19 +1,9 @@
 use Rattle.std.proofs.Common.{arith, ◌≡◌, ◌↔◌, Bool, false, Bor, IsTrue, Some, None, is_some, sym, ap, ◌∙◌, true}
-use Rattle.std.specs.HashMap.{HashMap}
-use Rattle.std.specs.Option.{option_copied}
-use Rattle.cargo_toml.specs.Action.{Text}
-use Rattle.cargo_toml.specs.Feature.{Feature}
-use Rattle.cargo_toml.specs.Graph.{Table, IsResolved}
-use Rattle.cargo_toml.specs.Reached.{AreEnabled, Found, IsKeyed}
-use Rattle.cargo_toml.specs.Views.{resolution_of, value_at}
-use Rattle.cargo_toml.specs.Limits.{MAX_ITEMS}
-use Rattle.cargo_toml.specs.Manifests.{manifest_meaning}
-use Rattle.cargo_toml.specs.Parsed.{parsed_table}
-use Rattle.cargo_toml.specs.Removal.{is_removed}
-use Rattle.cargo_toml_features.proofs.Pending.{key_of}
-use Rattle.cargo_toml_features.proofs.Unremoved.{enables_in, enables_out, held}
-use Rattle.cargo_toml_bench.specs.Pairs.{HasEnabling}
-use Rattle.cargo_toml_bench.proofs.Unreferenced.{nothing_removed}
+use Rattle.std.specs.{HashMap.HashMap, Option.option_copied}
+use Rattle.cargo_toml.specs.{Action.Text, Feature.Feature, Graph.Table, Graph.IsResolved, Reached.AreEnabled, Reached.Found, Reached.IsKeyed}
+use Rattle.cargo_toml.specs.{Views.resolution_of, Views.value_at, Limits.MAX_ITEMS, Manifests.manifest_meaning, Parsed.parsed_table, Removal.is_removed}
+use Rattle.cargo_toml_features.proofs.{Pending.key_of, NoneRemoved.enables_in, NoneRemoved.enables_out, NoneRemoved.held}
+use Rattle.cargo_toml_bench.{specs.Pairs.HasEnabling, proofs.Unreferenced.nothing_removed}
 use Rattle.cargo_toml_bench.proofs.pairs.enables.Goals as goal
 
 -- What the walk over a map of features tells, where none is removed, is what the table tells.

@@ -1,16 +1,8 @@
-use Rattle.std.proofs.Common.{◌≡◌, ◌↔◌, false, [], map, IsTrue, Some}
-use Rattle.std.proofs.Common.{None, is_some, sym, ap, ◌∙◌}
+use Rattle.std.proofs.Common.{◌≡◌, ◌↔◌, false, [], map, IsTrue, Some, None, is_some, sym, ap, ◌∙◌}
 use Rattle.std.proofs.lemmas.Bool.{false≢true}
-use Rattle.std.specs.HashMap.{HashMap}
-use Rattle.std.specs.Option.{option_copied, option_map_or}
-use Rattle.std.specs.Borrow.{Bor}
-use Rattle.cargo_toml.specs.Action.{Text}
-use Rattle.cargo_toml.specs.Admitted.{admitted}
-use Rattle.cargo_toml.specs.Feature.{Feature}
-use Rattle.cargo_toml.specs.Graph.{Table, IsResolved}
-use Rattle.cargo_toml.specs.Limits.{MAX_ITEMS}
-use Rattle.cargo_toml.specs.Resolved.{table_of}
+use Rattle.std.specs.{HashMap.HashMap, Option.option_copied, Option.option_map_or, Borrow.Bor}
 use Rattle.cargo_toml.specs.Views.{answer_of, entry_of, set_has, resolution_of, value_at}
+use Rattle.cargo_toml.specs.{Action.Text, Admitted.admitted, Feature.Feature, Graph.Table, Graph.IsResolved, Limits.MAX_ITEMS, Resolved.table_of}
 use Rattle.cargo_toml_bench.specs.Pairs.{IsHidden, LeavesName}
 use Rattle.cargo_toml_bench.proofs.Asked.{answered_at, keeps_none}
 use Rattle.cargo_toml_bench.proofs.pairs.is_named.Goals as goal

@@ -1,13 +1,7 @@
 use Rattle.std.proofs.Common.{◌≡◌, List, [], ◌∷◌, option_map, Some, None, refl, sym, ap, subst, ◌∙◌}
 use Rattle.std.specs.Option.{option_copied}
-use Rattle.cargo_toml.specs.Admitted.{admitted}
-use Rattle.cargo_toml.specs.Dependencies.{is_optional}
-use Rattle.cargo_toml.specs.Limits.{MAX_ITEMS}
-use Rattle.cargo_toml.specs.Manifests.{held}
-use Rattle.cargo_toml.specs.Parsed.{parsed_entries}
-use Rattle.cargo_toml.specs.Recorded.{Entry, entries_at, first_target, recorded_of}
-use Rattle.cargo_toml.specs.Resolved.{SameRecorded}
-use Rattle.cargo_toml.specs.Views.{recorded_in, value_at}
+use Rattle.cargo_toml.specs.{Admitted.admitted, Dependencies.is_optional, Limits.MAX_ITEMS, Manifests.held, Parsed.parsed_entries, Recorded.Entry}
+use Rattle.cargo_toml.specs.{Recorded.entries_at, Recorded.first_target, Recorded.recorded_of, Resolved.SameRecorded, Views.recorded_in, Views.value_at}
 use Rattle.cargo_toml_bench.proofs.pairs.is_optional_at.Goals as goal
 
 -- where nothing is recorded of entries, there is no first

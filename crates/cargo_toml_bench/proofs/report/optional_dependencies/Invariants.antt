@@ -1,7 +1,5 @@
 use Rattle.std.proofs.Common.{◌≡◌, ◌++◌, map, String, string_bytes, Global}
-use Rattle.cargo_toml.specs.Action.{Text}
-use Rattle.cargo_toml.specs.Dependency.{Dependency}
-use Rattle.cargo_toml.specs.Dependencies.{DependencyMeaning, dependency_meaning}
+use Rattle.cargo_toml.specs.{Action.Text, Dependency.Dependency, Dependencies.DependencyMeaning, Dependencies.dependency_meaning}
 use Rattle.cargo_toml_bench.specs.Reports.{texts, optional_keys}
 use Rattle.cargo_toml_bench.proofs.report.optional_dependencies.Given as goal
 

@@ -1,13 +1,8 @@
 use Rattle.std.proofs.Common.{◌≡◌, ◌∙◌, Some, ap, subst}
-use Rattle.toml.specs.Data.{Data, table}
-use Rattle.toml.specs.View.{view, table_view}
+use Rattle.toml.specs.{Data.Data, Data.table, View.view, View.table_view}
 use Rattle.toml.proofs.Views.{view-Table}
-use Rattle.cargo_toml.specs.Floats.{without_floats}
-use Rattle.cargo_toml.specs.Manifests.{manifest_meaning, manifest_reads}
-use Rattle.cargo_toml.specs.Reread.{reread}
-use Rattle.cargo_toml.specs.Texts.{any_tree, document_reads}
-use Rattle.cargo_toml.specs.Ways.{free_way}
-use Rattle.cargo_toml.specs.WrittenManifests.{manifest_way}
+use Rattle.cargo_toml.specs.{Floats.without_floats, Manifests.manifest_meaning, Manifests.manifest_reads, Reread.reread, Texts.any_tree, Texts.document_reads}
+use Rattle.cargo_toml.specs.{Ways.free_way, WrittenManifests.manifest_way}
 use Rattle.cargo_toml_bench.proofs.versioned.manifest_text.Goals as goal
 
 pub returns-in-Ok : goal.returns-in-Ok

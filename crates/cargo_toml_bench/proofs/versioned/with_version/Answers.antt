@@ -1,21 +1,11 @@
 use Rattle.std.proofs.Common.{arith, ◌≡◌, ◌∙◌, ap, false, Option, IfSome, option_map, subst, sym, string_bytes}
 use Rattle.std.proofs.lemmas.Result.{IfOk-weaker}
-use Rattle.semver.specs.Identifiers.{parts_of}
-use Rattle.semver.specs.declared.Version.{Version}
-use Rattle.toml.specs.Data.{Data}
-use Rattle.toml.specs.View.{view}
-use Rattle.toml.specs.declared.value.Value.{Value}
-use Rattle.toml.specs.Parse.{parse_document}
-use Rattle.cargo_toml.specs.Inheritable.TheVariants.{Set}
-use Rattle.cargo_toml.specs.Manifest.{Manifest}
+use Rattle.semver.specs.{Identifiers.parts_of, declared.Version.Version}
+use Rattle.toml.specs.{Data.Data, View.view, declared.value.Value.Value, Parse.parse_document}
 use Rattle.cargo_toml.specs.Manifests.{ManifestMeaning, by_zero_rule, is_zero, manifest_meaning}
-use Rattle.cargo_toml.specs.Package.{Package}
-use Rattle.cargo_toml.specs.Packages.{PackageMeaning, package_meaning}
-use Rattle.cargo_toml.specs.Reread.{IsTold, reread}
-use Rattle.cargo_toml.specs.Versions.{Parts}
-use Rattle.cargo_toml.specs.WrittenPackages.{IsVersionAgain, VersionAgain}
-use Rattle.cargo_toml_bench.specs.Versioned.{with_version, IsPrinted, IsVersioned}
-use Rattle.cargo_toml_bench.specs.Printing.{Spells}
+use Rattle.cargo_toml.specs.{Inheritable.TheVariants.Set, Manifest.Manifest, Package.Package, Packages.PackageMeaning, Packages.package_meaning, Reread.IsTold}
+use Rattle.cargo_toml.specs.{Reread.reread, Versions.Parts, WrittenPackages.IsVersionAgain, WrittenPackages.VersionAgain}
+use Rattle.cargo_toml_bench.specs.{Versioned.with_version, Versioned.IsPrinted, Versioned.IsVersioned, Printing.Spells}
 use Rattle.cargo_toml_bench.proofs.versioned.with_version.Goals as goal
 
 -- A manifest with another version of its package: it is still told, and read again as it is.

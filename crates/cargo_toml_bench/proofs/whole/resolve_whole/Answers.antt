@@ -1,9 +1,5 @@
-use Rattle.std.proofs.Common.{true}
-use Rattle.std.proofs.lemmas.Result.{IfOk-weaker}
-use Rattle.cargo_toml.specs.Limits.{MAX_ITEMS}
-use Rattle.cargo_toml.specs.Manifests.{manifest_meaning}
-use Rattle.cargo_toml.specs.Parsed.{IsParsed}
-use Rattle.cargo_toml.specs.Views.{answer_of}
+use Rattle.std.{proofs.Common.true, proofs.lemmas.Result.IfOk-weaker}
+use Rattle.cargo_toml.specs.{Limits.MAX_ITEMS, Manifests.manifest_meaning, Parsed.IsParsed, Views.answer_of}
 use Rattle.cargo_toml_bench.proofs.whole.resolve_whole.Goals as goal
 
 pub returns-clause-resolved : goal.returns-clause-resolved

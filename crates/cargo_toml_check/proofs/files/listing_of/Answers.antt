@@ -1,12 +1,20 @@
-use Rattle.std.proofs.Common.{Bool, false}
+use Rattle.std.proofs.Common.{Bool, false, rules}
+use Rattle.std.proofs.lemmas.Result.{err_from_is_err_and}
+use Rattle.serde_json.specs.View.{view}
 use Rattle.cargo_toml.specs.Action.{Text}
 use Rattle.cargo_toml.specs.Manifests.{held}
 use Rattle.cargo_toml.specs.Views.{answer_of}
+use Rattle.cargo_toml_discovery.proofs.Faults.{from_input}
 use Rattle.cargo_toml_lint.proofs.Resolving.{parsed_at, tells_of}
 use Rattle.cargo_toml_check.proofs.files.listing_of.Goals as goal
 
-pub returns : goal.returns
-returns g c =
+pub returns-in_err-state-clause-refused : goal.returns-in_err-state-clause-refused
+returns-in_err-state-clause-refused g c =
+    let p = err_from_is_err_and c.from_residual.result c.from_residual.ensures.1 in
+    rw p.1 (from_input _ p.0 p.2)
+
+pub returns-clause-listed : goal.returns-clause-listed
+returns-clause-listed g c =
     let m = held c.args.manifest.now in
     let made = c.new_with_hasher_and_filter-resolver.ensures in
     let keep : Text → Bool = λ x. false in
@@ -14,5 +22,7 @@ returns g c =
     record {
       features = c.in_ok-features.features;
       resolved = parsed_at keep (answer_of c.in_ok-features.features) made.limit m (c.in_ok-features.ensures.resolved.told keep tells);
-      exact = c.in_ok-features_json.ensures;
+      listing = view c.in_ok-listing.listing;
+      exact = c.in_ok-listing.ensures;
+      printed = c.in_ok-to_string.ensures.order;
     }

@@ -1,5 +1,5 @@
 use Rattle.std.proofs.Common.{◌∙◌}
-use Rattle.cargo_toml_discovery.proofs.Paths.{inserted, has_this}
+use Rattle.cargo_toml_discovery.proofs.Placed.{inserted, has_this}
 use Rattle.cargo_toml_discovery.proofs.found.add_path.Goals as goal
 
 pub returns-in_ok-insert : goal.returns-in_ok-insert

@@ -1,10 +1,10 @@
 use Rattle.std.proofs.Common.{◌≡◌, ◌++◌, map, sym, ap, ◌∙◌, List, [], Option, Some, None, refl, filter, append-nil, option_to_list}
 use Rattle.std.specs.List.{cons_option}
-use Rattle.cargo_toml_discovery.proofs.{Ascend.offers-same, Ascend.walk-found, Walks.walk-same}
+use Rattle.cargo_toml_discovery.proofs.{Ascend.offers-same, Ascend.walk-found, Placed.walk-same}
 use Rattle.cargo_toml_discovery.specs.Found.{has_path, is_path_of, last_waiting, offers, Offered}
 use Rattle.cargo_toml_discovery.specs.Sorting.{in_order}
 use Rattle.cargo_toml_discovery.specs.Walk.{with_extra, walk, walked, waiting_in, is_path_in, named_of}
-use Rattle.cargo_toml_tables.specs.Products.{product_meaning, ProductMeaning}
+use Rattle.cargo_toml_parts.specs.Products.{product_meaning, ProductMeaning}
 use Rattle.cargo_toml_discovery.specs.declared.found.Placing as code
 use Rattle.cargo_toml_discovery.proofs.found.found.Goals as goal
 
@@ -25,10 +25,10 @@ returns c = λ x is.
       still = c.in_ok-waiting.field-0;
     } in
     let start = waiting_in c.in_ok-waiting.field-0 in
-    let last = c.in_ok-place_if_there.ensures.ok x [] is in
+    let last = c.in_ok-place.ensures.ok x [] is in
     let before = c.in_ok-place_all.ensures.ok (option_to_list x) in
     let placed =
-    sym (append-nil (map product_meaning c.place_if_there.new.placing.list.items)) ∙ last
+    sym (append-nil (map product_meaning c.place.new.placing.list.items)) ∙ last
     ∙ ap (λ (qs : List Offered). walked c.place_all.new.placing qs) (option-cons x)
     ∙ before
     ∙ ap (λ (qs : List Offered). walked first (with_extra qs x)) (offers-same folder (is_path_in c.in_ok-paths.paths) (is_path_of ps) c.in_ok-paths.ensures es)

@@ -20,6 +20,6 @@ pub loop-entry-preserved : goal.loop-entry-preserved
 loop-entry-preserved c = λ os.
     let i = c.loop-entry.entry-index in
     let rest = offers c.args.folder.now (is_path_in c.args.paths.now) (map named_of (drop (i + 1) c.args.entries.now)) ++ os in
-    c.in_ok-place_if_there.ensures.ok _ rest c.in_ok-offer.ensures
+    c.in_ok-place.ensures.ok _ rest c.in_ok-offer.ensures
     ∙ ap (λ (xs : List Offered). walked c.loop-entry.placing xs) (sym (offers_next _ c.args.entries.now i _ os c.loop-entry-test.true))
     ∙ c.loop-entry.invariant os

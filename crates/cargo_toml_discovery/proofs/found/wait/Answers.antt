@@ -1,6 +1,6 @@
 use Rattle.std.proofs.Common.{ap, not, ◌∙◌, Some}
 use Rattle.std.proofs.lemmas.Map.Text.{btree_map_updates_str}
-use Rattle.cargo_toml_discovery.proofs.LastWaiting.{waits-step}
+use Rattle.cargo_toml_discovery.proofs.Placed.{waits-step}
 use Rattle.cargo_toml_discovery.proofs.found.wait.Goals as goal
 
 pub returns-in_ok-insert : goal.returns-in_ok-insert

@@ -1,6 +1,6 @@
 use Rattle.std.proofs.Common.{arith, ap, sym, ◌∙◌}
-use Rattle.cargo_toml_discovery.{proofs.LastWaiting.last_waiting-more, specs.Found.waits_or}
-use Rattle.cargo_toml_tables.specs.Products.{product_meaning}
+use Rattle.cargo_toml_discovery.{proofs.Placed.last_waiting-more, specs.Found.waits_or}
+use Rattle.cargo_toml_parts.specs.Products.{product_meaning}
 use Rattle.cargo_toml_discovery.proofs.found.waiting.Goals as goal
 
 pub loop-product-preserved : goal.loop-product-preserved

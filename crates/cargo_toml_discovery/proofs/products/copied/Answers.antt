@@ -1,9 +1,9 @@
 use Rattle.std.proofs.Common.{◌≡◌, string_bytes, Option, Some, None, refl, ap}
 use Rattle.std.proofs.lemmas.Result.{MatchResult-weaker}
 use Rattle.cargo_toml_parts.proofs.SameCopies.{IsOptionCopy, option_same, zip_same}
-use Rattle.cargo_toml_tables.specs.Products.{product_meaning}
-use Rattle.cargo_toml_tables.specs.contracts.product.ProductClone.TheImpl as clone
-use Rattle.cargo_toml_tables.specs.declared.product.Product as code
+use Rattle.cargo_toml_parts.specs.Products.{product_meaning}
+use Rattle.cargo_toml_parts.specs.contracts.product.ProductClone.TheImpl as clone
+use Rattle.cargo_toml_parts.specs.declared.product.Product as code
 use Rattle.cargo_toml_discovery.proofs.products.copied.Goals as goal
 
 itself : {X : Type 0} (x y : Option X) → IsOptionCopy (λ a b. b ≡ a) x y → y ≡ x

@@ -1,8 +1,6 @@
 use Rattle.std.proofs.Common.{rules, ◌≡◌, Some, ap, map, option_map, string_bytes}
-use Rattle.std.proofs.lemmas.Map.Iter.{hash_map_turn, iter_end}
-use Rattle.std.specs.{Cmp.Lexicographic.on_texts_equal, Map.Iter.deref_pair}
-use Rattle.cargo_toml_features.specs.Hashed.{actions_at}
-use Rattle.cargo_toml_features.proofs.Hashed.{all_put, one_put}
+use Rattle.std.{proofs.lemmas.Map.Iter.hash_map_turn, proofs.lemmas.Map.Iter.iter_end, specs.Cmp.Lexicographic.on_texts_equal, specs.Map.Iter.deref_pair}
+use Rattle.cargo_toml_features.{specs.Hashed.actions_at, proofs.Listings.all_put, proofs.Listings.one_put}
 use Rattle.cargo_toml_features.proofs.admit.in_order.Goals as goal
 
 pub loop-name-preserved : goal.loop-name-preserved

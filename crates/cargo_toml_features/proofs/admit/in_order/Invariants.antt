@@ -1,4 +1,4 @@
-use Rattle.cargo_toml_features.proofs.Hashed.{IsPut}
+use Rattle.cargo_toml_features.proofs.Listings.{IsPut}
 use Rattle.cargo_toml_features.proofs.admit.in_order.Given as goal
 
 abbrev pub invariant-loop-name : goal.invariant-loop-name

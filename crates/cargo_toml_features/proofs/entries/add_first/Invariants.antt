@@ -1,7 +1,7 @@
 use Rattle.std.proofs.Common.{◌≡◌, ◌++◌, map, string_bytes}
 use Rattle.std.specs.Option.{option_copied}
 use Rattle.cargo_toml_parts.specs.Reads.{map_meaning}
-use Rattle.cargo_toml_dependencies.specs.Dependencies.{dependency_meaning}
+use Rattle.cargo_toml_package.specs.Dependencies.{dependency_meaning}
 use Rattle.cargo_toml_features.specs.{Entries.first_entries, Views.entry_of}
 use Rattle.cargo_toml_features.proofs.entries.add_first.Given as goal
 

@@ -1,7 +1,7 @@
 use Rattle.std.proofs.Common.{◌≡◌, ◌++◌, map, string_bytes, Some}
 use Rattle.std.specs.List.{flat_map}
 use Rattle.cargo_toml_parts.specs.Reads.{map_meaning}
-use Rattle.cargo_toml_dependencies.specs.Targets.{TargetMeaning, target_meaning}
+use Rattle.cargo_toml_package.specs.Targets.{TargetMeaning, target_meaning}
 use Rattle.cargo_toml_graph.specs.Action.{Text}
 use Rattle.cargo_toml_features.specs.{Entries.dev_entries, Views.entry_of}
 use Rattle.cargo_toml_features.proofs.entries.add_targets_dev.Given as goal

@@ -1,6 +1,6 @@
-use Rattle.std.proofs.{Common.rules, Common.◌≡◌, Common.map, lemmas.Map.Iter.iter_end}
-use Rattle.std.specs.Map.Iter.{deref_pair}
-use Rattle.cargo_toml_features.proofs.Pairs.{listed_one, listed_none, pairs_more, still_no_empty, all_listed}
+use Rattle.std.proofs.Common.{rules, ◌≡◌, map}
+use Rattle.std.{proofs.lemmas.Map.Iter.iter_end, specs.Map.Iter.deref_pair}
+use Rattle.cargo_toml_features.proofs.Pending.{listed_one, listed_none, pairs_more, still_no_empty, all_listed}
 use Rattle.cargo_toml_features.proofs.recursive.add_actions.Goals as goal
 
 pub loop-key-preserved-in-Continue-1 : goal.loop-key-preserved-in-Continue-1

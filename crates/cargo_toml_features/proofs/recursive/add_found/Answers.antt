@@ -1,5 +1,5 @@
 use Rattle.std.proofs.Common.{◌∙◌, Some}
-use Rattle.cargo_toml_features.proofs.Pairs.{at_key, elsewhere}
+use Rattle.cargo_toml_features.proofs.Pending.{at_key, elsewhere}
 use Rattle.cargo_toml_features.proofs.recursive.add_found.Goals as goal
 
 pub returns-clause-puts : goal.returns-clause-puts

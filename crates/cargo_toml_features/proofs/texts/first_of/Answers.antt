@@ -1,7 +1,7 @@
 use Rattle.std.proofs.Common.{rules, ◌≡◌, ◌<◌, ℕ, List, [], Bor, below_more, get_or, length, map, arith}
 use Rattle.std.proofs.lemmas.{List.get_or-map, List.length-map, Slice.Eq.bytes_eq-Decides}
 use Rattle.cargo_toml_graph.specs.Action.{Text}
-use Rattle.cargo_toml_features.{specs.Places.nth_text, proofs.Places.at_among}
+use Rattle.cargo_toml_features.{specs.Places.nth_text, proofs.ByPlace.at_among}
 use Rattle.cargo_toml_features.proofs.texts.first_of.Goals as goal
 
 -- the text at a place, as the loop reads it

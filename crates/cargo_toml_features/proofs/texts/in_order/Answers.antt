@@ -1,4 +1,4 @@
-use Rattle.cargo_toml_features.proofs.ByteOrder.{same_texts, new_ascends}
+use Rattle.cargo_toml_features.proofs.ByPlace.{same_texts, new_ascends}
 use Rattle.cargo_toml_features.proofs.texts.in_order.Goals as goal
 
 pub returns-clause-all : goal.returns-clause-all

@@ -1,7 +1,16 @@
-use Rattle.std.proofs.lemmas.{Map.Iter.rest_more, Map.Iter.rest_all, Map.Made.is_some-lookup}
-use Rattle.cargo_toml_features.proofs.{TextKeys.inserted, Naming.none_left, Naming.one_more}
-use Rattle.std.proofs.Common.{rules}
+-- The names that a loop over a map puts into a set.
+use Rattle.std.proofs.Common.{◌≡◌, ◌||◌, Bool, false, List, [], ◌∷◌, sym, ap, ◌∙◌, arith, rules}
+use Rattle.std.{proofs.Math.Bool.or-false, proofs.Math.Bool.or_assoc, proofs.lemmas.Grind.common_steps, proofs.lemmas.Map.Iter.rest_more, proofs.lemmas.Map.Iter.rest_all, proofs.lemmas.Map.Made.is_some-lookup, specs.List.list_any}
+use Rattle.cargo_toml_features.proofs.TextKeys.{inserted}
 use Rattle.cargo_toml_features.proofs.texts.keys_in_order.Goals as goal
+
+module _ {A : Type 0} (hits : A → Bool) where
+  one_more : (old new : Bool) (x : A) (left rest : List A) (all : Bool) → left ≡ x ∷ rest → new ≡ (old || hits x)
+      → (old || list_any hits left) ≡ all → (new || list_any hits rest) ≡ all
+  one_more old new x left rest all is put before = grind (arith, common_steps, or_assoc)
+
+  none_left : (old : Bool) (left : List A) (all : Bool) → left ≡ [] → (old || list_any hits left) ≡ all → old ≡ all
+  none_left old left all none before = sym (or-false old) ∙ ap (λ es. old || list_any hits es) (sym none) ∙ before
 
 pub loop-key-preserved : goal.loop-key-preserved
 loop-key-preserved g c = search (rules, one_more, rest_more, inserted)

@@ -1,4 +1,4 @@
-use Rattle.cargo_toml_features.proofs.ByteOrder.{found_there, missing_there}
+use Rattle.cargo_toml_features.proofs.ByPlace.{found_there, missing_there}
 use Rattle.cargo_toml_features.proofs.texts.searched.Goals as goal
 
 pub returns-clause-found : goal.returns-clause-found

@@ -1,12 +1,13 @@
-use Rattle.std.proofs.Common.{◌≡◌, ◌<◌, ◌↔◌, ◌⊎◌, [], ℕ}
+use Rattle.std.proofs.Common.{◌≡◌, ◌<◌, ◌↔◌, ◌⊎◌, [], ℕ, None}
 use Rattle.cargo_toml.specs.Action.{Text}
+use Rattle.cargo_toml.specs.Graph.{Table}
 use Rattle.cargo_toml_lint.specs.Findings.{IsFound}
-use Rattle.cargo_toml_lint.specs.Linked.{name_at}
-use Rattle.cargo_toml_lint.specs.Steps.{CountsAt}
+use Rattle.cargo_toml_lint.specs.Linked.{AreLinks, name_at}
+use Rattle.cargo_toml_lint.specs.Steps.{CountsBy}
 use Rattle.cargo_toml_lint.specs.declared.finding.Code.{Code}
 use Rattle.cargo_toml_lint.proofs.linting.add_counting.Given as goal
 
 abbrev pub invariant-loop-place : goal.invariant-loop-place
-invariant-loop-place g l = (c : Code) (f t : Text) → IsFound l.found.items c f t
-    ↔ (IsFound l.initial.found.items c f t ⊎ ((t ≡ []) × ((a : ℕ) × (a < l.place)
-    × (name_at l.links a ≡ f) × CountsAt l.features l.links c a)))
+invariant-loop-place g l = (t : Table) → AreLinks t l.links → ((f k : Text) → t.action f k ≡ None)
+    → (c : Code) (f x : Text) → IsFound l.found.items c f x ↔ (IsFound l.initial.found.items c f x
+    ⊎ ((x ≡ []) × ((a : ℕ) × (a < l.place) × (name_at l.links a ≡ f)) × CountsBy l.features t c f))

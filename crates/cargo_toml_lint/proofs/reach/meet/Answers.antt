@@ -1,22 +1,28 @@
-use Rattle.std.proofs.Common.{rules, ◌⊎◌, ◌↔◌, ◌<◌, ℕ, length, sym, subst, ◌∙◌}
-use Rattle.std.proofs.lemmas.Bool.{false≢true}
-use Rattle.cargo_toml_lint.specs.Bits.{HasBit}
-use Rattle.cargo_toml_lint.proofs.Meeting.{meets_none, meets_one, meets_row}
-use Rattle.cargo_toml_lint.proofs.Rows.{list_read, not_none}
+use Rattle.std.proofs.Common.{arith, false, length-append, sym, ◌∙◌}
+use Rattle.std.proofs.lemmas.List.{get_or_read}
+use Rattle.cargo_toml_lint.proofs.Rows.{left_less, left_taken}
+use Rattle.cargo_toml_lint.proofs.Searching.{meets_new, meets_old, meets_row, stood}
 use Rattle.cargo_toml_lint.proofs.reach.meet.Goals as goal
 
-pub returns-then-has_bit : goal.returns-then-has_bit
-returns-then-has_bit c = search (rules, meets_none)
+pub returns-then-index-clause-goes_on : goal.returns-then-index-clause-goes_on
+returns-then-index-clause-goes_on c = λ start s. meets_old c.args.reach.now start c.args.row.now.items c.args.waiting.now.items c.args.x s
+    (sym (get_or_read c.args.row.now.items c.args.x c.index.result.now (omega arith) c.index.ensures false) ∙ c.if-index.true)
 
-pub returns-in_ok-push : goal.returns-in_ok-push
-returns-in_ok-push c = search (rules, meets_one, false≢true)
+pub returns-in_ok-extend_from_slice-clause-goes_on : goal.returns-in_ok-extend_from_slice-clause-goes_on
+returns-in_ok-extend_from_slice-clause-goes_on c = λ start s. rw (c.in_ok-extend_from_slice.ensures.items, c.targets.ensures) (meets_new c.args.reach.now start c.args.row.now.items c.args.waiting.now.items c.args.x s (omega arith))
 
-pub returns-else-is_empty : goal.returns-else-is_empty
-returns-else-is_empty c =
-    let r = c.args.reach.now in
-    let lt : c.args.x < length r.rows.items = subst (λ n. c.args.x < n) (sym c.requires.whole.len) c.requires.inside in
-    let own = c.as_slice-own.ensures.value ∙ sym (list_read r.rows.items c.args.x c.index.result.now lt c.index.ensures) in
-    meets_row r c.requires.whole c.args.x c.args.row.now.items c.join.new.words.items c.args.met.now.items
-    (subst (λ w. 0 < length w) own (not_none c.as_slice-own.result.now c.is_empty.result c.is_empty.ensures c.if-is_empty.false))
-    c.join.ensures.len
-    (subst (λ w. (y : ℕ) → HasBit c.join.new.words.items y ↔ (HasBit c.args.row.now.items y ⊎ HasBit w y)) own c.join.ensures.bits)
+pub returns-in_ok-extend_from_slice-clause-work : goal.returns-in_ok-extend_from_slice-clause-work
+returns-in_ok-extend_from_slice-clause-work c = grind (
+  arith,
+  c.in_ok-extend_from_slice.ensures.items,
+  c.targets.ensures,
+  length-append,
+  left_taken c.args.reach.now.next.items c.args.row.now.items c.args.x c.requires.inside (omega arith),
+)
+
+pub returns-else-is_empty-clause-goes_on : goal.returns-else-is_empty-clause-goes_on
+returns-else-is_empty-clause-goes_on c = λ start s. meets_row c.args.reach.now start c.args.row.now.items c.args.waiting.now.items c.args.x s c.requires.whole
+    (stood c.args.reach.now c.args.x c.row-own.result.now c.row-own.ensures c.is_empty.ensures c.if-is_empty.false) c.join.new.flags.items c.join.ensures.len (rw (← c.row-own.ensures) c.join.ensures.joined)
+
+pub returns-else-is_empty-clause-work : goal.returns-else-is_empty-clause-work
+returns-else-is_empty-clause-work c = grind (arith, left_less c.args.reach.now.next.items c.args.row.now.items c.join.new.flags.items c.join.ensures.len, c.join.ensures.joined)

@@ -1,5 +1,5 @@
 use Rattle.std.proofs.Common.{◌≡◌, ◌<◌, ℕ}
-use Rattle.cargo_toml_lint.specs.Reached.{IsSettled, IsWhole}
+use Rattle.cargo_toml_lint.specs.Reached.{IsWhole, Stands}
 use Rattle.cargo_toml_lint.proofs.reach.reach_all.Given as goal
 
 abbrev pub invariant-loop-x : goal.invariant-loop-x
@@ -12,5 +12,5 @@ abbrev pub invariant-loop-own : goal.invariant-loop-own
 invariant-loop-own l = record {
   whole : IsWhole l.reach;
   next : l.reach.next ≡ l.initial.reach.next;
-  settled : (a : ℕ) → a < l.own → IsSettled l.reach a;
+  settled : (a : ℕ) → a < l.own → Stands l.reach a;
 }

@@ -1,9 +1,9 @@
 use Rattle.std.proofs.Common.{◌≡◌, map, not, rules, string_bytes, tests, ap, refl, subst, ◌∙◌}
 use Rattle.std.proofs.lemmas.Result.{on_ok_weaker}
 use Rattle.cargo_toml.specs.Dependencies.{dependency_meaning}
-use Rattle.cargo_toml_dependencies.specs.DependencyAnswers.{features_at}
-use Rattle.cargo_toml_dependencies.specs.declared.dependency.Dependency.{Dependency}
-use Rattle.cargo_toml_dependencies.specs.declared.dependency.Dependency.TheVariants.{Simple, Inherited, Detailed}
+use Rattle.cargo_toml_package.specs.DependencyAnswers.{features_at}
+use Rattle.cargo_toml_package.specs.declared.dependency.Dependency.{Dependency}
+use Rattle.cargo_toml_package.specs.declared.dependency.Dependency.TheVariants.{Simple, Inherited, Detailed}
 use Rattle.cargo_toml_lint.specs.Findings.{asked_of, request_findings, when}
 use Rattle.cargo_toml_lint.specs.Steps.{Finds}
 use Rattle.cargo_toml_lint.specs.Taken.{is_feature_name}

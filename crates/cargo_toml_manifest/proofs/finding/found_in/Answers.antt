@@ -4,7 +4,7 @@ use Rattle.cargo_toml_discovery.specs.Answers.{answers_of, around_in}
 use Rattle.cargo_toml_discovery.specs.Discovering.{StatedMeaning, discovered, discovered_meaning, stated_meaning}
 use Rattle.cargo_toml_discovery.specs.declared.discovery.Stated.{Stated}
 use Rattle.cargo_toml_package.specs.Packages.{package_meaning}
-use Rattle.cargo_toml_tables.specs.{Settings.file_meaning, Products.product_meaning}
+use Rattle.cargo_toml_parts.specs.{Settings.file_meaning, Products.product_meaning}
 use Rattle.cargo_toml_manifest.{specs.Manifests.held, proofs.FoundAround.stated_so}
 use Rattle.cargo_toml_manifest.proofs.finding.found_in.Goals as goal
 

@@ -1,6 +1,6 @@
 use Rattle.std.proofs.Common.{ℕ, List, Option, Some, None, inr, subst, sym, ◌∙◌, string_bytes}
-use Rattle.std.specs.Io.KnownBytes.{Appends, Keeps}
 use Rattle.std.proofs.lemmas.Result.{err_from_is_err_and}
+use Rattle.std.specs.Io.KnownBytes.{Appends, Keeps}
 use Rattle.cargo_toml_program.specs.Printed.{IsSpelled}
 use Rattle.cargo_toml_program.proofs.files.print_completed.Goals as goal
 

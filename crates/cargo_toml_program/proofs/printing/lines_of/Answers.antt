@@ -1,10 +1,15 @@
-use Rattle.std.proofs.Common.{◌∙◌, Err, IfOk, Ok, OnOk, Result, ℕ, false, subst}
-use Rattle.std.proofs.lemmas.Result.{IfOk-weaker}
+use Rattle.std.proofs.Common.{◌≡◌, ◌∙◌, Bor, Err, IfOk, None, Ok, OnOk, Option, Result, Some, ℕ, ap, false, is_some, refl, subst, sym}
+use Rattle.std.proofs.lemmas.{Bool.false≢true, Result.IfOk-weaker}
 use Rattle.cargo_toml_features.specs.Views.{answer_of}
 use Rattle.cargo_toml_manifest.specs.Manifests.{manifest_meaning}
 use Rattle.cargo_toml_resolver.specs.Parsed.{IsParsed}
-use Rattle.cargo_toml_program.proofs.Unfiltered.{keeps_none}
+use Rattle.cargo_toml_resolve.specs.Filter.{Asked, FilterTells}
 use Rattle.cargo_toml_program.proofs.printing.lines_of.Goals as goal
+
+-- without a filter no name is kept
+keeps_none : {F : Type 0} (g : Asked F) (filter : Option (Bor F)) → filter ≡ None → FilterTells g filter (λ _. false)
+keeps_none g None e = λ n. refl
+keeps_none g (Some f) e = absurd (false≢true (sym (ap is_some e)))
 
 -- a fact of a value, and one that holds where there is one
 both : {T E : Type 0} (r : Result T E) (P : T → Type 0) (Q : Type 0) → IfOk r P → OnOk r Q → IfOk r (λ x. P x × Q)

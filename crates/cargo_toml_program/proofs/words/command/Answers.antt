@@ -1,10 +1,7 @@
-use Rattle.std.proofs.Common.{arith, ◌≡◌, ℕ, List, [], map, length, string_bytes, Option, Some, None}
-use Rattle.std.proofs.Common.{IfNone, sym, ap, ◌∙◌, subst, inl, inr}
+use Rattle.std.proofs.Common.{arith, ◌≡◌, ℕ, List, [], map, length, string_bytes, Option, Some, None, IfNone, sym, ap, ◌∙◌, subst, inl, inr}
 use Rattle.std.proofs.lemmas.List.{get_or-map, length-map}
 use lib.ListN.{get_or}
-use Rattle.cargo_toml_program.specs.declared.arguments.Command.{Command}
-use Rattle.cargo_toml_program.specs.declared.arguments.Command.TheVariants.{Features, Complete}
-use Rattle.cargo_toml_program.specs.Words.{AskFor, IsLimit}
+use Rattle.cargo_toml_program.specs.{declared.arguments.Command.Command, declared.arguments.Command.TheVariants.Features, declared.arguments.Command.TheVariants.Complete, Words.AskFor, Words.IsLimit}
 use Rattle.cargo_toml_program.proofs.words.command.Goals as goal
 
 -- of four words that ask for a command the third is a limit

@@ -1,5 +1,4 @@
-use Rattle.std.proofs.Common.{arith}
-use Rattle.cargo_toml_resolve.proofs.Steps.{among_at, among_more, item_is}
+use Rattle.{std.proofs.Common.arith, cargo_toml_resolve.proofs.Steps.among_at, cargo_toml_resolve.proofs.Steps.among_more, cargo_toml_resolve.proofs.Steps.item_is}
 use Rattle.cargo_toml_resolve.proofs.bits.bits_of.Goals as goal
 
 pub set_bit-requires : goal.set_bit-requires

@@ -1,5 +1,4 @@
-use Rattle.std.proofs.Common.{arith}
-use Rattle.cargo_toml_resolve.proofs.Tabled.{joined_bits}
+use Rattle.{std.proofs.Common.arith, cargo_toml_resolve.proofs.Tabled.joined_bits}
 use Rattle.cargo_toml_resolve.proofs.bits.join.Goals as goal
 
 pub returns : goal.returns

@@ -1,5 +1,4 @@
-use Rattle.std.proofs.Common.{◌≡◌, ◌<◌, ◌≤◌, ℕ, get_or}
-use Rattle.std.specs.Prelude.{bit_or}
+use Rattle.{std.proofs.Common.◌≡◌, std.proofs.Common.◌<◌, std.proofs.Common.◌≤◌, std.proofs.Common.ℕ, std.proofs.Common.get_or, std.specs.Prelude.bit_or}
 use Rattle.cargo_toml_resolve.proofs.bits.join.Given as goal
 
 abbrev pub invariant-loop-k : goal.invariant-loop-k

@@ -1,6 +1,4 @@
-use Rattle.std.proofs.Common.{◌<◌, ◌↔◌, ℕ}
-use Rattle.cargo_toml_graph.specs.Reach.{Among}
-use Rattle.cargo_toml_resolve.specs.{Bits.HasBit, Numbers.IsWanted}
+use Rattle.{std.proofs.Common.◌<◌, std.proofs.Common.◌↔◌, std.proofs.Common.ℕ, cargo_toml_graph.specs.Reach.Among, cargo_toml_resolve.specs.Bits.HasBit, cargo_toml_resolve.specs.Numbers.IsWanted}
 use Rattle.cargo_toml_resolve.proofs.bits.nodes_of.Given as goal
 
 abbrev pub invariant-loop-x : goal.invariant-loop-x

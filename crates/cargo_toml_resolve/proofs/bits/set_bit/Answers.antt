@@ -1,5 +1,4 @@
-use Rattle.std.proofs.Common.{arith}
-use Rattle.cargo_toml_resolve.proofs.Tabled.{put_at}
+use Rattle.{std.proofs.Common.arith, cargo_toml_resolve.proofs.Tabled.put_at}
 use Rattle.cargo_toml_resolve.proofs.bits.set_bit.Goals as goal
 
 pub returns-clause-bits : goal.returns-clause-bits

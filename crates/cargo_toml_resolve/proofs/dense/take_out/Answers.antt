@@ -2,9 +2,8 @@ use Rattle.std.proofs.Common.{rules, ◌≡◌, ◌<◌, ◌≤◌, ◌↔◌, �
 use Rattle.std.proofs.lemmas.{Bool.false≢true, List.length-replicate}
 use Rattle.cargo_toml_graph.specs.Reach.{Among, GathersLabel, Reaches}
 use Rattle.cargo_toml_resolve.specs.{Bits.Holds, Numbers.IsRedirect, Numbers.IsWanted, Numbers.Leads}
-use Rattle.cargo_toml_resolve.proofs.{Closing.Labels, Closing.Paths, Closing.Redirect, Closing.all_labels, Closing.all_paths, Closing.first_labels, Closing.first_paths, Closing.more_labels, Closing.more_paths}
-use Rattle.cargo_toml_resolve.proofs.{Closing.none_finished, Closing.redirect_row, Closing.same_labels, Closing.same_paths, Closing.table_alike, Closing.table_gains, RowsInOrder.all_moved, RowsInOrder.one_more_finished}
-use Rattle.cargo_toml_resolve.proofs.{RowsInOrder.still_finished, Steps.has_row, Tabled.holds_inside, ReadRows.IsFilled, ReadRows.none_filled, ReadRows.one_more_filled}
+use Rattle.cargo_toml_resolve.proofs.RowsInOrder.{Labels, Paths, Redirect, all_labels, all_paths, first_labels, first_paths, more_labels, more_paths, none_finished, redirect_row, same_labels, same_paths, table_alike, table_gains, all_moved}
+use Rattle.cargo_toml_resolve.proofs.{RowsInOrder.one_more_finished, RowsInOrder.still_finished, Steps.has_row, Tabled.holds_inside, NumberRows.IsFilled, NumberRows.none_filled, NumberRows.one_more_filled}
 use Rattle.cargo_toml_resolve.proofs.dense.take_out.Goals.{then-is_removed-r+in_ok-row+in_ok-push+in_ok-parents+in_ok-pass_on+in_ok-pass_on-2, else-is_removed-r+in_ok-push-2}
 use Rattle.cargo_toml_resolve.proofs.dense.take_out.Goals as goal
 

@@ -1,6 +1,5 @@
 use Rattle.std.proofs.Common.{◌≡◌, length}
-use Rattle.cargo_toml_resolve.specs.Dense.{IsTable}
-use Rattle.cargo_toml_resolve.proofs.{Closing.Labels, Closing.Paths, Closing.Redirect, ReadRows.IsFilled, RowsInOrder.IsFinished}
+use Rattle.cargo_toml_resolve.{specs.Dense.IsTable, proofs.RowsInOrder.Labels, proofs.RowsInOrder.Paths, proofs.RowsInOrder.Redirect, proofs.RowsInOrder.IsFinished, proofs.NumberRows.IsFilled}
 use Rattle.cargo_toml_resolve.proofs.dense.take_out.Given as goal
 
 abbrev pub invariant-loop-r : goal.invariant-loop-r

@@ -1,5 +1,4 @@
-use Rattle.std.proofs.lemmas.Grind.{common_steps}
-use Rattle.std.proofs.Common.{arith}
+use Rattle.{std.proofs.Common.arith, std.proofs.lemmas.Grind.common_steps}
 use Rattle.cargo_toml_resolve.proofs.elimination.tables_of.Goals as goal
 
 pub take_out-requires : goal.take_out-requires

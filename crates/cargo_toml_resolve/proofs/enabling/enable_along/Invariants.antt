@@ -1,6 +1,4 @@
-use Rattle.std.proofs.Common.{take}
-use Rattle.cargo_toml_graph.specs.Reach.{Among}
-use Rattle.cargo_toml_resolve.specs.Enabling.{GainEnabler}
+use Rattle.{std.proofs.Common.take, cargo_toml_graph.specs.Reach.Among, cargo_toml_resolve.specs.Enabling.GainEnabler}
 use Rattle.cargo_toml_resolve.proofs.enabling.enable_along.Given as goal
 
 abbrev pub invariant-loop-at : goal.invariant-loop-at

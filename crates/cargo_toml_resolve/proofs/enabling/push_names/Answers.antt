@@ -1,5 +1,4 @@
-use Rattle.std.proofs.Common.{rules, ◌≡◌, map}
-use Rattle.std.proofs.lemmas.Map.Iter.{iter_end}
+use Rattle.{std.proofs.Common.rules, std.proofs.Common.◌≡◌, std.proofs.Common.map, std.proofs.lemmas.Map.Iter.iter_end}
 use Rattle.cargo_toml_resolve.proofs.NumberRows.{name_gained, names_gained}
 use Rattle.cargo_toml_resolve.proofs.enabling.push_names.Goals as goal
 

@@ -1,8 +1,5 @@
-use Rattle.std.proofs.Common.{length}
-use Rattle.cargo_toml_graph.specs.Reach.{Among}
-use Rattle.cargo_toml_features.specs.Places.{nth_text}
-use Rattle.cargo_toml_resolve.specs.{Texts.texts_now, Numbering.Gains}
-use Rattle.cargo_toml_resolve.proofs.InOrder.{seen}
+use Rattle.{std.proofs.Common.length, cargo_toml_graph.specs.Reach.Among, cargo_toml_features.specs.Places.nth_text}
+use Rattle.cargo_toml_resolve.{specs.Texts.texts_now, specs.Numbering.Gains, proofs.InOrder.seen}
 use Rattle.cargo_toml_resolve.proofs.enabling.push_names.Given as goal
 
 abbrev pub invariant-loop-name : goal.invariant-loop-name

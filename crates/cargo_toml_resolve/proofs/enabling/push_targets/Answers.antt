@@ -1,5 +1,4 @@
-use Rattle.std.proofs.Common.{arith}
-use Rattle.cargo_toml_resolve.proofs.NumberRows.{both_gained, none_gained}
+use Rattle.{std.proofs.Common.arith, cargo_toml_resolve.proofs.NumberRows.both_gained, cargo_toml_resolve.proofs.NumberRows.none_gained}
 use Rattle.cargo_toml_resolve.proofs.enabling.push_targets.Goals as goal
 
 pub returns-then-leads_nowhere : goal.returns-then-leads_nowhere

@@ -1,6 +1,4 @@
-use Rattle.std.proofs.Common.{sym, ap, subst, ◌∙◌}
-use Rattle.cargo_toml_graph.specs.Ascending.{Ascend}
-use Rattle.cargo_toml_features.specs.InOrder.{names_of}
+use Rattle.{std.proofs.Common.sym, std.proofs.Common.ap, std.proofs.Common.subst, std.proofs.Common.◌∙◌, cargo_toml_graph.specs.Ascending.Ascend, cargo_toml_features.specs.InOrder.names_of}
 use Rattle.cargo_toml_resolve.proofs.Learning.{unremoved}
 use Rattle.cargo_toml_resolve.proofs.enabling.set_enablers.Goals as goal
 

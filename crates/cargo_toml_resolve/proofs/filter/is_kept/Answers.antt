@@ -1,5 +1,4 @@
-use Rattle.std.proofs.Common.{subst}
-use Rattle.cargo_toml_resolve.specs.Filter.{FilterTells}
+use Rattle.{std.proofs.Common.subst, cargo_toml_resolve.specs.Filter.FilterTells}
 use Rattle.cargo_toml_resolve.proofs.filter.is_kept.Goals as goal
 
 pub returns-in-Some-clause-told : goal.returns-in-Some-clause-told

@@ -16,10 +16,10 @@ loop-value-preserved g c =
     let next = comes_next c.args.values.items c.loop-value.place c.in-Some.value c.next.new.self.rest.items here in
     let one_more : suc c.loop-value.place ≡ c.loop-value.place + 1 = omega arith in
     record {
-      rest = next.1 ∙ ap (λ n. drop n c.args.values.items) one_more;
+      rest = next.2 ∙ ap (λ n. drop n c.args.values.items) one_more;
       held = subst (λ n. HasPut c.args.names.now c.args.values.items n c.put_value.new.by_name) one_more
           (put_next c.args.names.now c.args.values.items c.loop-value.place c.loop-value.by_name c.put_value.new.by_name (record { ref_ptr = (0, 0); now = [] }) c.in-Some.value c.next.new.self.rest.items c.requires.ascend
-          (subst (λ n. c.loop-value.place < n) c.requires.count next.0) here next.1 c.in_ok-put_value.ensures c.loop-value.invariant.held);
+          (subst (λ n. c.loop-value.place < n) c.requires.count next.0) here next.2 c.in_ok-put_value.ensures c.loop-value.invariant.held);
     }
 
 pub returns : goal.returns

@@ -1,5 +1,4 @@
-use Rattle.std.proofs.Common.{◌≡◌, drop}
-use Rattle.cargo_toml_resolve.proofs.HashedKept.{HasPut}
+use Rattle.{std.proofs.Common.◌≡◌, std.proofs.Common.drop, cargo_toml_resolve.proofs.HashedKept.HasPut}
 use Rattle.cargo_toml_resolve.proofs.hashing.hashed.Given as goal
 
 abbrev pub invariant-loop-value : goal.invariant-loop-value

@@ -1,9 +1,6 @@
 use Rattle.std.proofs.Common.{Bor, IfSome, map, sym, ap, subst, ◌∙◌}
-use Rattle.std.proofs.lemmas.Map.Views.{All-values_from_lookup}
-use Rattle.std.specs.Cmp.Lexicographic.{on_texts_equal}
-use Rattle.cargo_toml_graph.specs.Action.{Text}
-use Rattle.cargo_toml_features.specs.FirstTarget.{HasTarget}
-use Rattle.cargo_toml_full.specs.Slots.{held_among}
+use Rattle.{std.proofs.lemmas.Map.Views.All-values_from_lookup, std.specs.Cmp.Lexicographic.on_texts_equal, cargo_toml_graph.specs.Action.Text}
+use Rattle.cargo_toml_features.specs.{FirstTarget.HasTarget, Slots.held_among}
 use Rattle.cargo_toml_resolve.proofs.hashing.hashed_dependencies.Goals as goal
 
 pub returns-clause-same : goal.returns-clause-same

@@ -1,7 +1,5 @@
-use Rattle.std.proofs.Common.{ap, arith, unwrap_or, ◌∙◌}
-use Rattle.std.proofs.lemmas.Map.Text.{text_keys}
-use Rattle.cargo_toml_features.specs.Views.{action_of}
-use Rattle.cargo_toml_features.proofs.ActionTexts.{joined_at}
+use Rattle.{std.proofs.Common.ap, std.proofs.Common.arith, std.proofs.Common.unwrap_or, std.proofs.Common.◌∙◌, std.proofs.lemmas.Map.Text.text_keys}
+use Rattle.cargo_toml_features.{specs.Views.action_of, proofs.ActionTexts.joined_at}
 use Rattle.cargo_toml_resolve.proofs.joining.add_action.Goals as goal
 
 pub returns : goal.returns

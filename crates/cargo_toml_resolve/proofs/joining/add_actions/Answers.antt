@@ -1,7 +1,5 @@
 use Rattle.std.proofs.Common.{rules, ◌≡◌, Some, Bor, ap, map, option_map}
-use Rattle.std.proofs.lemmas.Map.Iter.{btree_map_turn, iter_end}
-use Rattle.std.specs.{Cmp.Lexicographic.on_texts, Map.Iter.deref_pair}
-use Rattle.cargo_toml_graph.specs.Action.{Text}
+use Rattle.{std.proofs.lemmas.Map.Iter.btree_map_turn, std.proofs.lemmas.Map.Iter.iter_end, std.specs.Cmp.Lexicographic.on_texts, std.specs.Map.Iter.deref_pair, cargo_toml_graph.specs.Action.Text}
 use Rattle.cargo_toml_features.specs.Views.{action_of, action_at}
 use Rattle.cargo_toml_resolve.proofs.Sets.{next_action, keys_more, all_joined}
 use Rattle.cargo_toml_resolve.proofs.joining.add_actions.Goals as goal

@@ -1,8 +1,4 @@
-use Rattle.std.proofs.lemmas.Grind.{common_steps}
-use Rattle.std.proofs.Common.{arith}
-use Rattle.std.proofs.lemmas.Map.Iter.{iter_end}
-use Rattle.cargo_toml_features.proofs.TextKeys.{inserted}
-use Rattle.cargo_toml_resolve.proofs.Sets.{one_more}
+use Rattle.{std.proofs.Common.arith, std.proofs.lemmas.Grind.common_steps, std.proofs.lemmas.Map.Iter.iter_end, cargo_toml_features.proofs.TextKeys.inserted, cargo_toml_resolve.proofs.Sets.one_more}
 use Rattle.cargo_toml_resolve.proofs.joining.add_all.Goals as goal
 
 pub loop-text-preserved : goal.loop-text-preserved

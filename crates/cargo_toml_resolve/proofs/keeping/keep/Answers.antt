@@ -1,11 +1,8 @@
-use Rattle.std.proofs.lemmas.Grind.{common_steps}
 use Rattle.std.proofs.Common.{arith, ◌≡◌, ◌↔◌, ◌<◌, ◌∙◌, ℕ, List, Bor, true, false, length, [], refl, ap, sym, subst}
-use Rattle.std.proofs.lemmas.Bool.{false≢true}
+use Rattle.{std.proofs.lemmas.Grind.common_steps, std.proofs.lemmas.Bool.false≢true, cargo_toml_features.specs.Places.nth_text, cargo_toml_resolve.specs.Parts.but_enablers}
 use Rattle.cargo_toml_graph.specs.{Action.Text, Reach.Among, Reach.Reaches, Reach.Reaches.edge}
-use Rattle.cargo_toml_features.specs.Places.{nth_text}
-use Rattle.cargo_toml_resolve.specs.{Numbers.IsPassed, Numbers.IsWanted, Numbers.KeepsLabel, Numbers.Leads, Numbers.PassesAny, Numbers.row_items, Enabling.GainEnabler, Holding.HasTextsOf}
-use Rattle.cargo_toml_resolve.specs.{Holding.ChangesIn, Holding.ComesToHold, Texts.texts_now}
-use Rattle.cargo_toml_resolve.proofs.{TakenOver.directly, TakenOver.passes_none, TakenOver.source_is, TakenOver.stays_as_it_is, TakenOver.takes_over, Steps.path_inside}
+use Rattle.cargo_toml_resolve.specs.{Numbers.IsPassed, Numbers.IsWanted, Numbers.KeepsLabel, Numbers.Leads, Numbers.PassesAny, Numbers.row_items, Enabling.GainEnabler, Holding.HasTextsOf, Holding.ComesToHold, Texts.texts_now}
+use Rattle.cargo_toml_resolve.proofs.{InPlace.alike_len, TakenOver.directly, TakenOver.passes_none, TakenOver.source_is, TakenOver.stays_as_it_is, TakenOver.takes_over, Steps.path_inside}
 use Rattle.cargo_toml_resolve.proofs.keeping.keep.Goals as goal
 
 pub has_flagged-requires : goal.has_flagged-requires
@@ -44,13 +41,13 @@ pub set_of_nodes-requires : goal.set_of_nodes-requires
 set_of_nodes-requires c = grind (arith, common_steps, c.in_ok-name.ensures.names)
 
 pub hold-requires-clause-at : goal.hold-requires-clause-at
-hold-requires-clause-at c = subst (λ n. c.args.own < n) (c.requires.count ∙ sym c.in_ok-enable_along-2.ensures.same.len) c.requires.own
+hold-requires-clause-at c = subst (λ n. c.args.own < n) (c.requires.count ∙ sym (alike_len but_enablers c.args.features.now.items c.enable_along-2.new.features.items c.in_ok-enable_along-2.ensures.same)) c.requires.own
 
 pub hold-requires-clause-passed : goal.hold-requires-clause-passed
 hold-requires-clause-passed c = λ b i.
     let g = c.args.graph.now in
     let same : c.as_slice-5.result.now ≡ c.pass.new.self.walk.passed.items = c.as_slice-5.ensures.value ∙ ap (λ v. v.items) (c.in_ok-name.ensures.passed ∙ c.in_ok-target.ensures.passed) in
-    subst (λ n. b < n) (c.requires.count ∙ sym c.in_ok-enable_along-2.ensures.same.len) (path_inside (length g.edges) g.edges_inside ((c.in_ok-pass.ensures.passed b).0 (subst (λ l. Among l b) same i)).1)
+    subst (λ n. b < n) (c.requires.count ∙ sym (alike_len but_enablers c.args.features.now.items c.enable_along-2.new.features.items c.in_ok-enable_along-2.ensures.same)) (path_inside (length g.edges) g.edges_inside ((c.in_ok-pass.ensures.passed b).0 (subst (λ l. Among l b) same i)).1)
 
 pub hold-requires-clause-apart : goal.hold-requires-clause-apart
 hold-requires-clause-apart c = grind (arith, common_steps, c.in_ok-pass.ensures.passed)
@@ -81,4 +78,4 @@ returns-clause-kept c =
     let gain : GainEnabler (Among targets) (nth_text ts own) vs ws = subst (λ e. GainEnabler (Among targets) e vs ws) source c.in_ok-enable_along-2.ensures in
     let has : HasTextsOf ts named set = subst (λ (us : List (Bor Text)). HasTextsOf (texts_now us) named set) c.as_slice-4.ensures.value c.in_ok-names.ensures in
     takes_over g.edges g.names fs ts own c.requires.kept passed is (Among targets) t vs ws gain any named n set has us
-    (subst (λ p. ChangesIn (ComesToHold ws own p set) own ws us) same c.in_ok-hold.ensures)
+    (subst (λ p. ComesToHold own p set ws us) same c.in_ok-hold.ensures)

@@ -1,8 +1,7 @@
 use Rattle.std.proofs.Common.{rules, arith, ◌≡◌, ◌<◌, true, false, ◌∙◌, length}
 use Rattle.cargo_toml_resolve.specs.{Numbers.IsWanted, Texts.texts_now}
-use Rattle.cargo_toml_resolve.proofs.{Steps.read_at, TakenOver.none_take_over, TakenOver.one_more_takes_over, TakenOver.skipped}
+use Rattle.cargo_toml_resolve.proofs.{Steps.read_at, TakenOver.none_take_over, TakenOver.one_more_takes_over, TakenOver.skipped, keeping.keep_all.Goals.then-not-index+in_ok-keep, keeping.keep_all.Goals.else-not-index}
 use Rattle.cargo_toml_resolve.proofs.keeping.keep_all.Goals as goal
-use Rattle.cargo_toml_resolve.proofs.keeping.keep_all.Goals.{then-not-index+in_ok-keep, else-not-index}
 
 pub loop-own-init : goal.loop-own-init
 loop-own-init c = grind (arith, none_take_over c.args.graph.now.edges c.args.graph.now.names c.args.graph.now.flags.items (texts_now c.args.graph.now.texts.items) c.args.features.now.items)

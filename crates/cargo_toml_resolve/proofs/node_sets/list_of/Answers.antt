@@ -1,5 +1,4 @@
-use Rattle.std.proofs.Common.{rules, ◌<◌, length}
-use Rattle.cargo_toml_resolve.proofs.InOrder.{place_below}
+use Rattle.{std.proofs.Common.rules, std.proofs.Common.◌<◌, std.proofs.Common.length, cargo_toml_resolve.proofs.InOrder.place_below}
 use Rattle.cargo_toml_resolve.proofs.node_sets.list_of.Goals as goal
 
 pub offset_bounds-texts-place : goal.offset_bounds-texts-place

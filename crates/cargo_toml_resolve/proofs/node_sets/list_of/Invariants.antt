@@ -1,6 +1,4 @@
-use Rattle.std.proofs.Common.{◌≡◌, map, take}
-use Rattle.cargo_toml_features.specs.Places.{nth_text}
-use Rattle.cargo_toml_resolve.specs.Texts.{texts_now}
+use Rattle.{std.proofs.Common.◌≡◌, std.proofs.Common.map, std.proofs.Common.take, cargo_toml_features.specs.Places.nth_text, cargo_toml_resolve.specs.Texts.texts_now}
 use Rattle.cargo_toml_resolve.proofs.node_sets.list_of.Given as goal
 
 abbrev pub invariant-loop-x : goal.invariant-loop-x

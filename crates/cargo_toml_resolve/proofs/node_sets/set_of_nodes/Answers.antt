@@ -1,5 +1,4 @@
-use Rattle.cargo_toml_resolve.specs.Texts.{texts_now}
-use Rattle.cargo_toml_resolve.proofs.InOrder.{set_made, set_of_numbers}
+use Rattle.cargo_toml_resolve.{specs.Texts.texts_now, proofs.InOrder.set_made, proofs.InOrder.set_of_numbers}
 use Rattle.cargo_toml_resolve.proofs.node_sets.set_of_nodes.Goals as goal
 
 pub returns : goal.returns

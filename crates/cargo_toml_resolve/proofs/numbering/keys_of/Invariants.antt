@@ -1,6 +1,4 @@
-use Rattle.std.proofs.Common.{◌≡◌, take}
-use Rattle.cargo_toml_features.specs.InOrder.{names_of}
-use Rattle.cargo_toml_resolve.specs.Texts.{texts_now}
+use Rattle.{std.proofs.Common.◌≡◌, std.proofs.Common.take, cargo_toml_features.specs.InOrder.names_of, cargo_toml_resolve.specs.Texts.texts_now}
 use Rattle.cargo_toml_resolve.proofs.numbering.keys_of.Given as goal
 
 abbrev pub invariant-loop-feature : goal.invariant-loop-feature

@@ -1,6 +1,5 @@
 use Rattle.cargo_toml_graph.specs.Reach.{Among}
-use Rattle.cargo_toml_resolve.specs.{Numbering.Extends, Numbering.HasNames, Texts.texts_now}
-use Rattle.cargo_toml_resolve.proofs.InOrder.{seen}
+use Rattle.cargo_toml_resolve.{specs.Numbering.Extends, specs.Numbering.HasNames, specs.Texts.texts_now, proofs.InOrder.seen}
 use Rattle.cargo_toml_resolve.proofs.numbering.name_row.Given as goal
 
 abbrev pub invariant-loop-name : goal.invariant-loop-name

@@ -1,8 +1,6 @@
 use Rattle.std.proofs.Common.{rules, ◌≡◌, Some, Bor, ap, map, option_map, sym, ◌∙◌}
-use Rattle.std.proofs.lemmas.{Bool.false≢true, Map.Iter.btree_map_turn, Map.Iter.iter_end}
-use Rattle.std.specs.{Cmp.Lexicographic.on_texts, Map.Iter.deref_pair}
-use Rattle.cargo_toml_graph.specs.Action.{Text}
-use Rattle.cargo_toml_features.specs.Views.{action_at, action_of}
+use Rattle.std.{proofs.lemmas.Bool.false≢true, proofs.lemmas.Map.Iter.btree_map_turn, proofs.lemmas.Map.Iter.iter_end, specs.Cmp.Lexicographic.on_texts, specs.Map.Iter.deref_pair}
+use Rattle.{cargo_toml_graph.specs.Action.Text, cargo_toml_features.specs.Views.action_at, cargo_toml_features.specs.Views.action_of}
 use Rattle.cargo_toml_resolve.proofs.NumberRows.{action_left, action_plain, all_actions}
 use Rattle.cargo_toml_resolve.proofs.numbering.push_actions.Goals as goal
 

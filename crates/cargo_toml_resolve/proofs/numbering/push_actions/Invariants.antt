@@ -1,6 +1,4 @@
-use Rattle.std.proofs.Common.{length}
-use Rattle.cargo_toml_resolve.specs.Numbering.{Gains}
-use Rattle.cargo_toml_resolve.proofs.NumberRows.{PlainSoFar}
+use Rattle.{std.proofs.Common.length, cargo_toml_resolve.specs.Numbering.Gains, cargo_toml_resolve.proofs.NumberRows.PlainSoFar}
 use Rattle.cargo_toml_resolve.proofs.numbering.push_actions.Given as goal
 
 abbrev pub invariant-loop-key : goal.invariant-loop-key

@@ -1,9 +1,6 @@
-use Rattle.std.proofs.Common.{rules, take, ◌+◌, sym, subst, ◌∙◌}
-use Rattle.std.proofs.lemmas.Bool.{false≢true}
-use Rattle.cargo_toml_graph.specs.Reach.{Among}
-use Rattle.cargo_toml_resolve.specs.Numbering.{Gains}
-use Rattle.cargo_toml_resolve.proofs.{NumberRows.node_left, NumberRows.node_put, NumberRows.nodes_gained, Steps.item_is}
-use Rattle.cargo_toml_resolve.proofs.numbering.push_keys.Goals.{then-is_other_key+in_ok-push, else-is_other_key}
+use Rattle.std.proofs.Common.{rules, take, take_all, ◌+◌, sym, subst, ◌∙◌}
+use Rattle.{std.proofs.lemmas.Bool.false≢true, cargo_toml_graph.specs.Reach.Among, cargo_toml_resolve.specs.Numbering.Gains}
+use Rattle.cargo_toml_resolve.proofs.{NumberRows.node_left, NumberRows.node_put, Steps.item_is, numbering.push_keys.Goals.then-is_other_key+in_ok-push, numbering.push_keys.Goals.else-is_other_key}
 use Rattle.cargo_toml_resolve.proofs.numbering.push_keys.Goals as goal
 
 pub loop-node-preserved : goal.loop-node-preserved
@@ -21,4 +18,4 @@ loop-node-preserved c =
     ]
 
 pub returns : goal.returns
-returns c = nodes_gained c.args.count c.args.own c.args.nodes.now c.loop-node.node-index c.args.row.now.items c.loop-node.row.items (search rules) c.loop-node.invariant
+returns c = subst (λ ns. Gains c.args.count c.args.own (Among ns) c.args.row.now.items c.loop-node.row.items) (take_all c.loop-node.node-index c.args.nodes.now (search rules)) c.loop-node.invariant

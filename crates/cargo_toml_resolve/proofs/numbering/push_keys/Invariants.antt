@@ -1,6 +1,4 @@
-use Rattle.std.proofs.Common.{take}
-use Rattle.cargo_toml_graph.specs.Reach.{Among}
-use Rattle.cargo_toml_resolve.specs.Numbering.{Gains}
+use Rattle.{std.proofs.Common.take, cargo_toml_graph.specs.Reach.Among, cargo_toml_resolve.specs.Numbering.Gains}
 use Rattle.cargo_toml_resolve.proofs.numbering.push_keys.Given as goal
 
 abbrev pub invariant-loop-node : goal.invariant-loop-node

@@ -1,7 +1,5 @@
-use Rattle.std.proofs.Common.{rules, ◌≡◌, ◌≢◌, length, sym, subst}
-use Rattle.cargo_toml_features.specs.Places.{nth_text}
-use Rattle.cargo_toml_resolve.specs.{Texts.texts_now, Numbering.Gains}
-use Rattle.cargo_toml_resolve.proofs.NumberRows.{key_missing, key_own, key_put}
+use Rattle.{std.proofs.Common.rules, std.proofs.Common.◌≡◌, std.proofs.Common.◌≢◌, std.proofs.Common.length, std.proofs.Common.sym, std.proofs.Common.subst, cargo_toml_features.specs.Places.nth_text}
+use Rattle.cargo_toml_resolve.{specs.Texts.texts_now, specs.Numbering.Gains, proofs.NumberRows.key_missing, proofs.NumberRows.key_own, proofs.NumberRows.key_put}
 use Rattle.cargo_toml_resolve.proofs.numbering.push_target.Goals as goal
 
 pub returns-in_ok-push : goal.returns-in_ok-push

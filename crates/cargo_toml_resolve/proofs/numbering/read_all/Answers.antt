@@ -1,9 +1,7 @@
 use Rattle.std.proofs.Common.{rules, ◌≡◌, ◌⊎◌, ◌<◌, ℕ, true, IsTrue, inl, inr, length, refl, subst}
-use Rattle.std.proofs.lemmas.Option.{slice_get_read}
-use Rattle.cargo_toml_graph.specs.Reach.{Among}
-use Rattle.cargo_toml_resolve.specs.{Numbers.IsWanted, Texts.texts_now}
-use Rattle.cargo_toml_resolve.proofs.ReadRows.{RowsSoFar, all_read, no_rows, none_read, one_more_read}
-use Rattle.cargo_toml_resolve.proofs.numbering.read_all.Goals.{then-leads_nowhere+in_ok-push_none, else-leads_nowhere+in_ok-read+in_ok-push}
+use Rattle.{std.proofs.lemmas.Option.slice_get_read, cargo_toml_graph.specs.Reach.Among}
+use Rattle.cargo_toml_resolve.{specs.Numbers.IsWanted, specs.Texts.texts_now, proofs.NumberRows.none_read, proofs.NumberRows.one_more_read}
+use Rattle.cargo_toml_resolve.proofs.{numbering.read_all.Goals.else-leads_nowhere+in_ok-read+in_ok-push, numbering.read_all.Goals.then-leads_nowhere+in_ok-push_none, NumberRows.RowsSoFar, NumberRows.all_read, NumberRows.no_rows}
 use Rattle.cargo_toml_resolve.proofs.numbering.read_all.Goals as goal
 
 pub loop-own-init : goal.loop-own-init

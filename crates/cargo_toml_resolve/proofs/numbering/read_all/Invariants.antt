@@ -1,5 +1,4 @@
-use Rattle.cargo_toml_resolve.specs.Texts.{texts_now}
-use Rattle.cargo_toml_resolve.proofs.ReadRows.{RowsSoFar}
+use Rattle.cargo_toml_resolve.{specs.Texts.texts_now, proofs.NumberRows.RowsSoFar}
 use Rattle.cargo_toml_resolve.proofs.numbering.read_all.Given as goal
 
 abbrev pub invariant-loop-own : goal.invariant-loop-own

@@ -1,5 +1,4 @@
-use Rattle.cargo_toml_resolve.specs.Texts.{texts_now}
-use Rattle.cargo_toml_resolve.proofs.BinTurns.{filled}
+use Rattle.cargo_toml_resolve.{specs.Texts.texts_now, proofs.BinTurns.filled}
 use Rattle.cargo_toml_resolve.proofs.passing.know.Goals as goal
 
 pub returns-else-is_empty : goal.returns-else-is_empty

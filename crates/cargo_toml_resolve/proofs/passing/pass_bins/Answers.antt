@@ -1,19 +1,17 @@
-use Rattle.std.proofs.lemmas.Grind.{common_steps}
-use Rattle.std.proofs.Common.{rules, ◌<◌, true, false, take, length, ap, sym, subst, ◌∙◌, arith}
-use Rattle.cargo_toml_graph.specs.Reach.{Among}
-use Rattle.cargo_toml_resolve.specs.{Numbers.IsWanted, Numbers.Leads, Numbers.row_items, Passing.bins_of, Passing.Puts}
-use Rattle.cargo_toml_resolve.proofs.BinTurns.{kept_turn, none_passed, one_turn, same_features, then_same}
+use Rattle.std.proofs.Common.{rules, ◌<◌, true, false, take, length, ap, refl, sym, subst, ◌∙◌, arith}
+use Rattle.{std.proofs.lemmas.Grind.common_steps, cargo_toml_graph.specs.Reach.Among}
+use Rattle.cargo_toml_resolve.specs.{Numbers.IsWanted, Numbers.Leads, Numbers.row_items, Passing.bins_of, Passing.Puts, Parts.but_bins}
+use Rattle.cargo_toml_resolve.proofs.{BinTurns.kept_turn, BinTurns.none_passed, BinTurns.one_turn, InPlace.alike_len, passing.pass_bins.Goals.then-flags-r+in_ok-pass_from, passing.pass_bins.Goals.else-flags-r}
 use Rattle.cargo_toml_resolve.proofs.passing.pass_bins.Goals as goal
-use Rattle.cargo_toml_resolve.proofs.passing.pass_bins.Goals.{then-flags-r+in_ok-pass_from, else-flags-r}
 
 pub returns-then-not-have_bins-clause-others : goal.returns-then-not-have_bins-clause-others
-returns-then-not-have_bins-clause-others c = same_features c.args.features.now.items
+returns-then-not-have_bins-clause-others c = refl
 
 pub returns-then-not-have_bins-clause-bins : goal.returns-then-not-have_bins-clause-bins
 returns-then-not-have_bins-clause-bins c = grind (arith, none_passed)
 
 pub loop-r-init : goal.loop-r-init
-loop-r-init c = grind (arith, same_features c.args.features.now.items)
+loop-r-init c = grind arith
 
 pub loop-r-preserved : goal.loop-r-preserved
 loop-r-preserved c =
@@ -29,10 +27,10 @@ loop-r-preserved c =
           let new = w.pass_from.new.features.items in
           let read = w.row.ensures ∙ ap (row_items redirects) w.at-at.ensures in
           let puts : Puts (Leads redirects r) (take 10 (bins_of mid r)) mid new = subst (λ row. Puts (Among row) (take 10 (bins_of mid r)) mid new) read (rw w.at-at.ensures at w.in_ok-pass_from.ensures.put) in
-          let same = c.loop-r.invariant.same.len in
+          let same = alike_len but_bins old mid c.loop-r.invariant.same in
           rw (w.features-is) (rw (w.known-is) (record {
             known = w.in_ok-pass_from.ensures.known;
-            same = then_same old mid new c.loop-r.invariant.same puts.same;
+            same = puts.same ∙ c.loop-r.invariant.same;
             inside = omega (arith, inside);
             turned = one_turn redirects flags (bins_of old) (length old) r inside gone (bins_of mid) (bins_of new) c.loop-r.invariant.turned (λ y below. puts.lists y (subst (λ n. y < n) (sym same) below));
           }))

@@ -1,6 +1,5 @@
 use Rattle.std.proofs.Common.{◌≤◌, length}
-use Rattle.cargo_toml_resolve.specs.Passing.{AreKnown, bins_of, AreSameButBins}
-use Rattle.cargo_toml_resolve.proofs.BinTurns.{Turned}
+use Rattle.cargo_toml_resolve.{specs.Passing.AreKnown, specs.Passing.bins_of, specs.Passing.AreSameButBins, proofs.BinTurns.Turned}
 use Rattle.cargo_toml_resolve.proofs.passing.pass_bins.Given as goal
 
 abbrev pub invariant-loop-r : goal.invariant-loop-r

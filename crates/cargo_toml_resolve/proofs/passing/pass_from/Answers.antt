@@ -1,6 +1,5 @@
 use Rattle.std.proofs.Common.{rules, ◌≡◌, ap, length, sym, take, ◌∙◌}
-use Rattle.cargo_toml_resolve.specs.{Passing.bins_of, Texts.texts_now}
-use Rattle.cargo_toml_resolve.proofs.BinTurns.{bins_read, put_nothing}
+use Rattle.cargo_toml_resolve.{specs.Passing.bins_of, specs.Texts.texts_now, proofs.BinTurns.bins_read, proofs.BinTurns.put_nothing}
 use Rattle.cargo_toml_resolve.proofs.passing.pass_from.Goals as goal
 
 pub returns-then-is_empty-clause-put : goal.returns-then-is_empty-clause-put

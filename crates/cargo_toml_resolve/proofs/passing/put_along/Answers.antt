@@ -1,10 +1,8 @@
-use Rattle.std.proofs.lemmas.Grind.{common_steps}
 use Rattle.std.proofs.Common.{◌≡◌, ◌≤◌, ◌+◌, take, length, get_or, take_all, arith}
-use Rattle.cargo_toml_graph.specs.Reach.{Among}
-use Rattle.cargo_toml_resolve.proofs.{Steps.among_more, Steps.item_at, Steps.item_is, BinTurns.put_nowhere, BinTurns.put_past, BinTurns.then_put}
-use Rattle.cargo_toml_resolve.specs.Texts.{texts_now}
+use Rattle.{std.proofs.lemmas.Grind.common_steps, cargo_toml_graph.specs.Reach.Among}
+use Rattle.cargo_toml_resolve.{specs.Parts.but_bins, specs.Texts.texts_now, proofs.InPlace.alike_len}
+use Rattle.cargo_toml_resolve.proofs.{passing.put_along.Goals.else-place-len, passing.put_along.Goals.then-place-len+in_ok-put_at, Steps.among_more, Steps.item_at, Steps.item_is, BinTurns.put_nowhere, BinTurns.put_past, BinTurns.then_put}
 use Rattle.cargo_toml_resolve.proofs.passing.put_along.Goals as goal
-use Rattle.cargo_toml_resolve.proofs.passing.put_along.Goals.{then-place-len+in_ok-put_at, else-place-len}
 
 pub loop-at-init : goal.loop-at-init
 loop-at-init c = record { put = put_nowhere (texts_now c.args.bins.now) c.args.features.now.items; known = c.requires }
@@ -24,7 +22,7 @@ loop-at-preserved c =
         known = w.in_ok-put_at.ensures.known;
       }))
       | else-place-len w ↦
-          let past : length c.args.features.now.items ≤ get_or row i 0 = (let same = c.loop-at.invariant.put.same.len in let out = w.if-place-len.false in let len = c.len.ensures in let at = item_at row i _ _ c.loop-at-test.true c.at-item.is c.place.ensures in omega (arith, same, out, len, at)) in
+          let past : length c.args.features.now.items ≤ get_or row i 0 = (let same = alike_len but_bins c.args.features.now.items c.loop-at.features.items c.loop-at.invariant.put.same in let out = w.if-place-len.false in let len = c.len.ensures in let at = item_at row i _ _ c.loop-at-test.true c.at-item.is c.place.ensures in omega (arith, same, out, len, at)) in
           rw (w.features-is) (rw (w.known-is) (record {
             put = put_past (Among (take i row)) (λ y. y ≡ get_or row i 0) (Among (take (i + 1) row)) bins c.args.features.now.items c.loop-at.features.items c.loop-at.invariant.put
                 (λ y. among_more row i y c.loop-at-test.true) (λ y is. omega (arith, past, is));

@@ -1,6 +1,4 @@
-use Rattle.std.proofs.Common.{take}
-use Rattle.cargo_toml_graph.specs.Reach.{Among}
-use Rattle.cargo_toml_resolve.specs.{Passing.AreKnown, Passing.Puts, Texts.texts_now}
+use Rattle.{std.proofs.Common.take, cargo_toml_graph.specs.Reach.Among, cargo_toml_resolve.specs.Passing.AreKnown, cargo_toml_resolve.specs.Passing.Puts, cargo_toml_resolve.specs.Texts.texts_now}
 use Rattle.cargo_toml_resolve.proofs.passing.put_along.Given as goal
 
 abbrev pub invariant-loop-at : goal.invariant-loop-at

@@ -1,7 +1,5 @@
-use Rattle.std.proofs.Common.{arith}
-use Rattle.std.proofs.lemmas.{Bool.cond-true, Bool.cond-false, List.map_push}
-use Rattle.cargo_toml_resolve.specs.Texts.{texts_now}
-use Rattle.cargo_toml_resolve.proofs.BinTurns.{knows_more, was_false, was_true}
+use Rattle.{std.proofs.Common.arith, std.proofs.lemmas.Bool.cond-true, std.proofs.lemmas.Bool.cond-false, std.proofs.lemmas.List.map_push}
+use Rattle.cargo_toml_resolve.{specs.Texts.texts_now, proofs.BinTurns.knows_more, proofs.BinTurns.was_false, proofs.BinTurns.was_true}
 use Rattle.cargo_toml_resolve.proofs.passing.put_bin.Goals as goal
 
 pub returns-in_ok-push-clause-put : goal.returns-in_ok-push-clause-put

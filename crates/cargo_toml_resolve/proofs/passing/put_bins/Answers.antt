@@ -1,5 +1,4 @@
-use Rattle.std.proofs.Common.{arith}
-use Rattle.cargo_toml_resolve.proofs.BinTurns.{put_more}
+use Rattle.{std.proofs.Common.arith, cargo_toml_resolve.proofs.BinTurns.put_more}
 use Rattle.cargo_toml_resolve.proofs.passing.put_bins.Goals as goal
 
 pub put_bin-requires : goal.put_bin-requires

@@ -1,11 +1,9 @@
-use Rattle.std.proofs.lemmas.Grind.{common_steps}
 use Rattle.std.proofs.Common.{rules, arith, ◌↔◌, ◌<◌, ℕ, List, Bool, true, false, ◌∙◌, subst, length, length-set}
-use Rattle.cargo_toml_graph.specs.Reach.{Among}
+use Rattle.{std.proofs.lemmas.Grind.common_steps, cargo_toml_graph.specs.Reach.Among}
 use Rattle.cargo_toml_resolve.specs.Numbers.{IsWanted, HasLabel, IsPassed, Moves, Replaces}
-use Rattle.cargo_toml_resolve.proofs.{Closing.none_finished, RowsInOrder.finds_redirects, RowsInOrder.first_rows, RowsInOrder.none_moved, RowsInOrder.one_more_own, RowsInOrder.one_more_row, RowsInOrder.skipped_rows}
-use Rattle.cargo_toml_resolve.proofs.{RowsInOrder.still_own, RowsInOrder.one_more_finished, RowsInOrder.still_finished}
-use Rattle.cargo_toml_resolve.proofs.redirects.find_redirects.Goals as goal
+use Rattle.cargo_toml_resolve.proofs.RowsInOrder.{none_finished, finds_redirects, first_rows, none_moved, one_more_own, one_more_row, skipped_rows, still_own, one_more_finished, still_finished}
 use Rattle.cargo_toml_resolve.proofs.redirects.find_redirects.Goals.{then-is_removed-r+in_ok-moved-2, else-is_removed-r}
+use Rattle.cargo_toml_resolve.proofs.redirects.find_redirects.Goals as goal
 
 pub loop-r-init : goal.loop-r-init
 loop-r-init c = grind (arith, none_finished, first_rows c.args.edges c.args.is_removed.now c.args.edges (length c.args.edges) c.requires.within.edges_inside, first_rows c.args.edges c.args.is_removed.now c.args.labels (length c.args.is_removed.now) c.requires.within.labels_inside, none_moved c.in_ok-moved.moved.items c.args.labels, c.in_ok-finished.ensures.items_if_clones_equal)

@@ -1,7 +1,5 @@
-use Rattle.std.proofs.Common.{◌≡◌, ◌<◌, length, ap, sym, subst}
-use Rattle.cargo_toml_graph.specs.Reach.{Among}
-use Rattle.cargo_toml_resolve.proofs.Steps.{path_inside}
-use Rattle.cargo_toml_resolve.specs.Numbers.{HasLabel, Replaces}
+use Rattle.{std.proofs.Common.◌≡◌, std.proofs.Common.◌<◌, std.proofs.Common.length, std.proofs.Common.ap, std.proofs.Common.sym, std.proofs.Common.subst, cargo_toml_graph.specs.Reach.Among}
+use Rattle.cargo_toml_resolve.{proofs.Steps.path_inside, specs.Numbers.HasLabel, specs.Numbers.Replaces}
 use Rattle.cargo_toml_resolve.proofs.redirects.redirect.Goals as goal
 
 pub finish-requires-clause-passed : goal.finish-requires-clause-passed

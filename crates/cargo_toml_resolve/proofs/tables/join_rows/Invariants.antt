@@ -1,6 +1,4 @@
-use Rattle.std.proofs.Common.{take}
-use Rattle.cargo_toml_graph.specs.Reach.{Among}
-use Rattle.cargo_toml_resolve.specs.Bits.{Gains, HasBit}
+use Rattle.{std.proofs.Common.take, cargo_toml_graph.specs.Reach.Among, cargo_toml_resolve.specs.Bits.Gains, cargo_toml_resolve.specs.Bits.HasBit}
 use Rattle.cargo_toml_resolve.proofs.tables.join_rows.Given as goal
 
 abbrev pub invariant-loop-a : goal.invariant-loop-a

@@ -1,6 +1,4 @@
-use Rattle.std.proofs.Common.{◌<◌, ◌↔◌, ℕ}
-use Rattle.cargo_toml_graph.specs.Reach.{Among}
-use Rattle.cargo_toml_resolve.specs.Bits.{Holds}
+use Rattle.{std.proofs.Common.◌<◌, std.proofs.Common.◌↔◌, std.proofs.Common.ℕ, cargo_toml_graph.specs.Reach.Among, cargo_toml_resolve.specs.Bits.Holds}
 use Rattle.cargo_toml_resolve.proofs.tables.parents_of.Given as goal
 
 abbrev pub invariant-loop-a : goal.invariant-loop-a

@@ -1,7 +1,7 @@
-use Rattle.std.proofs.Common.{rules, ◌<◌, get_or, length}
-use Rattle.std.proofs.lemmas.Option.{slice_get-get_or}
+use Rattle.std.proofs.Common.{rules, ◌≡◌, ◌<◌, ◌⊎◌, Some, get_or, length, subst, take_all}
+use Rattle.{std.proofs.lemmas.Option.slice_get-get_or, cargo_toml_graph.specs.Action.IsJoin, cargo_toml_graph.specs.Action.Text, cargo_toml_graph.specs.Reach.Among}
 use Rattle.cargo_toml_features.specs.Views.{action_at}
-use Rattle.cargo_toml_resolve.proofs.{Steps.among_at, Steps.item_at, TakingOver.begin_join, TakingOver.next_join, TakingOver.end_join, InOrder.place_below}
+use Rattle.cargo_toml_resolve.{specs.Holding.DoesAt, proofs.Steps.among_at, proofs.Steps.item_at, proofs.TakenOver.begin_join, proofs.TakenOver.next_join, proofs.InOrder.place_below}
 use Rattle.cargo_toml_resolve.proofs.taking_over.join_passed.Goals as goal
 
 pub loop-b-init : goal.loop-b-init
@@ -22,4 +22,4 @@ loop-b-preserved c = λ k.
     (slice_get-get_or vs b c.index-features-place.result lt) (c.loop-b.invariant k) ((rw (item_at c.args.passed.now c.loop-b.b-index _ _ c.loop-b-test.true c.b-item.is c.place.ensures) at c.in_ok-add_actions.ensures) k)
 
 pub returns : goal.returns
-returns c = λ k. end_join c.args.features.now c.args.passed.now k (action_at c.args.own.now k) c.loop-b.b-index (action_at c.loop-b.own k) c.loop-b-test.false (c.loop-b.invariant k)
+returns c = subst (λ ps. (k : Text) → IsJoin (λ a. (action_at c.args.own.now k ≡ Some a) ⊎ DoesAt c.args.features.now (Among ps) k a) (action_at c.loop-b.own k)) (take_all c.loop-b.b-index c.args.passed.now c.loop-b-test.false) c.loop-b.invariant

@@ -1,5 +1,4 @@
-use Rattle.std.proofs.Common.{arith, true}
-use Rattle.cargo_toml_resolve.proofs.Steps.{among_at, among_more, item_at}
+use Rattle.{std.proofs.Common.arith, cargo_toml_resolve.proofs.Steps.among_at, cargo_toml_resolve.proofs.Steps.among_more, cargo_toml_resolve.proofs.Steps.item_at}
 use Rattle.cargo_toml_resolve.proofs.walk.has_flagged.Goals as goal
 
 pub bounds-flags-place : goal.bounds-flags-place

@@ -1,7 +1,5 @@
 use Rattle.std.proofs.Common.{rules, ◌≡◌, ◌++◌, ◌∷◌, [], List, ℕ, sym, subst, ◌∙◌}
-use Rattle.std.proofs.lemmas.Bool.{not-true}
-use Rattle.cargo_toml_resolve.specs.Numbers.{FindsNamed}
-use Rattle.cargo_toml_resolve.proofs.Steps.{is_new}
+use Rattle.{std.proofs.lemmas.Bool.not-true, cargo_toml_resolve.specs.Numbers.FindsNamed, cargo_toml_resolve.proofs.Steps.is_new}
 use Rattle.cargo_toml_resolve.proofs.walk.meet.Goals as goal
 
 pub returns-in_ok-push : goal.returns-in_ok-push

@@ -1,6 +1,5 @@
 use Rattle.std.proofs.Common.{◌≡◌, ◌+◌, ◌-◌, ◌≤◌, length}
-use Rattle.cargo_toml_resolve.specs.Numbers.{unmet}
-use Rattle.cargo_toml_resolve.proofs.Steps.{Walks}
+use Rattle.cargo_toml_resolve.{specs.Numbers.unmet, proofs.Steps.Walks}
 use Rattle.cargo_toml_resolve.proofs.walk.passing.Given as goal
 
 abbrev pub invariant-loop-next : goal.invariant-loop-next

@@ -1,7 +1,6 @@
 use Rattle.std.proofs.Common.{rules, ◌≡◌, ◌≢◌, false, get_or, subst, arith}
-use Rattle.cargo_toml_resolve.proofs.Steps.{among_at, item_at, item_is, one_more, passed_by}
+use Rattle.cargo_toml_resolve.proofs.{Steps.among_at, Steps.item_at, Steps.item_is, Steps.one_more, Steps.passed_by, walk.visit.Goals.then-flags-place+in_ok-meet, walk.visit.Goals.else-flags-place}
 use Rattle.cargo_toml_resolve.proofs.walk.visit.Goals as goal
-use Rattle.cargo_toml_resolve.proofs.walk.visit.Goals.{then-flags-place+in_ok-meet, else-flags-place}
 
 pub bounds-flags-place : goal.bounds-flags-place
 bounds-flags-place c = grind (arith, among_at c.args.targets.now c.loop-x.x-index c.loop-x-test.true, item_at, c.requires.inside)

@@ -1,6 +1,4 @@
-use Rattle.std.proofs.Common.{take}
-use Rattle.cargo_toml_graph.specs.Reach.{Among}
-use Rattle.cargo_toml_resolve.specs.Numbers.{IsWanted, FindsNamed}
+use Rattle.{std.proofs.Common.take, cargo_toml_graph.specs.Reach.Among, cargo_toml_resolve.specs.Numbers.IsWanted, cargo_toml_resolve.specs.Numbers.FindsNamed}
 use Rattle.cargo_toml_resolve.proofs.walk.visit.Given as goal
 
 abbrev pub invariant-loop-x : goal.invariant-loop-x

@@ -1,7 +1,6 @@
-use Rattle.std.proofs.Common.{arith, rules, false, subst, ◌∙◌, ap, get_or, []}
+use Rattle.std.proofs.Common.{arith, rules, false, subst, ◌∙◌, ap, get_or, [], ℕ, take_all}
 use Rattle.cargo_toml_graph.specs.Reach.{Among}
-use Rattle.cargo_toml_resolve.specs.Numbers.{IsWanted, FindsNamed}
-use Rattle.cargo_toml_resolve.proofs.{Steps.among_at, Steps.item_is, Labelled.one_more_list, Labelled.all_listed, Labelled.begin_list}
+use Rattle.cargo_toml_resolve.{specs.Numbers.IsWanted, specs.Numbers.FindsNamed, specs.Numbers.Leads, proofs.Steps.among_at, proofs.Steps.item_is, proofs.Steps.one_more_list, proofs.Steps.begin_list}
 use Rattle.cargo_toml_resolve.proofs.walk.visit_rows.Goals as goal
 
 pub loop-b-init : goal.loop-b-init
@@ -17,4 +16,5 @@ loop-b-preserved c =
     (subst (λ t. FindsNamed (λ y. Among t y × IsWanted c.args.flags.now false y) c.loop-b.found.items c.visit.new.found.items c.loop-b.met c.visit.new.met) read c.in_ok-visit.ensures)
 
 pub returns : goal.returns
-returns c = all_listed c.args.labels.now c.args.flags.now false c.args.passed.now c.loop-b.b-index (search rules) c.args.found.now.items c.loop-b.found.items c.args.met.now c.loop-b.met c.loop-b.invariant
+returns c = subst (λ ps. FindsNamed (λ x. ((b : ℕ) × Among ps b × Leads c.args.labels.now b x) × IsWanted c.args.flags.now false x) c.args.found.now.items c.loop-b.found.items c.args.met.now c.loop-b.met)
+    (take_all c.loop-b.b-index c.args.passed.now (search rules)) c.loop-b.invariant

@@ -1,18 +1,13 @@
 use Rattle.std.proofs.Common.{arith, ◌≡◌, ◌++◌, List, [], ◌∷◌, map, option_map, string_bytes, take, length, Option, Some, None, String, Global, Bor, refl, sym, ap, ◌∙◌}
 use Rattle.std.{specs.Prelude.unwrap_or, proofs.Math.Seq.take-length}
 use Rattle.cargo_toml_graph.specs.Action.{Text}
-use Rattle.cargo_toml_full.specs.OwnBins.{bin_requirement}
-use Rattle.cargo_toml_tables.specs.Products.{product_meaning}
+use Rattle.cargo_toml_features.specs.OwnBins.{bin_requirement}
+use Rattle.cargo_toml_parts.specs.Products.{product_meaning}
 use Rattle.cargo_toml_resolver.proofs.requirements.add_requirements.Goals as goal
 
 text_or : (o : Option (Bor Text)) (d : Bor Text) → (unwrap_or o d).now ≡ unwrap_or (option_map (λ t. t.now) o) d.now
 text_or None d = refl
 text_or (Some t) d = refl
-
--- each text with the name, and the texts' bytes with it
-each_with : (name : Text) (fs : List (String Global)) → map {B = Text × Text} (λ f. (string_bytes f, name)) fs ≡ map {B = Text × Text} (λ (f : Text). (f, name)) (map string_bytes fs)
-each_with name [] = refl
-each_with name (f ∷ fs) = ap (λ xs. (string_bytes f, name) ∷ xs) (each_with name fs)
 
 pub returns : goal.returns
 returns c =
@@ -22,6 +17,5 @@ returns c =
     let all : take c.loop-feature.feature-index c.args.bin.now.required_features.items ≡ c.args.bin.now.required_features.items =
     ap (λ n. take n c.args.bin.now.required_features.items) (sym end ∙ ap length c.deref-feature-items.ensures.value) ∙ take-length c.args.bin.now.required_features.items in
     c.loop-feature.invariant
-    ∙ ap (λ fs. map bin_requirement c.args.requirements.now.items ++ map {B = Text × Text} (λ f. (string_bytes f, c.unwrap_or-name.result.now)) fs) all
-    ∙ ap (λ xs. map bin_requirement c.args.requirements.now.items ++ xs) (each_with c.unwrap_or-name.result.now c.args.bin.now.required_features.items)
+    ∙ ap (λ (fs : List (String Global)). map bin_requirement c.args.requirements.now.items ++ map {B = Text × Text} (λ (f : Text). (f, c.unwrap_or-name.result.now)) (map string_bytes fs)) all
     ∙ ap (λ (n : Text). map bin_requirement c.args.requirements.now.items ++ map {B = Text × Text} (λ (f : Text). (f, n)) (map string_bytes c.args.bin.now.required_features.items)) named

@@ -1,6 +1,6 @@
 use Rattle.std.{proofs.Common.◌≡◌, proofs.Common.map, proofs.Common.take, specs.List.flat_map}
-use Rattle.cargo_toml_full.specs.OwnBins.{bin_requirement}
-use Rattle.cargo_toml_tables.specs.Products.{product_meaning}
+use Rattle.cargo_toml_features.specs.OwnBins.{bin_requirement}
+use Rattle.cargo_toml_parts.specs.Products.{product_meaning}
 use Rattle.cargo_toml_resolver.specs.Parsed.{requirements_by}
 use Rattle.cargo_toml_resolver.proofs.requirements.requirements_of.Given as goal
 

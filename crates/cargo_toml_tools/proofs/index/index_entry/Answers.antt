@@ -1,9 +1,7 @@
-use Rattle.std.proofs.Common.{rules, ◌∙◌, Some, ap, map, option_map, sym}
-use Rattle.cargo_toml.specs.Manifests.{manifest_meaning}
-use Rattle.cargo_toml.specs.Packages.{package_meaning}
-use Rattle.cargo_toml_tools.specs.IndexLines.{line_data}
+use Rattle.std.proofs.Common.{◌∙◌, Some, ap, map, option_map, sym}
+use Rattle.cargo_toml.specs.{Manifests.manifest_meaning, Packages.package_meaning}
 use Rattle.cargo_toml_tools.specs.Indexed.{dependency_tables, package_refusal, refusal_if_any, written}
-use Rattle.cargo_toml_tools.specs.Sections.{refused, table_of, wanted_of}
+use Rattle.cargo_toml_tools.specs.{IndexLines.line_data, Sections.refused, Sections.table_of, Sections.wanted_of}
 use Rattle.cargo_toml_tools.proofs.index.index_entry.Goals as goal
 
 pub returns-clause-taken : goal.returns-clause-taken

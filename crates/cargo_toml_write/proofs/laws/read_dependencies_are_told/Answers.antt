@@ -1,4 +1,4 @@
-use Rattle.cargo_toml_dependencies.specs.Dependencies.{detailed, simple}
+use Rattle.cargo_toml_package.specs.Dependencies.{detailed, simple}
 use Rattle.cargo_toml_write.proofs.ReadParts.{read_again_told, version_text}
 use Rattle.cargo_toml_write.proofs.laws.read_dependencies_are_told.Goals as goal
 

@@ -1,5 +1,4 @@
-use Rattle.cargo_toml_write.proofs.ReadAgain.{members_view-insert}
-use Rattle.cargo_toml_write.proofs.Writers.{◌∙◌, ap, members_view, put_member, view}
+use Rattle.cargo_toml_write.proofs.{ReadAgain.members_view-insert, Writers.◌∙◌, Writers.ap, Writers.members_view, Writers.put_member, Writers.view}
 use Rattle.cargo_toml_write.proofs.write.put.Goals as goal
 
 pub returns-clause-ok : goal.returns-clause-ok

@@ -1,7 +1,7 @@
 use Rattle.std.proofs.Common.{◌≡◌, ◌++◌, map}
 use Rattle.std.specs.BTreeSet.{contains_text}
 use Rattle.std.specs.List.{flat_map}
-use Rattle.cargo_toml_dependencies.specs.Replacing.{entries_meaning}
+use Rattle.cargo_toml_package.specs.Replacing.{entries_meaning}
 use Rattle.cargo_toml_tools.proofs.Told.{entry_of}
 use Rattle.cargo_toml_audit.specs.Oddities.{oddities_of, shared_oddities}
 use Rattle.cargo_toml_audit.proofs.audit.differences.add_shared.Given as goal

@@ -1,6 +1,6 @@
 use Rattle.std.proofs.Common.{◌≡◌, ◌++◌, map}
 use Rattle.std.specs.List.{flat_map}
-use Rattle.cargo_toml_dependencies.specs.Replacing.{entries_meaning}
+use Rattle.cargo_toml_package.specs.Replacing.{entries_meaning}
 use Rattle.cargo_toml_tools.proofs.Told.{entry_of}
 use Rattle.cargo_toml_audit.specs.Entries.{listed_of, with_kind}
 use Rattle.cargo_toml_audit.proofs.audit.entries.add_table.Given as goal

@@ -2,7 +2,7 @@ use Rattle.std.proofs.Common.{ap, map}
 use Rattle.cargo_toml.specs.Action.{Text}
 use Rattle.cargo_toml.specs.Reads.{map_meaning}
 use Rattle.cargo_toml.specs.Targets.{TargetMeaning, target_meaning}
-use Rattle.cargo_toml_dependencies.specs.Replacing.{entries_meaning}
+use Rattle.cargo_toml_package.specs.Replacing.{entries_meaning}
 use Rattle.cargo_toml_tools.specs.Indexed.{target_by_kind, with_kinds}
 use Rattle.cargo_toml_audit.specs.Entries.{listed_of, with_kind}
 use Rattle.cargo_toml_audit.proofs.Walks.{own_and_more}

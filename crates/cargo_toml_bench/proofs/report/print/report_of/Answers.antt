@@ -1,10 +1,7 @@
 use Rattle.std.proofs.Common.{ap, sym, subst, ◌∙◌}
-use Rattle.toml.specs.View.{view}
-use Rattle.toml.specs.declared.value.Value.{Value}
-use Rattle.cargo_toml.specs.Manifest.{Manifest}
-use Rattle.cargo_toml.specs.Manifests.{manifest_meaning}
-use Rattle.cargo_toml_bench.specs.Printing.{Spells, report_text}
-use Rattle.cargo_toml_bench.specs.Reports.{texts}
+use Rattle.toml.specs.{View.view, declared.value.Value.Value}
+use Rattle.cargo_toml.specs.{Manifest.Manifest, Manifests.manifest_meaning}
+use Rattle.cargo_toml_bench.specs.{Printing.Spells, Printing.report_text, Reports.texts}
 use Rattle.cargo_toml_bench.proofs.report.print.report_of.Goals as goal
 
 pub returns-clause-text : goal.returns-clause-text

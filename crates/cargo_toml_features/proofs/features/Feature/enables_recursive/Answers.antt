@@ -1,7 +1,6 @@
 use Rattle.std.proofs.Common.{rules, ◌≡◌, ◌++◌, ◌∷◌, [], length, ap, subst, arith, Some, None}
 use Rattle.cargo_toml_features.specs.Visits.{still}
-use Rattle.cargo_toml_features.proofs.Pending.{key_of, still_popped}
-use Rattle.cargo_toml_features.proofs.Walks.{Walks, begins, walks_on, walks_on_less, visited, visited_less, all_enabled, all_pairs}
+use Rattle.cargo_toml_features.proofs.{Pending.key_of, Pending.still_popped, Walks.Walks, Walks.begins, Walks.walks_on, Walks.walks_on_less, Walks.visited, Walks.visited_less, Walks.all_enabled, Walks.all_pairs}
 use Rattle.cargo_toml_features.proofs.features.Feature.enables_recursive.Goals as goal
 
 pub loop-next-init : goal.loop-next-init

@@ -1,6 +1,5 @@
 use Rattle.std.proofs.Common.{◌+◌, length}
-use Rattle.cargo_toml_features.specs.Visits.{still}
-use Rattle.cargo_toml_features.proofs.{Walks.Walks, Walks.is_found, Work.work}
+use Rattle.cargo_toml_features.{specs.Visits.still, proofs.Walks.Walks, proofs.Walks.is_found, proofs.Walks.work}
 use Rattle.cargo_toml_features.proofs.features.Feature.enables_recursive.Given as goal
 
 abbrev pub invariant-loop-next : goal.invariant-loop-next

@@ -1,6 +1,5 @@
 use Rattle.std.proofs.Common.{List, Bor, not, bytes_eq, codes, sym, subst}
-use Rattle.std.proofs.lemmas.List.Kept.{IsStrictlySortedBy-filter}
-use Rattle.std.specs.{List.Sorted.IsStrictlySortedBy, Cmp.Lexicographic.slice_cmp, Ordering.nat_cmp}
+use Rattle.std.{proofs.lemmas.List.Kept.IsStrictlySortedBy-filter, specs.List.Sorted.IsStrictlySortedBy, specs.Cmp.Lexicographic.slice_cmp, specs.Ordering.nat_cmp}
 use Rattle.cargo_toml_graph.specs.Action.{Text}
 use Rattle.cargo_toml_features.specs.NonDefault.{without_default}
 use Rattle.cargo_toml_features.proofs.features.Feature.non_default_enabled_by.Goals as goal

@@ -1,5 +1,5 @@
 use Rattle.std.specs.Option.{option_copied}
-use Rattle.cargo_toml_features.proofs.FirstTarget.{first_same, is_first}
+use Rattle.cargo_toml_features.proofs.Targets.{first_same, is_first}
 use Rattle.cargo_toml_features.proofs.features.FeatureDependency.detail.Goals as goal
 
 pub returns-clause-first : goal.returns-clause-first

@@ -1,9 +1,39 @@
-use Rattle.std.proofs.Common.{rules, tests, not, bytes_eq, codes, subst, arith, List, Bor}
-use Rattle.std.{proofs.lemmas.Grind.common_steps, specs.Iterator.YieldsFirst}
+-- The next name that an iterator without `default` yields.
+use Rattle.std.proofs.Common.{◌≡◌, Bool, true, false, cond, List, [], ◌∷◌, ◌++◌, map, filter, Option, Some, None, MatchOption, IfSome, Bor, refl, sym, ap, subst, ◌∙◌, arith, rules, tests, not, bytes_eq, codes}
+use Rattle.std.proofs.lemmas.{List.Elements.filter-append, Map.Iter.rest_so_far, Grind.common_steps}
+use Rattle.std.specs.{Option.option_copied, Fn.CalledAt, List.FoldsTo, Iterator.YieldsThen, Iterator.YieldsFirst, Map.Iter.TakesFirst, Map.Iter.deref}
+use denote.Param.Members.{Mut}
 use Rattle.cargo_toml_graph.specs.Action.{Text}
 use Rattle.cargo_toml_features.specs.NonDefault.{without_default}
-use Rattle.cargo_toml_features.proofs.NextName.{first_passing, first_copied}
 use Rattle.cargo_toml_features.proofs.questions.NonDefaultEnabledByIterator.next.Goals as goal
+
+module _ {X F : Type 0} (g : Mut F (Bor (Bor X) × Unit {0}) Bool) (test : X → Bool) (f : F) (pure : (x : Bor X) (b : Bool) (q : F) → CalledAt g f x b q → (q ≡ f) × (b ≡ test x.now)) where
+  -- the items before the one that is found all fail the test
+  skipped : (p : F) (xs : List (Bor X)) (j : F) → p ≡ f → FoldsTo (λ p x q. CalledAt g p x false q) p xs j → (filter test (map deref xs) ≡ []) × (j ≡ f)
+  skipped p [] j e h = (refl, sym h ∙ e)
+  skipped p (x ∷ xs) j e h =
+      let now = pure x false h.0 (subst (λ q. CalledAt g q x false h.0) e h.1) in
+      let rest = skipped h.0 xs j now.0 h.2 in
+      (ap (λ b. cond b (x.now ∷ filter test (map deref xs)) (filter test (map deref xs))) (sym now.1) ∙ rest.0, rest.1)
+
+  -- what `find` gives is the first that passes, and what is left is what passes of the rest
+  first_passing : (s u : List X) (r : Option (Bor X)) (xs : List (Bor X)) (j : F) → YieldsThen (TakesFirst deref) s xs r u → FoldsTo (λ p x q. CalledAt g p x false q) f xs j → IfSome r (λ x. (h : F) × CalledAt g j x true h)
+      → MatchOption r ((filter test s ≡ []) × (filter test u ≡ [])) (λ x. filter test s ≡ x.now ∷ filter test u)
+  first_passing s u r xs j y h passes = go r y.2 passes
+    where
+      none_before : filter test s ≡ filter test y.0
+      none_before = ap (filter test) (rest_so_far deref xs s y.0 y.1) ∙ filter-append test (map deref xs) y.0 ∙ ap (λ l. l ++ filter test y.0) (skipped f xs j refl h).0
+
+      go : (r : Option (Bor X)) → TakesFirst deref y.0 r u → IfSome r (λ x. (h : F) × CalledAt g j x true h) → MatchOption r ((filter test s ≡ []) × (filter test u ≡ [])) (λ x. filter test s ≡ x.now ∷ filter test u)
+      go None e k = (none_before ∙ ap (filter test) e.0, ap (filter test) e.1)
+      go (Some x) e k =
+          let now = pure x true k.0 (subst (λ q. CalledAt g q x true k.0) (skipped f xs j refl h).1 k.1) in
+          none_before ∙ ap (filter test) e ∙ ap (λ b. cond b (x.now ∷ filter test u) (filter test u)) (sym now.1)
+
+-- the same of a copy of what was found, where `all` is what passes of the list
+first_copied : {X : Type 0} (all rest : List X) (r : Option (Bor X)) (r' : Option X) → r' ≡ option_copied r → MatchOption r ((all ≡ []) × (rest ≡ [])) (λ x. all ≡ x.now ∷ rest)
+    → MatchOption r' ((all ≡ []) × (rest ≡ [])) (λ x. all ≡ x ∷ rest)
+first_copied {X} all rest r r' e h = grind (arith, common_steps)
 
 pub returns-clause-steps : goal.returns-clause-steps
 returns-clause-steps c =

@@ -1,5 +1,5 @@
 use Rattle.std.proofs.Common.{IsTrue}
-use Rattle.cargo_toml_graph.proofs.InByteOrder.{passed_complete, passed_has, passed_once}
+use Rattle.cargo_toml_graph.proofs.InByteOrder.{passed_has, passed_once}
 use Rattle.cargo_toml_graph.proofs.laws.elimination.bins_in_byte_order_are_settled.Goals as goal
 
 pub returns-clause-one : goal.returns-clause-one
@@ -7,6 +7,3 @@ returns-clause-one c = λ t own removed a b p q f k. passed_once t (λ v. IsTrue
 
 pub returns-clause-bins : goal.returns-clause-bins
 returns-clause-bins c = λ t own removed bins p there f k. passed_has t (λ v. IsTrue (removed v)) own there bins p f k
-
-pub returns-clause-complete : goal.returns-clause-complete
-returns-clause-complete c = λ t own removed bins p there ten f k. passed_complete t (λ v. IsTrue (removed v)) own there bins p f k ten

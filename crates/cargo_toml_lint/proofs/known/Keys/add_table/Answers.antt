@@ -3,7 +3,7 @@ use Rattle.std.proofs.lemmas.Map.Iter.{rest_all, rest_more}
 use Rattle.std.specs.Map.Iter.{deref_pair}
 use Rattle.cargo_toml.specs.Action.{Text}
 use Rattle.cargo_toml.specs.Dependencies.{dependency_meaning}
-use Rattle.cargo_toml_dependencies.specs.declared.dependency.Dependency.{Dependency}
+use Rattle.cargo_toml_package.specs.declared.dependency.Dependency.{Dependency}
 use Rattle.cargo_toml_lint.specs.Known.{Marked, keys_in}
 use Rattle.cargo_toml_lint.specs.Names.{AddsKeys}
 use Rattle.cargo_toml_lint.proofs.Adding.{adding_done, adding_more, begun}

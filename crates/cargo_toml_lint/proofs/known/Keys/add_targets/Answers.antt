@@ -3,7 +3,7 @@ use Rattle.std.proofs.lemmas.Map.Iter.{rest_all, rest_more}
 use Rattle.std.specs.List.{flat_map}
 use Rattle.std.specs.Map.Iter.{deref}
 use Rattle.cargo_toml.specs.Targets.{target_meaning}
-use Rattle.cargo_toml_dependencies.specs.declared.target.Target.{Target}
+use Rattle.cargo_toml_package.specs.declared.target.Target.{Target}
 use Rattle.cargo_toml_lint.specs.Known.{target_keys}
 use Rattle.cargo_toml_lint.specs.Names.{AddsKeys}
 use Rattle.cargo_toml_lint.proofs.Adding.{adding_done, adding_more, begun, flat_values}

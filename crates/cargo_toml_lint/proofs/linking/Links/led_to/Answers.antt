@@ -1,9 +1,9 @@
-use Rattle.std.proofs.Common.{◌<◌, arith, length, sym, ◌∙◌}
+use Rattle.std.proofs.Common.{sym, ◌∙◌}
 use Rattle.std.proofs.lemmas.Bool.{false≢true}
 use Rattle.cargo_toml_features.proofs.TextKeys.{inserted}
 use Rattle.cargo_toml_lint.specs.Linked.{names_of}
 use Rattle.cargo_toml_lint.specs.Reached.{Path}
-use Rattle.cargo_toml_lint.proofs.Placed.{so_far_none, so_far_put, so_far_skip, text_at}
+use Rattle.cargo_toml_lint.proofs.Placed.{so_far_none, so_far_put, so_far_skip}
 use Rattle.cargo_toml_lint.proofs.linking.Links.led_to.Goals.{then-leads+in_ok-insert, else-leads}
 use Rattle.cargo_toml_lint.proofs.linking.Links.led_to.Goals as goal
 
@@ -13,11 +13,10 @@ loop-other-init c = so_far_none (names_of c.args.self.now) (Path c.args.self.now
 pub loop-other-preserved : goal.loop-other-preserved
 loop-other-preserved c =
     let l = c.args.self.now in
-    let lt : c.loop-other.other < length l.names.items = omega arith in
     elim c.if-leads.branch [
-      | then-leads+in_ok-insert w ↦ rw w.found-is (so_far_put (names_of l) (Path l.reach.next.items c.args.place) c.loop-other.other c.loop-other.found w.insert.new.self w.index.result.now.now
-          (text_at l.names.items c.loop-other.other w.index.result.now lt w.index.ensures) (c.leads.ensures.0 w.if-leads.true)
-          (inserted w.index.result.now.now c.loop-other.found w.insert.new.self w.in_ok-insert.ensures.updates) c.loop-other.invariant)
+      | then-leads+in_ok-insert w ↦ rw w.found-is (so_far_put (names_of l) (Path l.reach.next.items c.args.place) c.loop-other.other c.loop-other.found w.insert.new.self w.name.result.now
+          (sym w.name.ensures) (c.leads.ensures.0 w.if-leads.true)
+          (inserted w.name.result.now c.loop-other.found w.insert.new.self w.in_ok-insert.ensures.updates) c.loop-other.invariant)
       | else-leads w ↦ rw w.found-is (so_far_skip (names_of l) (Path l.reach.next.items c.args.place) c.loop-other.other c.loop-other.found
           (λ p. false≢true (sym w.if-leads.false ∙ c.leads.ensures.1 p)) c.loop-other.invariant)
     ]

@@ -1,5 +1,4 @@
-use Rattle.std.proofs.Common.{◌++◌, codes, refl}
-use Rattle.std.proofs.Output.{has_written_append}
+use Rattle.std.proofs.{Common.◌++◌, Common.codes, Common.refl, Output.has_written_append}
 use Rattle.cargo_toml_program.specs.Outcomes.{line}
 use Rattle.cargo_toml_program.proofs.outcome.OutcomeDisplay.fmt.Goals as goal
 

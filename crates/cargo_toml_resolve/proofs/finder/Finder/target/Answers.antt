@@ -1,6 +1,5 @@
-use Rattle.std.proofs.Common.{false, length, arith}
-use Rattle.cargo_toml_graph.specs.Reach.{Among}
-use Rattle.cargo_toml_resolve.proofs.{Labelled.reached, Tabled.flagged_row, Tabled.row_below, Tabled.row_wide, Steps.path_inside}
+use Rattle.{std.proofs.Common.false, std.proofs.Common.length, std.proofs.Common.arith, cargo_toml_graph.specs.Reach.Among}
+use Rattle.cargo_toml_resolve.proofs.{Steps.reached, Steps.path_inside, Tabled.flagged_row, Tabled.row_below, Tabled.row_wide}
 use Rattle.cargo_toml_resolve.proofs.finder.Finder.target.Goals as goal
 
 pub flagged-requires-clause-own : goal.flagged-requires-clause-own

@@ -1,7 +1,5 @@
 use Rattle.std.proofs.Common.{◌<◌, false, replicate, length, ap, ◌∙◌, arith}
-use Rattle.std.proofs.lemmas.List.{length-map}
-use Rattle.std.specs.Vec.{vec_len}
-use Rattle.cargo_toml_resolve.proofs.Steps.{none_marked, none_at_first}
+use Rattle.{std.proofs.lemmas.List.length-map, std.specs.Vec.vec_len, cargo_toml_resolve.proofs.Steps.none_marked, cargo_toml_resolve.proofs.Steps.none_at_first}
 use Rattle.cargo_toml_resolve.proofs.marks.Marks.clear.Goals as goal
 
 pub returns-in-Some : goal.returns-in-Some

@@ -1,5 +1,4 @@
-use Rattle.std.proofs.Common.{arith, true, refl}
-use Rattle.cargo_toml_resolve.proofs.Steps.{one_marked}
+use Rattle.{std.proofs.Common.arith, std.proofs.Common.refl, cargo_toml_resolve.proofs.Steps.one_marked}
 use Rattle.cargo_toml_resolve.proofs.marks.Marks.mark.Goals as goal
 
 pub returns-then-stamp-self-clause-marked : goal.returns-then-stamp-self-clause-marked

@@ -1,5 +1,4 @@
-use Rattle.std.proofs.Common.{ap, ◌∙◌}
-use Rattle.cargo_toml_resolve.proofs.Steps.{marks_at, none_at_first}
+use Rattle.{std.proofs.Common.ap, std.proofs.Common.◌∙◌, cargo_toml_resolve.proofs.Steps.marks_at, cargo_toml_resolve.proofs.Steps.none_at_first}
 use Rattle.cargo_toml_resolve.proofs.marks.Marks.new.Goals as goal
 
 pub returns : goal.returns

@@ -1,5 +1,4 @@
-use Rattle.std.proofs.Common.{arith}
-use Rattle.cargo_toml_resolve.proofs.Spans.{still_inside, pushed_inside, rows_pushed}
+use Rattle.{std.proofs.Common.arith, cargo_toml_resolve.proofs.Spans.still_inside, cargo_toml_resolve.proofs.Spans.pushed_inside, cargo_toml_resolve.proofs.Spans.rows_pushed}
 use Rattle.cargo_toml_resolve.proofs.rows.Rows.push.Goals as goal
 
 pub invariant_of-self-in_err-push : goal.invariant_of-self-in_err-push

@@ -1,6 +1,4 @@
-use Rattle.std.proofs.Common.{arith}
-use Rattle.std.proofs.lemmas.List.{append-nil}
-use Rattle.cargo_toml_resolve.proofs.Spans.{pushed_inside, rows_pushed}
+use Rattle.{std.proofs.Common.arith, std.proofs.lemmas.List.append-nil, cargo_toml_resolve.proofs.Spans.pushed_inside, cargo_toml_resolve.proofs.Spans.rows_pushed}
 use Rattle.cargo_toml_resolve.proofs.rows.Rows.push_none.Goals as goal
 
 pub invariant_of-self-2 : goal.invariant_of-self-2

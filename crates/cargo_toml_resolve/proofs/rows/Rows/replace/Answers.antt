@@ -1,5 +1,4 @@
-use Rattle.std.proofs.Common.{arith}
-use Rattle.cargo_toml_resolve.proofs.Spans.{set_inside, rows_set}
+use Rattle.{std.proofs.Common.arith, cargo_toml_resolve.proofs.Spans.set_inside, cargo_toml_resolve.proofs.Spans.rows_set}
 use Rattle.cargo_toml_resolve.proofs.rows.Rows.replace.Goals as goal
 
 pub invariant_of-self-2 : goal.invariant_of-self-2

@@ -4,58 +4,38 @@
 -- F is the filter, S the state of the maps and I its hasher, X and N the metadata of the manifest and of the one that is handed in, P the folders and Q their
 -- roots. The lifetimes: 0 self, 1 the filter, 2 the manifest, 3 and 4 what is handed in, 5 to 11 these seven types. `tK` is the token of lifetime K.
 use Rattle.std.proofs.Common.{◌≡◌, ℕ, List, [], ◌∷◌, ◌++◌, inl, refl, sym, ap, subst}
-use Rattle.std.proofs.raw_atomic.Walks.{proved_at, leaves}
-use mir.Syntax.{a_type, dcons, dnil, named}
-use mir.Val.{Val, vptr}
-use mir.MapTy.{inst_fn}
-use base.Fraction.{full_share}
-use base.Logic.{ent, sep, emp, wand, apply∗, id⊢}
-use base.Fml.{Lft, ftrue, flft, fdead}
-use base.Share
-use base.FractionLaws.{common}
+use Rattle.std.proofs.{raw_atomic.Walks.proved_at, raw_atomic.Walks.leaves, result.Result.TheLaws.the_row_laws as result_laws, option.Option.TheLaws.the_row_laws as option_laws}
+use mir.{Syntax.a_type, Syntax.dcons, Syntax.dnil, Syntax.named, Val.Val, Val.vptr, MapTy.inst_fn}
+use base.{Fraction.full_share, Logic.ent, Logic.sep, Logic.emp, Logic.wand, Logic.apply∗, Logic.id⊢, Fml.Lft, Fml.ftrue, Fml.flft, Fml.fdead, FractionLaws.common}
 use prog.Wp.{WpFn}
 use types.Kit.{Item, ‵, raw, ◌⊛◌, some, later, ◌$◌, ◌∵◌, !, qed, by, move, keep, drop, use0, use1, use2, use3, split, join, fsplit, pick, await, rewrite, suffices}
 use types.Run.{enter, addr, of_opd, stop, no_more, and_then, returns}
 use types.ByLocal.{alloc_all, pass_all, free_all, look_at, get, through, sets, lands_as}
 use types.Tokens.{lft_new, lft_end, lft-common}
-use contract.Running.{tables}
-use contract.Monad.{fact, fact_i}
-use contract.BorrowLft.{◌⊑◌, meet_⊑_left, meet_⊑_right}
-use denote.Exit.{yes, no}
-use denote.Lend.{lends_again, comes_back, LentAgain}
-use denote.Laws.{Is, shows}
-use denote.Param.{bounded, param, layout}
-use denote.Param.Laws.{param_laws, of_field}
-use denote.Param.Shared.{copy_shared}
-use denote.RattleType.{RattleType, owns}
-use denote.Ref.{MutRef, ShrRef, Bor, mut_Tells, shr_vals, shr_Tells}
-use denote.Signature.{types_at, named_lft, type_at}
-use denote.Steps.{nothing, owned, heard, peeks, only}
-use denote.Struct.Field.{shr_ref_field, unit-field}
-use denote.Struct.Laws.{unit-laws, unit-copy}
-use denote.Struct.Tuple.{Tuple, laws_at, tuple_name}
-use denote.Triple.Call.{calls_at}
-use denote.Triple.Clauses.{Lasts, lasts}
-use denote.Triple.Spec.{triple_of}
-use denote.Triple.Table.{framed}
-use denote.Triple.Walked.{Stays, stay_dropped, walk_of, Goes-dropped}
-use denote.Builtin.{unit}
+use contract.{Running.tables, Monad.fact, Monad.fact_i, BorrowLft.◌⊑◌, BorrowLft.meet_⊑_left, BorrowLft.meet_⊑_right}
+use denote.{Exit.yes, Exit.no, Lend.lends_again, Lend.comes_back, Lend.LentAgain, Laws.Is, Laws.shows, Param.bounded, Param.param, Param.layout, Param.Laws.param_laws, Param.Laws.of_field, Param.Shared.copy_shared, RattleType.RattleType}
+use denote.{RattleType.owns, Ref.MutRef, Ref.ShrRef, Ref.Bor, Ref.mut_Tells, Ref.shr_vals, Ref.shr_Tells, Signature.types_at, Signature.named_lft, Signature.type_at, Steps.nothing, Steps.owned, Steps.heard, Steps.peeks, Steps.only}
+use denote.{Struct.Field.shr_ref_field, Struct.Field.unit-field, Struct.Laws.unit-laws, Struct.Laws.unit-copy, Struct.Tuple.Tuple, Struct.Tuple.laws_at, Struct.Tuple.tuple_name, Triple.Call.calls_at, Triple.Clauses.Lasts}
+use denote.{Triple.Clauses.lasts, Triple.Spec.triple_of, Triple.Table.framed, Triple.Walked.Stays, Triple.Walked.stay_dropped, Triple.Walked.walk_of, Triple.Walked.Goes-dropped, Builtin.unit, Text.str-field}
 use Rattle.std.specs.Prelude.{OnErr, OnOk, IfErr, IfOk, Err, option_map}
+use Rattle.cargo_toml_parts.specs.declared.error.Error.{Memory}
+use Rattle.cargo_toml_resolver.specs.{Lent.IsLentAs, Lent.IsLentAfter, Lent.IsLeftAfter, contracts.features.Resolver.complete_and_parse.ended, contracts.features.Resolver.complete_and_parse.clauses, Filtered.filter_of, Filtered.limit_of}
+use Rattle.cargo_toml_resolver.specs.Parsed.{IsResolvedFor}
+use Rattle.cargo_toml_resolver.specs.contracts.features.Resolver.complete_and_parse.Key.{name as #self}
+use Rattle.cargo_toml_resolver.proofs.{Lent.rests_so, Lent.Completing, Lent.Answering, Lent.left_after, Lent.lent_after, Lent.outcome_after, Lent.wrapped_after, Words.slot_at, Words.row_at, Words.single, Words.ref_laws, Words.global_makes}
+use Rattle.cargo_toml_resolver.proofs.{Words.local_at, features.Resolver.complete_and_parse.Statement.statement}
+use borrow.{Table.Str.str_laws, Table.OneValue.wt_as}
+use Rattle.cargo_toml_graph.specs.Action.{Text}
+use Rattle.cargo_toml_resolve.specs.Filter.{HasNameFilter}
+use Rattle.cargo_toml_manifest.specs.{Choosing.MayFind, Choosing.handed_of, Choosing.roots_of, Choosing.RootsTold, Manifests.ManifestMeaning, Manifests.held, Completed.IsCompleted, Completing.Meets, Completing.complete}
+use Rattle.cargo_toml_manifest.specs.Refusing.{IsRefusedBy, MayLose}
+use Rattle.cargo_toml_discovery.specs.Told.{Told}
+use base.Share
 use Rattle.std.specs.contracts.result.Result as Result
-use Rattle.std.proofs.result.Result.TheLaws.{the_row_laws as result_laws}
 use Rattle.cargo_toml_features.proofs.features.Features.TheLaws as Features-laws
 use Rattle.cargo_toml_features.specs.contracts.features.Features as Features
 use Rattle.cargo_toml_parts.specs.contracts.error.Error as Error
 use Rattle.cargo_toml_parts.proofs.error.Error.TheLaws as Error-laws
-use Rattle.cargo_toml_parts.specs.declared.error.Error.{Memory}
-use Rattle.cargo_toml_resolver.specs.{Lent.IsLentAs, Lent.IsLentAfter, Lent.IsLeftAfter, contracts.features.Resolver.complete_and_parse.ended, contracts.features.Resolver.complete_and_parse.clauses}
-use Rattle.cargo_toml_resolver.specs.{Filtered.filter_of, Filtered.limit_of, Parsed.IsResolvedFor}
-use Rattle.cargo_toml_resolver.proofs.{Lent.rests_so, Lent.Completing, Lent.Answering, Lent.left_after, Lent.lent_after, Lent.outcome_after, Lent.wrapped_after, Words.slot_at, Words.row_at}
-use Rattle.cargo_toml_resolver.proofs.{Words.single, Words.ref_laws, Words.global_makes, Words.local_at, features.Resolver.complete_and_parse.Statement.statement}
-use denote.Text.{str-field}
-use borrow.Table.Str.{str_laws}
-use borrow.Table.OneValue.{wt_as}
-use Rattle.std.proofs.option.Option.TheLaws.{the_row_laws as option_laws}
 use Rattle.cargo_toml_manifest.specs.contracts.manifest.Manifest as Manifest
 use Rattle.cargo_toml_resolver.specs.contracts.features.Resolver as Resolver
 use Rattle.cargo_toml_manifest.specs.contracts.manifest.Manifest.complete_from_abstract_filesystem as complete_from
@@ -66,13 +46,7 @@ use Rattle.cargo_toml_resolver.specs.contracts.features.Resolver.resolved as res
 use Rattle.cargo_toml_resolver.proofs.features.Resolver.resolved.Met as resolved-met
 use Rattle.cargo_toml_manifest.proofs.manifest.Manifest.TheLaws as Manifest-laws
 use Rattle.std.proofs.alloc.Global.TheLaws as Global-laws
-use Rattle.cargo_toml_resolver.specs.contracts.features.Resolver.complete_and_parse.Key.{name as #self}
 use Rattle.cargo_toml_resolver.proofs.features.Resolver.complete_and_parse.Code as code
-use Rattle.cargo_toml_graph.specs.Action.{Text}
-use Rattle.cargo_toml_resolve.specs.Filter.{HasNameFilter}
-use Rattle.cargo_toml_manifest.specs.{Choosing.MayFind, Choosing.handed_of, Choosing.roots_of, Choosing.RootsTold, Manifests.ManifestMeaning, Manifests.held, Completed.IsCompleted, Completing.Meets}
-use Rattle.cargo_toml_manifest.specs.{Completing.complete, Refusing.IsRefusedBy, Refusing.MayLose}
-use Rattle.cargo_toml_discovery.specs.Told.{Told}
 
 pub complete_and_parse_spec : {M : Type 1} → statement M
 complete_and_parse_spec 𝓤 𝓛 𝓜 𝓡 wired F S I X N P Q LF LS LI LX LN LP LQ f df dfm dfo b' db h dh c dc drF drS drI p dp q dq drX drP mF mFm mFo mB mH mC gF gS gI mP mQ gX gP =

@@ -2,8 +2,7 @@ use Rattle.std.proofs.Common.{◌≡◌, ℕ, List, Bor, Option, map, sym, ap, a
 use Rattle.cargo_toml_graph.specs.{Action.Text, Admitted.Listed, Admitted.admitted}
 use Rattle.cargo_toml_manifest.specs.Manifests.{ManifestMeaning, manifest_meaning}
 use Rattle.cargo_toml_features.specs.{Entries.entries_of, Views.listed_of, Views.answer_of, Views.entry_of, Marks.NamedDetails, Marks.details_listed, Marks.named_details, Recorded.Entry}
-use Rattle.cargo_toml_features.specs.Resolved.{Answer}
-use Rattle.cargo_toml_full.specs.OwnBins.{own_of, bin_requirement}
+use Rattle.cargo_toml_features.specs.{Resolved.Answer, OwnBins.own_of, OwnBins.bin_requirement}
 use Rattle.cargo_toml_resolver.specs.{Filtered.filter_of, Filtered.limit_of, Parsed.IsParsedBy, Parsed.parsed_entries, Parsed.parsed_table, Parsed.requirements}
 use Rattle.cargo_toml_resolve.specs.{Filter.Asked, Removed.IsAnswerBy, Removed.IsRemovedBy}
 use Rattle.cargo_toml_resolve.proofs.ByFilter.{answer_by_listed}

@@ -1,82 +1,46 @@
-use Rattle.std.proofs.Common.{◌≡◌, ◌∙◌, Bool, None, ap, is_some, refl, subst, sym}
-use Rattle.std.proofs.lemmas.Map.Iter.{rest_all, rest_more}
-use Rattle.std.specs.Map.{lookup}
-use Rattle.std.specs.Map.Iter.{deref}
-use Rattle.std.specs.Option.{IfSome, option_copied}
-use Rattle.std.specs.Prelude.{bytes_eq, codes}
-use Rattle.cargo_toml.specs.Graph.{Table}
-use Rattle.cargo_toml.specs.Manifests.{manifest_meaning}
-use Rattle.cargo_toml.specs.Views.{table_in, value_at}
+use Rattle.std.proofs.Common.{◌≡◌, ◌↔◌, ◌∙◌, Bor, IsTrue, [], ap, get_or, map, string_bytes, subst, sym}
+use Rattle.std.{proofs.lemmas.List.drop_all, specs.Option.option_copied, specs.Prelude.codes}
+use Rattle.cargo_toml.specs.{Action.Text, Ascending.Ascend, Graph.Table, Manifests.manifest_meaning, Reach.Among, Views.table_in}
 use Rattle.cargo_toml_features.proofs.Pending.{key_of}
-use Rattle.cargo_toml_lint.specs.Turning.{turning}
-use Rattle.cargo_toml_tools.specs.Documented.{IsRowOf}
-use Rattle.cargo_toml_tools.proofs.Ordered.{set_ascends}
-use Rattle.cargo_toml_tools.proofs.Rowed.{Rowed, lists_default, rowed_all, rowed_begun, rowed_none}
-use Rattle.cargo_toml_tools.proofs.Rowed.{rowed_one, told_at, untold_at}
+use Rattle.cargo_toml_lint.{proofs.Gathered.listed_in, specs.Turning.turning}
+use Rattle.cargo_toml_tools.specs.Documented.{lists_default, told_at}
+use Rattle.cargo_toml_tools.proofs.Rowed.{is_there, rowed_all, rowed_none, rowed_one}
+use Rattle.cargo_toml_tools.proofs.{Grown.drop_next, document.listing.rows.Goals.in-Some+in_ok-row_of+in_ok-push, document.listing.rows.Goals.in_default}
 use Rattle.cargo_toml_tools.proofs.document.listing.rows.Goals as goal
-
-pub loop-name-init : goal.loop-name-init
-loop-name-init g c = λ keyed.
-    let d = manifest_meaning (λ m. m) c.args.manifest.now in
-    let m = c.args.features.now in
-    rowed_begun (turning d (table_in m).has)
-    (is_some (lookup (bytes_eq (codes "default")) d.features)) m _ _ _ refl c.new-rows.ensures.items
-
-pub loop-name-preserved-in_ok-push : goal.loop-name-preserved-in_ok-push
-loop-name-preserved-in_ok-push g c = λ keyed.
-    let d = manifest_meaning (λ m. m) c.args.manifest.now in
-    let m = c.args.features.now in
-    let t : Table = turning d (table_in m).has in
-    let has : Bool = is_some (lookup (bytes_eq (codes "default")) d.features) in
-    let row = c.in_ok-row_of.field-0 in
-    let at = sym c.get.ensures.value ∙ ap option_copied c.in-Some-get.is in
-    let key = key_of m keyed _ _ at in
-    let tells = c.in_ok-row_of.ensures t c.in_ok-links.ensures (c.in_ok-defaults.ensures t c.in_ok-links.ensures) in
-    rowed_one t has m _ c.in-Some.name.now _ _
-    (rest_more deref _ _ _ c.in-Some.name c.in-Some.is c.next.ensures.steps) row c.loop-name.rows.items c.push.new.self.items
-    c.in_ok-push.ensures.items (tells.name ∙ key)
-    (told_at t has m _ _ _ at (lists_default c.args.manifest.now.features _ c.contains_key-has_default.ensures)
-    ∙ sym c.is_shown.ensures ∙ c.if-is_shown.true)
-    (subst (λ o. IfSome o (IsRowOf t m row)) (sym (ap (value_at m) (tells.name ∙ key) ∙ at)) tells)
-    (c.loop-name.invariant keyed)
-
-pub loop-name-preserved-else-is_shown : goal.loop-name-preserved-else-is_shown
-loop-name-preserved-else-is_shown g c = λ keyed.
-    let d = manifest_meaning (λ m. m) c.args.manifest.now in
-    let m = c.args.features.now in
-    let t : Table = turning d (table_in m).has in
-    let has : Bool = is_some (lookup (bytes_eq (codes "default")) d.features) in
-    let at = sym c.get.ensures.value ∙ ap option_copied c.in-Some-get.is in
-    rowed_none t has m _ c.in-Some.name.now _ _
-    (rest_more deref _ _ _ c.in-Some.name c.in-Some.is c.next.ensures.steps) c.loop-name.rows.items
-    (told_at t has m _ _ _ at (lists_default c.args.manifest.now.features _ c.contains_key-has_default.ensures)
-    ∙ sym c.is_shown.ensures ∙ c.if-is_shown.false)
-    (c.loop-name.invariant keyed)
 
 pub loop-name-preserved : goal.loop-name-preserved
 loop-name-preserved g c = λ keyed.
     let d = manifest_meaning (λ m. m) c.args.manifest.now in
     let m = c.args.features.now in
     let t : Table = turning d (table_in m).has in
-    let has : Bool = is_some (lookup (bytes_eq (codes "default")) d.features) in
-    let k = c.in-Some.name.now in
-    let none : value_at m k.now ≡ None =
-    sym c.get.ensures.value ∙ ap option_copied c.in_default.is in
-    rowed_none t has m _ k _ _
-    (rest_more deref _ _ _ c.in-Some.name c.in-Some.is c.next.ensures.steps)
-    c.loop-name.rows.items (untold_at t has m k.now none)
-    (c.loop-name.invariant keyed)
+    let has = lists_default d in
+    let items = c.deref-name-items.result.now in
+    let none : Bor Text = record { ref_ptr = (0, 0); now = [] } in
+    let k : Bor Text = get_or items c.loop-name.name-index none in
+    let next = ap (map (λ (q : Bor Text). q.now)) (drop_next items c.loop-name.name-index none c.loop-name-test.true) in
+    let told_is : option_copied c.told_at.result ≡ told_at m has k.now =
+    c.told_at.ensures ∙ ap (λ b. told_at m b k.now) (c.contains_key-has_default.ensures
+    ∙ listed_in (λ v. map string_bytes v.items) (codes "default") c.args.manifest.now.features.entries) in
+    elim c.match-told_at.branch [
+      | in-Some+in_ok-row_of+in_ok-push w ↦
+          let at = sym told_is ∙ ap option_copied w.in-Some.is in
+          let tells = w.in_ok-row_of.ensures t c.in_ok-links.ensures (c.in_ok-defaults.ensures t c.in_ok-links.ensures) in
+          rowed_one t m has _ k.now _ _ next _ _ c.loop-name.rows.items c.match-told_at.rows.items
+          (ap (λ v. v.items) w.rows-is ∙ w.in_ok-push.ensures.items)
+          (tells.name ∙ key_of m keyed _ _ (is_there t m has _ _ at)) at tells (c.loop-name.invariant keyed)
+      | in_default w ↦
+          rowed_none t m has _ k.now _ _ next c.match-told_at.rows.items
+          (sym told_is ∙ ap option_copied w.in_default.is)
+          (rw w.rows-is (c.loop-name.invariant keyed))
+    ]
 
 pub returns : goal.returns
 returns g c = λ keyed.
     let d = manifest_meaning (λ m. m) c.args.manifest.now in
     let m = c.args.features.now in
-    let t : Table = turning d (table_in m).has in
-    let has : Bool = is_some (lookup (bytes_eq (codes "default")) d.features) in
-    let names = c.in_ok-names.names in
-    let all = c.into_iter-name-iterator.ensures.into_iter_gives.0 in
-    rowed_all t has m names c.loop-name.name-iterator
-    c.loop-name.rows.items (rest_all deref _ _ _ c.in-None.is c.next.ensures.steps)
-    (set_ascends names c.into_iter-name-iterator.ensures.into_iter_gives.4) c.in_ok-names.ensures
-    (subst (λ ks. Rowed t has m ks c.loop-name.name-iterator c.loop-name.rows.items) all
-    (c.loop-name.invariant keyed))
+    let links = c.in_ok-links.ensures in
+    let same = ap (map (λ (q : Bor Text). q.now)) c.deref-name-items.ensures.value in
+    rowed_all (turning d (table_in m).has) m (lists_default d) _ _ c.loop-name.rows.items
+    (ap (map (λ (q : Bor Text). q.now)) (drop_all c.loop-name.name-index c.deref-name-items.result.now c.loop-name-test.false))
+    (subst Ascend (sym same) links.found.in_order)
+    (λ x. subst (λ ts. IsTrue ((table_in m).has x) ↔ Among ts x) (sym same) (links.known x)) (c.loop-name.invariant keyed)

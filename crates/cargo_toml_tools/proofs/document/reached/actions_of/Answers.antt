@@ -1,34 +1,27 @@
-use Rattle.std.proofs.Common.{None, ap, sym, ◌∙◌}
+use Rattle.std.proofs.Common.{None, ap, subst, sym, ◌∙◌}
 use Rattle.std.proofs.lemmas.Map.Iter.{rest_all, rest_more}
-use Rattle.std.specs.Map.Iter.{deref}
-use Rattle.std.specs.Option.{option_copied, option_map_or}
-use Rattle.cargo_toml.specs.Action.{join_option}
-use Rattle.cargo_toml.specs.Feature.{Feature}
-use Rattle.cargo_toml.specs.Views.{action_at}
-use Rattle.cargo_toml_tools.proofs.Reaching.{found_in, joining_begun, joining_end, joining_none, joining_one}
+use Rattle.std.specs.{Map.Iter.deref, Option.option_copied, Option.option_map_or, HashMap.HashMap}
+use Rattle.cargo_toml.specs.{Action.IsJoin, Action.join_option, Feature.Feature, Views.action_at}
+use Rattle.cargo_toml_graph.proofs.JoinLaws.{join_option_none}
+use Rattle.cargo_toml_tools.specs.Documented.{ActsOf}
+use Rattle.cargo_toml_tools.proofs.Reaching.{joined, joined_is, joined_next}
 use Rattle.cargo_toml_tools.proofs.document.reached.actions_of.Goals as goal
 
-pub loop-name-init : goal.loop-name-init
-loop-name-init g c =
-    joining_begun c.args.features.now c.args.names.now.keys _ _ (λ k. ap (found_in k) c.new-actions.ensures.empty)
-    c.into_iter-name-iterator.ensures.into_iter_gives.0
-
 pub loop-name-preserved-in-Continue-1 : goal.loop-name-preserved-in-Continue-1
-loop-name-preserved-in-Continue-1 g c =
-    let at = sym c.get.ensures.value ∙ ap option_copied c.in-Some-get.is in
-    joining_one c.args.features.now c.args.names.now.keys c.in-Some.name.now _ _ (action_at c.loop-name.actions) (action_at c.add_actions.new.own)
-    (rest_more deref _ _ _ c.in-Some.name c.in-Some.is c.next.ensures.steps)
-    (λ q. c.in_ok-add_actions.ensures q ∙ ap (join_option (action_at c.loop-name.actions q))
-    (sym (ap (λ o. option_map_or (λ (f : Feature). action_at f.enables_deps q) o None) at)))
-    c.loop-name.invariant
+loop-name-preserved-in-Continue-1 g c = λ k.
+    joined_next c.args.features.now k _ _ c.in-Some.name.now _ _ _ (rest_more deref _ _ _ c.in-Some.name c.in-Some.is c.next.ensures.steps)
+    (c.in_ok-add_actions.ensures k ∙ ap (join_option (action_at c.loop-name.actions k))
+    (sym (ap (λ o. option_map_or (λ (f : Feature). action_at f.enables_deps k) o None) (sym c.get.ensures.value ∙ ap option_copied c.in-Some-get.is))))
+    (c.loop-name.invariant k)
 
 pub loop-name-preserved : goal.loop-name-preserved
-loop-name-preserved g c =
-    joining_none c.args.features.now c.args.names.now.keys c.in-Some.name.now _ _ (action_at c.loop-name.actions)
-    (rest_more deref _ _ _ c.in-Some.name c.in-Some.is c.next.ensures.steps)
-    (sym c.get.ensures.value ∙ ap option_copied c.in_default.is) c.loop-name.invariant
+loop-name-preserved g c = λ k.
+    joined_next c.args.features.now k _ _ c.in-Some.name.now _ _ _ (rest_more deref _ _ _ c.in-Some.name c.in-Some.is c.next.ensures.steps)
+    (sym (ap (join_option (action_at c.loop-name.actions k))
+    (ap (λ o. option_map_or (λ (f : Feature). action_at f.enables_deps k) o None) (sym c.get.ensures.value ∙ ap option_copied c.in_default.is)) ∙ join_option_none _))
+    (c.loop-name.invariant k)
 
 pub returns : goal.returns
-returns g c =
-    joining_end c.args.features.now c.args.names.now.keys (action_at c.loop-name.actions) _
-    (rest_all deref _ _ _ c.in-None.is c.next.ensures.steps) c.loop-name.invariant
+returns g c = λ k.
+    subst (IsJoin _) (sym (sym (ap (joined c.args.features.now k (action_at c.loop-name.actions k)) (rest_all deref _ _ _ c.in-None.is c.next.ensures.steps)) ∙ c.loop-name.invariant k))
+    (joined_is c.args.features.now k c.args.names.now.keys)

@@ -1,6 +1,7 @@
-use Rattle.cargo_toml.specs.Views.{action_at}
-use Rattle.cargo_toml_tools.proofs.Reaching.{Joining}
+use Rattle.std.proofs.Common.{◌≡◌, None}
+use Rattle.cargo_toml.specs.{Action.Text, Views.action_at}
+use Rattle.cargo_toml_tools.proofs.Reaching.{joined}
 use Rattle.cargo_toml_tools.proofs.document.reached.actions_of.Given as goal
 
 abbrev pub invariant-loop-name : goal.invariant-loop-name
-invariant-loop-name g l = Joining l.features l.names.keys (action_at l.actions) l.name-iterator
+invariant-loop-name g l = (k : Text) → joined l.features k (action_at l.actions k) l.name-iterator ≡ joined l.features k None l.names.keys

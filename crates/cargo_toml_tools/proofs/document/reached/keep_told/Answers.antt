@@ -1,6 +1,5 @@
-use Rattle.std.proofs.Common.{rules}
-use Rattle.std.proofs.lemmas.Fn.{filter_same}
-use Rattle.cargo_toml_full.proofs.Thinning.{has_filtered}
+use Rattle.std.{proofs.Common.rules, proofs.lemmas.Fn.filter_same}
+use Rattle.cargo_toml_features.proofs.Thinning.{has_filtered}
 use Rattle.cargo_toml_tools.specs.Documented.{is_beside}
 use Rattle.cargo_toml_tools.proofs.document.reached.keep_told.Goals as goal
 

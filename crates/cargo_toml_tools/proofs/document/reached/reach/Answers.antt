@@ -1,4 +1,4 @@
-use Rattle.std.proofs.Common.{rules, sym, ◌∙◌}
+use Rattle.std.proofs.Common.{sym, ◌∙◌}
 use Rattle.std.proofs.lemmas.Bool.{and_from, and_parts}
 use Rattle.cargo_toml.specs.Views.{set_has}
 use Rattle.cargo_toml_graph.proofs.Joins.{join_alike}

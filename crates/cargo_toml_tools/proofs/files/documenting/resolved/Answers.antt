@@ -1,4 +1,4 @@
-use Rattle.std.proofs.Common.{rules, Bool, inl, true}
+use Rattle.std.proofs.Common.{Bool, inl, true}
 use Rattle.std.proofs.lemmas.Result.{IfErr-weaker, IfOk-weaker, err_from_is_err_and}
 use Rattle.cargo_toml.specs.Action.{Text}
 use Rattle.cargo_toml.specs.Limits.{MAX_ITEMS}

@@ -1,4 +1,3 @@
-use Rattle.std.proofs.Common.{rules}
 use Rattle.std.proofs.lemmas.Result.{err_from_is_err_and}
 use Rattle.cargo_toml_discovery.proofs.Faults.{from_input}
 use Rattle.cargo_toml_tools.proofs.files.linting.findings_of.Goals as goal

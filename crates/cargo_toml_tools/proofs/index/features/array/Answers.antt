@@ -1,7 +1,4 @@
-use Rattle.std.proofs.Common.{rules, ap, map, sym, ◌∙◌}
-use Rattle.std.proofs.lemmas.List.{take_all}
-use Rattle.serde_json.specs.Data.{array, string}
-use Rattle.serde_json.specs.View.{items_of}
+use Rattle.std.{proofs.Common.rules, proofs.lemmas.List.take_all}
 use Rattle.cargo_toml_tools.proofs.Grown.{map_twice}
 use Rattle.cargo_toml_tools.proofs.index.features.array.Goals as goal
 

@@ -1,12 +1,11 @@
-use Rattle.std.proofs.Common.{◌∙◌, Bor, rules, tests}
-use Rattle.std.proofs.lemmas.Iterator.{YieldsList-from_slice}
-use Rattle.std.proofs.lemmas.Iterator.Search.{any_from_yields_List}
+use Rattle.std.proofs.Common.{◌∙◌, Bor, rules, sym, tests}
+use Rattle.std.proofs.lemmas.{Iterator.YieldsList-from_slice, Iterator.Search.any_from_yields_List}
 use Rattle.cargo_toml.specs.Action.{Text, item_of}
-use Rattle.cargo_toml_tools.specs.IndexFeatures.{is_newer}
-use Rattle.cargo_toml_tools.proofs.Grown.{any_mapped}
+use Rattle.cargo_toml_lint.proofs.Gathered.{any_map}
+use Rattle.cargo_toml_tools.specs.IndexLines.{is_newer}
 use Rattle.cargo_toml_tools.proofs.index.features.is_extended.Goals as goal
 
 pub returns : goal.returns
 returns c =
     any_from_yields_List (λ (t : Bor Text). is_newer (item_of t.now)) _ _ _ c.any.ensures.ran (YieldsList-from_slice c.args.texts.now cc) (λ x b q k. search (rules, tests))
-    ∙ any_mapped (λ text. is_newer (item_of text)) (λ t. t.now) c.args.texts.now
+    ∙ sym (any_map (λ text. is_newer (item_of text)) (λ t. t.now) c.args.texts.now)

@@ -1,6 +1,5 @@
-use Rattle.std.proofs.Common.{rules, sym}
+use Rattle.std.proofs.Common.{rules}
 use Rattle.cargo_toml_lint.proofs.Items.{acting, naming}
-use Rattle.cargo_toml_tools.specs.IndexFeatures.{is_newer}
 use Rattle.cargo_toml_tools.proofs.index.features.is_newer.Goals as goal
 
 pub returns-then-acts : goal.returns-then-acts

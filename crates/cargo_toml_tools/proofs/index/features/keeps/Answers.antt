@@ -1,10 +1,5 @@
-use Rattle.std.proofs.Common.{rules, ◌≡◌, ◌∙◌, ap, false, not, option_map, refl, sym}
-use Rattle.std.specs.Option.{option_copied, option_map_or}
-use Rattle.cargo_toml.specs.Dependencies.{dependency_meaning}
-use Rattle.cargo_toml.specs.InheritedDependencies.{entry_at}
-use Rattle.cargo_toml_dependencies.proofs.Entries.{entry_at-map}
-use Rattle.cargo_toml_dependencies.specs.Replacing.{entries_meaning}
-use Rattle.cargo_toml_tools.specs.Indexed.{lacks_version}
+use Rattle.std.proofs.Common.{rules}
+use Rattle.cargo_toml_package.proofs.Entries.{entry_at-map}
 use Rattle.cargo_toml_tools.proofs.index.features.keeps.Goals as goal
 
 pub returns-in-Some : goal.returns-in-Some

@@ -1,15 +1,9 @@
-use Rattle.std.proofs.Common.{rules, ◌++◌, ◌∙◌, None, Some, ap, map}
-use Rattle.std.proofs.lemmas.Map.Iter.{rest_all, rest_more}
-use Rattle.std.specs.List.{flat_map}
-use Rattle.std.specs.Map.Iter.{deref_pair}
+use Rattle.std.proofs.Common.{rules, ◌++◌, ◌∙◌, ap, map}
+use Rattle.std.{proofs.lemmas.Map.Iter.rest_all, proofs.lemmas.Map.Iter.rest_more, specs.Map.Iter.deref_pair}
 use Rattle.toml.specs.View.{table_view}
-use Rattle.cargo_toml.specs.Reads.{map_meaning}
 use Rattle.cargo_toml.specs.Targets.{target_meaning}
-use Rattle.cargo_toml_dependencies.specs.Replacing.{entries_meaning}
-use Rattle.cargo_toml_tools.specs.Indexed.{tables_at, target_tables, with_kinds}
-use Rattle.cargo_toml_tools.specs.Sections.{table_of}
-use Rattle.cargo_toml_tools.proofs.Grown.{flat_end, flat_step, three_more}
-use Rattle.cargo_toml_tools.proofs.Told.{target_of}
+use Rattle.cargo_toml_tools.specs.{Indexed.target_tables, Sections.table_of}
+use Rattle.cargo_toml_tools.proofs.{Grown.flat_end, Grown.flat_step, Grown.three_more, Told.target_of}
 use Rattle.cargo_toml_tools.proofs.index.sections.sections.Goals as goal
 
 pub loop-name-preserved : goal.loop-name-preserved

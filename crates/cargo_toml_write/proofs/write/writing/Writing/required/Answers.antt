@@ -5,4 +5,4 @@ pub returns-in_default : goal.returns-in_default
 returns-in_default g c =
     let no_fault : is_some c.args.self.now.fault ≡ false = search rules in
     is_put c.args.key.now g.T.ToValue.way (g.T.ToValue.meaning c.args.x.now) (view c.in-Ok.value) c.args.self.now.fault _ _
-    no_fault c.in-Ok.ensures ((g.met.T.ToValue.lawful.each _).floatless _ c.in-Ok.ensures) c.in_default.ensures.ok
+    no_fault c.in-Ok.ensures c.in_default.ensures.ok

@@ -1,0 +1,27 @@
+use Rattle.std.proofs.Common.{◌≡◌, false, inl, sym, subst}
+use Rattle.std.{specs.Prelude.IfSome, proofs.lemmas.Result.IfErr-weaker, proofs.lemmas.Result.IfOk-weaker}
+use Rattle.toml.specs.{View.view, declared.value.Value.Value}
+use Rattle.cargo_toml.specs.Manifests.{held, manifest_meaning, manifest_reads}
+use Rattle.cargo_toml.specs.{InheritedManifests.needs, InheritedPackages.IsFilled, Manifest.Manifest, RealFiles.IsReadAndCompleted, Texts.any_tree}
+use Rattle.cargo_toml_bench.proofs.held.HeldManifest.from_path.Goals as goal
+
+pub returns-in-Ok-clause-given : goal.returns-in-Ok-clause-given
+returns-in-Ok-clause-given g c =
+    IfOk-weaker c.new.result _ _
+    (λ h same. subst (λ (m : Manifest Value). IsReadAndCompleted (manifest_meaning view) (manifest_reads any_tree) m) (sym same) c.in-Ok.ensures.given)
+    c.new.ensures.same
+
+pub returns-in-Ok-clause-filled : goal.returns-in-Ok-clause-filled
+returns-in-Ok-clause-filled g c =
+    IfOk-weaker c.new.result _ _
+    (λ h same. subst (λ (m : Manifest Value). IfSome m.«package» IsFilled) (sym same) c.in-Ok.ensures.filled)
+    c.new.ensures.same
+
+pub returns-in-Ok-clause-refused : goal.returns-in-Ok-clause-refused
+returns-in-Ok-clause-refused g c = IfErr-weaker c.new.result _ _ (λ e memory. inl memory) c.new.ensures.refused
+
+pub returns-in-Ok-clause-needs : goal.returns-in-Ok-clause-needs
+returns-in-Ok-clause-needs g c =
+    IfOk-weaker c.new.result _ _
+    (λ h same. subst (λ (m : Manifest Value). needs (held m) ≡ false) (sym same) c.in-Ok.ensures.needs)
+    c.new.ensures.same

@@ -1,7 +1,0 @@
-use Rattle.std.proofs.Common.{◌&&◌, not, bytes_eq, ap, ◌∙◌}
-use Rattle.cargo_toml_resolve.proofs.Sets.{removed_text}
-use Rattle.cargo_toml_bench.proofs.plain.removal.pass_on.Goals as goal
-
-pub returns : goal.returns
-returns c = λ x.
-    removed_text c.args.key.now c.add_all.new.texts c.remove.new.self c.remove.ensures.updates x ∙ ap (λ t. t && not (bytes_eq x c.args.key.now)) (c.in_ok-add_all.ensures x)

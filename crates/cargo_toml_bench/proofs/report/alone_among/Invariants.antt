@@ -1,0 +1,7 @@
+use Rattle.std.{proofs.Common.◌≡◌, proofs.Common.take, specs.Prelude.filter}
+use Rattle.cargo_toml_resolve.specs.Texts.{texts_now}
+use Rattle.cargo_toml_bench.specs.{Alone.is_alone_at, Reports.texts}
+use Rattle.cargo_toml_bench.proofs.report.alone_among.Given as goal
+
+abbrev pub invariant-loop-name : goal.invariant-loop-name
+invariant-loop-name g l = texts l.alone ≡ filter (is_alone_at l.features) (texts_now (take l.name-index l.names))

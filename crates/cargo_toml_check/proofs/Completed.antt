@@ -1,0 +1,21 @@
+-- What is made of a completed manifest, or refused, by a reference to it.
+use Rattle.std.proofs.Common.{◌≡◌, Global, String, inr, string_bytes, subst, sym}
+use Rattle.std.specs.Prelude.{IfErr, IfOk, Result}
+use Rattle.std.proofs.lemmas.Result.{IfErr-weaker, IfOk-weaker}
+use Rattle.toml.specs.declared.value.Value.{Value}
+use Rattle.cargo_toml.specs.Action.{Text}
+use Rattle.cargo_toml.specs.Error.{Error}
+use Rattle.cargo_toml.specs.Manifest.{Manifest}
+use Rattle.cargo_toml_check.specs.FromFiles.{HoldsOfCompleted, IsRefusedFor}
+use Rattle.cargo_toml_tools.specs.FromFiles.{IsCompletedIn}
+
+module _ (path text : Text) (held m : Manifest Value) (completed : IsCompletedIn path text held) (same : m ≡ held) (made : Result (String Global) Error) where
+  pub shown_of : (P : Manifest Value → Text → Type 0) → IfOk made (λ shown. P m (string_bytes shown)) → IfOk made (λ shown. HoldsOfCompleted path text (λ n. P n (string_bytes shown)))
+  shown_of P shown =
+      IfOk-weaker made _ (λ shown. HoldsOfCompleted path text (λ n. P n (string_bytes shown)))
+      (λ shown exact. record { manifest = m; completed = subst (IsCompletedIn path text) (sym same) completed; exact = exact }) shown
+
+  pub refused_of : (P : Manifest Value → Error → Type 0) → IfErr made (P m) → IfErr made (IsRefusedFor path text P)
+  refused_of P refused =
+      IfErr-weaker made _ (IsRefusedFor path text P)
+      (λ e exact. inr (record { manifest = m; completed = subst (IsCompletedIn path text) (sym same) completed; exact = exact })) refused

@@ -1,9 +1,0 @@
-pub mod Apart
-pub mod Entries
-pub mod Inherited
-pub mod Lasting
-pub mod Left
-pub mod Near
-pub mod Replaced
-pub mod SameCopies
-pub mod Targets

@@ -1,6 +1,0 @@
-use Rattle.std.proofs.Common.{rules}
-use Rattle.cargo_toml_dependencies.proofs.SameCopies.{detail_same}
-use Rattle.cargo_toml_dependencies.proofs.dependency.DependencyDetailDuplicate.duplicate.Goals as goal
-
-pub returns : goal.returns
-returns c = search (rules, detail_same)

@@ -1,8 +1,0 @@
-use Rattle.std.proofs.Common.{[]}
-use Rattle.cargo_toml_dependencies.specs.Features.{feature_meaning, feature_of}
-use Rattle.cargo_toml_parts.proofs.Readers.{OthersSoFar}
-use Rattle.cargo_toml_parts.specs.Reads.{WrongShape}
-use Rattle.cargo_toml_dependencies.proofs.feature.pairs.Given as goal
-
-abbrev pub invariant-loop-name : goal.invariant-loop-name
-invariant-loop-name l = OthersSoFar _ _ feature_meaning feature_of WrongShape [] l.initial.name-iterator l.name-iterator l.pairs.items

@@ -1,0 +1,49 @@
+-- Sets and maps once `retain` has run through them.
+use Rattle.std.proofs.Common.{◌≡◌, ◌&&◌, ◌||◌, Bool, true, false, cond, List, [], ◌∷◌, filter, Option, Some, None, IsTrue, Bor, refl, sym, ap, subst, ◌∙◌, rules}
+use Rattle.std.proofs.lemmas.{Map.Text.is_eq-slice_cmp, Slice.Eq.bytes_eq-Decides}
+use Rattle.std.specs.{BTreeMap.is_at, BTreeSet.BTreeSet, Cmp.Lexicographic.slice_cmp, List.list_any, Map.lookup, Map.Calls.RetainsPairs, Ordering.nat_cmp}
+use Rattle.cargo_toml_graph.specs.Action.{Text}
+use Rattle.cargo_toml_features.specs.Views.{set_has}
+
+-- a set of texts of which those are left that pass a test
+pub has_filtered : (test : Text → Bool) (s n : BTreeSet (Bor Text)) → n.keys ≡ filter (λ k. test k.now) s.keys → (x : Text) → set_has n x ≡ (set_has s x && test x)
+has_filtered test s n e x = ap (list_any here) e ∙ all s.keys
+  where
+    here : Bor Text → Bool
+    here = is_at (λ k. slice_cmp nat_cmp x k.now)
+
+    nothing : (a : Bool) → (a && false) ≡ false
+    nothing true = refl
+    nothing false = refl
+
+    -- by whether k is x, and then by whether it passes
+    one : (k : Bor Text) (ks : List (Bor Text)) → list_any here (filter (λ q. test q.now) ks) ≡ (list_any here ks && test x)
+        → (b : Bool) → here k ≡ b → (t : Bool) → test k.now ≡ t → (here k || list_any here (filter (λ q. test q.now) ks)) ≡ (b || (list_any here ks && test x))
+        → list_any here (cond t (k ∷ filter (λ q. test q.now) ks) (filter (λ q. test q.now) ks)) ≡ ((b || list_any here ks) && test x)
+    one k ks later true i true j both = both ∙ sym (ap test ((bytes_eq-Decides x k.now).0 (sym (is_eq-slice_cmp x k.now) ∙ i)) ∙ j)
+    one k ks later true i false j both =
+        let off : test x ≡ false = ap test ((bytes_eq-Decides x k.now).0 (sym (is_eq-slice_cmp x k.now) ∙ i)) ∙ j in
+        later ∙ ap (λ b. list_any here ks && b) off ∙ nothing _ ∙ sym off
+    one k ks later false i true j both = both
+    one k ks later false i false j both = later
+
+    all : (ks : List (Bor Text)) → list_any here (filter (λ q. test q.now) ks) ≡ (list_any here ks && test x)
+    all [] = refl
+    all (k ∷ ks) =
+        one k ks (all ks) (here k) refl (test k.now) refl (ap (λ l. here k || l) (all ks))
+
+-- Q relates what each value was to what it is
+module _ {K X : Type 0} (Q : K → X → X → Type 0) (p : K → Bool) where
+  -- what a look-up finds before and after
+  abbrev pub Finds : Option X → Option X → Type 0
+  Finds None None = Unit {0}
+  Finds None (Some w) = ⊥
+  Finds (Some v) None = ⊥
+  Finds (Some v) (Some w) = (k : K) × IsTrue (p k) × Q k v w
+
+  go : (e : K × X) (w : X) (es rest : List (K × X)) → Q e.0 e.1 w → Finds (lookup p es) (lookup p rest) → (b : Bool) → p e.0 ≡ b → Finds (cond b (Some e.1) (lookup p es)) (cond b (Some w) (lookup p rest))
+  go v0 v1 v2 v3 v4 v5 v6 v7 = search rules
+
+  pub looked_up : {F : Type 0} (T : F → K → X → Bool → X → F → Type 0) (f : F) → ((k : K) (v : X) (b : Bool) (w : X) (f' : F) → T f k v b w f' → (b ≡ true) × Q k v w × (f' ≡ f)) → (es kept : List (K × X)) → RetainsPairs T f es kept → Finds (lookup p es) (lookup p kept)
+  looked_up T f h [] kept r = subst (λ l. Finds None (lookup p l)) (sym r) tt
+  looked_up T f h (e ∷ es) kept r = search (rules, looked_up T f h es r.3)

@@ -1,0 +1,10 @@
+use Rattle.std.proofs.Common.{◌≡◌, None, map, take}
+use Rattle.cargo_toml_graph.specs.Action.{Text}
+use Rattle.cargo_toml_features.specs.{InOrder.feature_at, Views.entry_of, FullGraph.AreFree, FullGraph.is_offered, Searching.has_key}
+use Rattle.cargo_toml_features.proofs.imply.implied_keys.Given as goal
+
+abbrev pub invariant-loop-entry : goal.invariant-loop-entry
+invariant-loop-entry l = record {
+  keys : (q : Text) → feature_at l.features q ≡ None → has_key l.keys q ≡ is_offered (has_key l.acted.reserved) (map entry_of (take l.entry-index l.entries)) q;
+  free : AreFree l.keys l.features;
+}

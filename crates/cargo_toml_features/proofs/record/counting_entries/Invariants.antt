@@ -1,0 +1,10 @@
+use Rattle.std.proofs.Common.{◌≡◌, ◌||◌, map, take}
+use Rattle.cargo_toml_package.specs.Dependencies.{is_optional}
+use Rattle.cargo_toml_features.{specs.FullGraph.counts_alone, specs.FullGraph.is_mentioned_in, specs.Views.entry_of, proofs.GatheredKeys.Gathers}
+use Rattle.cargo_toml_features.proofs.record.counting_entries.Given as goal
+
+abbrev pub invariant-loop-entry : goal.invariant-loop-entry
+invariant-loop-entry l = record {
+  flags : l.flags.items ≡ map (counts_alone (is_mentioned_in l.mentions)) (map entry_of (take l.entry-index l.entries));
+  keys : Gathers (λ k e. is_optional e.dependency || is_mentioned_in l.mentions k) (map (λ t. t.now) l.keys.items) (map entry_of (take l.entry-index l.entries));
+}

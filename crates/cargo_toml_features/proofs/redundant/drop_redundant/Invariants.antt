@@ -1,0 +1,10 @@
+use Rattle.std.proofs.Common.{◌≡◌, List}
+use Rattle.cargo_toml_graph.specs.Action.{Text}
+use Rattle.cargo_toml_features.{specs.InOrder.names_of, specs.Recorded.Entry, specs.FullGraph.IsSaidOf, specs.FullGraph.Thinned, proofs.Requiring.TurnedUpTo}
+use Rattle.cargo_toml_features.proofs.redundant.drop_redundant.Given as goal
+
+abbrev pub invariant-loop-feature : goal.invariant-loop-feature
+invariant-loop-feature l = record {
+  names : names_of l.features ≡ names_of l.initial.features;
+  thinned : (entries : Text → List Entry) → ((k : Text) → IsSaidOf l.dependencies l.redundant k (entries k)) → TurnedUpTo (Thinned entries) l.feature-index l.initial.features l.features;
+}

@@ -1,9 +1,0 @@
-use Rattle.std.proofs.Common.{bytes_eq, rules, tests, ◌∙◌}
-use Rattle.std.proofs.lemmas.{Iterator.YieldsList-from_slice, Iterator.Search.any_from_yields_List}
-use Rattle.cargo_toml_full.proofs.Placed.{found_any}
-use Rattle.cargo_toml_full.proofs.ordered.is_there.Goals as goal
-
-pub returns-else-features-gt-FEW : goal.returns-else-features-gt-FEW
-returns-else-features-gt-FEW c =
-    any_from_yields_List (λ v. bytes_eq c.args.name.now v.key.now) _ _ _ c.any.ensures.ran (YieldsList-from_slice c.args.features.now cc) (λ x b q k. search (rules, tests))
-    ∙ found_any c.args.features.now c.args.name.now

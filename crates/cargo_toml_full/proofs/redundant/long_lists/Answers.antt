@@ -1,9 +1,0 @@
-use Rattle.std.proofs.Common.{◌≡◌, Some, rules}
-use Rattle.cargo_toml_full.specs.{declared.redundant_features.RedundantFeatures.RedundantFeatures, declared.slots.Slots.Slots}
-use Rattle.cargo_toml_full.proofs.redundant.long_lists.Goals as goal
-
-some_same : {x y : Slots RedundantFeatures} → Some x ≡ Some y → x ≡ y
-some_same e = cc
-
-pub returns : goal.returns
-returns c = search (rules, some_same)

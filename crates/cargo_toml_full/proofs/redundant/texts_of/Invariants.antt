@@ -1,6 +1,0 @@
-use Rattle.std.proofs.Common.{◌≡◌, map, string_bytes, take}
-use Rattle.cargo_toml_full.proofs.redundant.texts_of.Given as goal
-
-abbrev pub invariant-loop-feature : goal.invariant-loop-feature
-invariant-loop-feature l =
-    map (λ t. t.now) l.texts.items ≡ map string_bytes (take l.feature-index l.features)

@@ -1,6 +1,0 @@
-use Rattle.std.proofs.{Common.rules, lemmas.Iterator.Adapters.fact_from_collect}
-use Rattle.cargo_toml_full.proofs.Gathering.{texts_made}
-use Rattle.cargo_toml_full.proofs.sets.collected.Goals as goal
-
-pub returns : goal.returns
-returns c = search (rules, texts_made, fact_from_collect)

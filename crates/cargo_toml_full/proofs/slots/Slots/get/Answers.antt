@@ -1,9 +1,0 @@
-use Rattle.std.proofs.{lemmas.List.length-map, Common.rules}
-use Rattle.cargo_toml_full.proofs.HeldValues.{held_at, held_missing}
-use Rattle.cargo_toml_full.proofs.slots.Slots.get.Goals as goal
-
-pub returns-in_err-place : goal.returns-in_err-place
-returns-in_err-place g c = search (rules, held_missing)
-
-pub returns : goal.returns
-returns g c = search (rules, length-map, held_at)

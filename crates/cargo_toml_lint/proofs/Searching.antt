@@ -1,0 +1,93 @@
+-- A search, one vertex after another.
+use Rattle.std.proofs.Common.{◌≡◌, ◌≢◌, ◌⊎◌, ◌↔◌, ◌<◌, ℕ, Bool, true, false, Vec, List, [], ◌∷◌, ◌++◌, ◌==◌, length, get_or, set, refl, sym, subst, inl, inr, ◌∙◌, arith, length-set}
+use Rattle.std.proofs.lemmas.Bool.{cases_eq}
+use Rattle.std.proofs.lemmas.Bool.Decides.{Decides-eqb}
+use Rattle.cargo_toml.specs.Reach.{Among, Gathers, Reaches}
+use Rattle.cargo_toml.specs.Reach.Reaches.{edge, through}
+use Rattle.cargo_toml_features.proofs.ByPlace.{among_at}
+use Rattle.cargo_toml_graph.proofs.Closure.{chained}
+use Rattle.cargo_toml_lint.specs.Reached.{IsFlagged, IsInRing, IsWhole, Leads, Path, Searches, Stands, row_at}
+use Rattle.cargo_toml_lint.specs.declared.reach.Reach.{Reach}
+use Rattle.cargo_toml_lint.proofs.Rows.{among_either, among_first, among_last, flag_set}
+
+abbrev All : ℕ → Type 0
+All v = Unit {0}
+
+-- a path, and one more edge
+pub path_edge : (E : ℕ → ℕ → Type 0) {a b c : ℕ} → Gathers E All a b → E b c → Gathers E All a c
+path_edge E {a} {b} {c} (inl e) l = inr (tt, edge (subst (λ v. E v c) e l))
+path_edge E (inr p) l = inr (tt, chained All p.1 tt (edge l))
+
+-- what holds at the start of a path, and goes along edges, holds at its end
+pub along : (E : ℕ → ℕ → Type 0) (S : ℕ → Type 0) → ((x y : ℕ) → S x → E x y → S y) → {a b : ℕ} → S a → Gathers E All a b → S b
+along E S goes s (inl e) = subst S (sym e) s
+along E S goes s (inr p) = by s p.1
+  where
+    by : {a b : ℕ} → S a → Reaches E All a b → S b
+    by {a} {b} s (edge e) = goes a b s e
+    by {a} s (through {b = c} e t p) = by (goes a c s e) p
+
+pub path_then : (E : ℕ → ℕ → Type 0) {a b c : ℕ} → Gathers E All a b → Gathers E All b c → Gathers E All a c
+path_then E {a} p q = along E (λ v. Gathers E All a v) (λ x y s l. path_edge E s l) p q
+
+-- where a path ends
+pub path_inside : (r : Reach) → IsWhole r → (a b : ℕ) → a < length r.next.items → Path r.next.items a b → b < length r.next.items
+path_inside r whole a b lt p = along (Leads r.next.items) (λ v. v < length r.next.items) (λ x y s l. whole.inside x y l) lt p
+
+module _ (r : Reach) (start : ℕ) (row : List Bool) (waiting : List ℕ) (x : ℕ) (s : Searches r start row (waiting ++ x ∷ [])) where
+  was : (y : ℕ) → Among (waiting ++ x ∷ []) y → Among waiting y ⊎ (y ≡ x)
+  was y i = elim (among_either waiting (x ∷ []) y i) [ inl j ↦ inl j | inr j ↦ elim j [ inl e ↦ inr e | inr a ↦ absurd a ] ]
+
+  pub meets_old : IsFlagged row x → Searches r start row waiting
+  meets_old on = grind (arith, among_either, among_first)
+
+  pub meets_row : IsWhole r → Stands r x → (new : List Bool) → length new ≡ length row → ((y : ℕ) → IsFlagged new y ↔ (IsFlagged row y ⊎ IsFlagged (row_at r.rows.items x) y)) → Searches r start new waiting
+  meets_row whole stands new len is = record {
+    len = len ∙ s.len;
+    begun = elim s.begun [ inl f ↦ inl ((is start).1 (inl f)) | inr i ↦ taken start (was start i) ];
+    sound = λ y f. elim ((is y).0 f) [
+      | inl o ↦ s.sound y o
+      | inr h ↦ path_then (Leads r.next.items) (s.met x (among_last waiting (x ∷ []) x (inl refl))) ((whole.right x y stands).0 h)
+    ];
+    met = λ y i. s.met y (among_first waiting (x ∷ []) y i);
+    done = λ y z f l. elim ((is y).0 f) [
+      | inl o ↦ elim (s.done y z o l) [ inl a ↦ inl ((is z).1 (inl a)) | inr i ↦ taken z (was z i) ]
+      | inr h ↦ inl ((is z).1 (inr ((whole.right x z stands).1 (path_edge (Leads r.next.items) ((whole.right x y stands).0 h) l))))
+    ];
+  }
+    where
+      taken : (y : ℕ) → Among waiting y ⊎ (y ≡ x) → IsFlagged new y ⊎ Among waiting y
+      taken y (inl i) = inr i
+      taken y (inr e) = inl ((is y).1 (inr ((whole.right x y stands).1 (inl e))))
+
+  pub meets_new : x < length row → Searches r start (set row x true) (waiting ++ row_at r.next.items x)
+  meets_new lt = grind (arith, among_either, among_first, among_last, path_edge (Leads r.next.items), flag_set row x lt, length-set row x true)
+
+pub search_ends : (r : Reach) (start : ℕ) (row : List Bool) (waiting : List ℕ) → length waiting ≡ 0 → Searches r start row waiting → (y : ℕ) → IsFlagged row y ↔ Path r.next.items start y
+search_ends r start row [] none s y = grind (arith, along (Leads r.next.items) (IsFlagged row))
+search_ends r start row (w ∷ waiting) none s y = absurd (omega arith)
+
+-- a row that isn't empty stands
+pub stood : (r : Reach) (x : ℕ) (own : List Bool) → own ≡ row_at r.rows.items x → {b : Bool} → b ≡ (length own == 0) → b ≡ false → Stands r x
+stood r x own is told off = grind (arith, Decides-eqb)
+
+-- an edge that is read in the list of its vertex
+pub target_at : (r : Reach) (a i : ℕ) (targets : List ℕ) → targets ≡ row_at r.next.items a → i < length targets → Leads r.next.items a (get_or targets i 0)
+target_at r a i targets is lt = subst (λ t. Among t (get_or targets i 0)) is (among_at targets i 0 lt)
+
+-- where a ring leaves its vertex
+pub first_step : {Z : Type 0} (next : List (Vec ℕ Z)) (own : ℕ) → IsInRing next own → (w : ℕ) × Leads next own w × (w ≢ own) × Path next w own
+first_step {Z} next own ring = elim (ring.2) [
+  | inl e ↦ absurd (ring.1 e)
+  | inr p ↦ go refl p.1
+]
+  where
+    back : Path next ring.0 own
+    back = ring.3
+
+    go : {a : ℕ} → a ≡ own → Reaches (Leads next) All a ring.0 → (w : ℕ) × Leads next own w × (w ≢ own) × Path next w own
+    go {a} same (edge e) = (ring.0, subst (λ v. Leads next v ring.0) same e, ring.1, back)
+    go {a} same (through {b = c} e s p) = elim (cases_eq c own) [
+      | inl here ↦ go here p
+      | inr other ↦ (c, subst (λ v. Leads next v c) same e, other, path_then (Leads next) (inr (tt, p)) back)
+    ]

@@ -1,0 +1,44 @@
+use Rattle.std.proofs.Common.{rules, string_bytes, subst, sym}
+use Rattle.std.proofs.lemmas.Result.{err_from_is_err_and}
+use Rattle.std.specs.Option.{option_copied}
+use Rattle.serde_json.specs.View.{view}
+use Rattle.cargo_toml.specs.Manifests.{held}
+use Rattle.cargo_toml_tools.specs.FromFiles.{IsCompletedIn}
+use Rattle.cargo_toml_tools.specs.Linted.{AreFindingsOf}
+use Rattle.cargo_toml_tools.proofs.files.indexing.index_of.Goals as goal
+
+pub returns-in_err-held-clause-refused : goal.returns-in_err-held-clause-refused
+returns-in_err-held-clause-refused g c = search (rules, err_from_is_err_and)
+
+pub returns-in_err-findings-clause-refused : goal.returns-in_err-findings-clause-refused
+returns-in_err-findings-clause-refused g c = search (rules, err_from_is_err_and)
+
+pub returns-in_err-entry-clause-refused : goal.returns-in_err-entry-clause-refused
+returns-in_err-entry-clause-refused g c =
+    let p = err_from_is_err_and c.from_residual-in_err-entry.result c.from_residual-in_err-entry.ensures.1 in
+    rw (p.1, p.2) (record {
+      manifest = c.deref-manifest.result.now;
+      findings = c.as_slice.result.now;
+      looked_at = record {
+        completed = subst (IsCompletedIn c.args.file.now c.args.text.now) (sym c.deref-manifest.ensures) c.in_ok-held.ensures.completed;
+        found = subst (AreFindingsOf (held c.deref-manifest.result.now)) (sym c.as_slice.ensures.value) c.in_ok-findings.ensures.found;
+      };
+      told_so = c.in_err-entry.ensures.refused;
+    })
+
+pub returns-clause-printed : goal.returns-clause-printed
+returns-clause-printed g c = record {
+  manifest = c.deref-manifest.result.now;
+  findings = c.as_slice.result.now;
+  looked_at = record {
+    completed = subst (IsCompletedIn c.args.file.now c.args.text.now) (sym c.deref-manifest.ensures) c.in_ok-held.ensures.completed;
+    found = subst (AreFindingsOf (held c.deref-manifest.result.now)) (sym c.as_slice.ensures.value) c.in_ok-findings.ensures.found;
+  };
+  taken = c.in_ok-entry.ensures.taken;
+  sum = option_copied c.or-checksum.result;
+  line = view c.in_ok-entry.entry;
+  is = c.in_ok-entry.ensures.entry;
+  spelled = string_bytes c.in_ok-line.line;
+  exact = c.in_ok-line.ensures.order;
+  ended = c.in_ok-push_str.ensures.bytes;
+}

@@ -1,0 +1,21 @@
+use Rattle.std.proofs.Common.{◌≡◌, ◌||◌, false, List, map, true}
+use Rattle.std.specs.List.{flat_map, list_any}
+use Rattle.serde_json.specs.View.{members_view}
+use Rattle.cargo_toml.specs.Action.{Text}
+use Rattle.cargo_toml_tools.specs.IndexLines.{is_extended, kept_lists, list_rows}
+use Rattle.cargo_toml_tools.specs.{Checked.lists_meaning, IndexRows.with_rows, Sections.table_of}
+use Rattle.cargo_toml_tools.proofs.Told.{list_of}
+use Rattle.cargo_toml_tools.proofs.index.features.put_lists.Given as goal
+
+abbrev pub invariant-loop-name : goal.invariant-loop-name
+invariant-loop-name l =
+    let all = kept_lists (map table_of l.sections) (lists_meaning l.features) in
+    let left = kept_lists (map table_of l.sections) (map list_of l.name-iterator) in
+    record {
+      first : with_rows (flat_map (list_rows false) left) (members_view l.first.entries)
+          ≡ with_rows (flat_map (list_rows false) all) (members_view l.initial.first.entries);
+      second : with_rows (flat_map (list_rows true) left) (members_view l.second.entries)
+          ≡ with_rows (flat_map (list_rows true) all) (members_view l.initial.second.entries);
+      extended : (l.has_second || list_any (λ (f : Text × List Text). is_extended f.1) left)
+          ≡ list_any (λ (f : Text × List Text). is_extended f.1) all;
+    }

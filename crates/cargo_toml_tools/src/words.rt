@@ -1,0 +1,228 @@
+//! What the words of the command line ask for.
+ghost use Rattle.std.specs.Prelude.{IfOk};
+ghost use Rattle.cargo_toml_tools.specs.Asked.{IsOfOneFile};
+
+use crate::command::command;
+use crate::index::{CRATES_IO, Named, Options};
+use clap::ArgMatches;
+use clap::error::ErrorKind;
+use std::alloc::{AllocError, Global};
+
+/// What the program is asked to do.
+#[derive(Debug, Drop)]
+pub enum Request<'a> {
+    /// What keeps these manifests from being read and completed.
+    Check(Inputs<'a>),
+    /// These manifests once they are completed, as JSON or as TOML.
+    Show(Inputs<'a>, bool),
+    /// The features of these manifests.
+    Features(Inputs<'a>),
+    /// The lines that an index has of these crates. A checksum is that of the only one.
+    Index(Inputs<'a>, Wanted<'a>),
+    /// What is amiss with these crates' features.
+    Lint(Inputs<'a>, Judging<'a>),
+    /// The report on the workspace in this folder, as JSON or as lines.
+    Audit(&'a str, bool),
+    /// What is documented of these crates' features, as a graph or as a page.
+    Document(Inputs<'a>, bool),
+    /// A text that is asked for, as the help.
+    Text(String),
+    /// Nothing, since the words are no command; why, and how the program is called.
+    NoCommand(String),
+}
+
+/// The files that a request is about.
+#[derive(Debug, Drop)]
+pub struct Inputs<'a> {
+    /// Those that are named.
+    pub files: Vec<&'a str>,
+    /// The file that names others.
+    pub from: Option<&'a str>,
+    /// The folder of the workspace whose members are meant.
+    pub workspace: Option<&'a str>,
+}
+
+/// Which lines of an index are asked for, and where to.
+#[derive(Debug, Drop)]
+pub struct Wanted<'a> {
+    pub registry: &'a str,
+    pub names: Vec<Named<'a>>,
+    pub checksum: Option<&'a str>,
+    /// The file of checksums.
+    pub checksums: Option<&'a str>,
+    pub force: bool,
+    pub with_names: bool,
+    /// The folder of the index.
+    pub layout: Option<&'a str>,
+}
+
+impl Wanted<'_> {
+    /// The same as options.
+    pub fn options(&self) -> Options<'_> {
+        Options {
+            registry: self.registry,
+            names: self.names.as_slice(),
+            checksum: self.checksum,
+            force: self.force,
+        }
+    }
+}
+
+/// How findings are judged and told.
+#[derive(Debug, Drop)]
+pub struct Judging<'a> {
+    /// Whether an object of JSON a line is wanted.
+    pub json: bool,
+    /// What is passed over: `CODE` or `CODE=FEATURE` each.
+    pub allowed: Vec<&'a str>,
+    /// Whether hints count, too.
+    pub denies_hints: bool,
+}
+
+/// What these words ask for, of which the first is the program's own name. Behind it may stand the
+/// word that Cargo hands on, `toml-tools`. A checksum is that of the only file.
+pub fn read_request<'a>(alloc: Global, words: &'a [String]) -> Result<Request<'a>, AllocError>
+    ensures { IfOk result IsOfOneFile }
+{
+    match command(alloc)?.try_get_matches_from(own_words(words)) {
+        Ok(matches) => request_of(alloc, &matches),
+        Err(fault) => match fault.kind() {
+            ErrorKind::OutOfMemory => Err(AllocError),
+            ErrorKind::DisplayHelp | ErrorKind::DisplayVersion => {
+                Ok(Request::Text(format!(in alloc; "{fault}")?))
+            }
+            _ => Ok(Request::NoCommand(format!(in alloc; "{fault}")?)),
+        },
+    }
+}
+
+/// The words without the one that Cargo hands on.
+fn own_words(words: &[String]) -> &[String] {
+    match words {
+        [_, first, ..] if first.as_str() == "toml-tools" => &words[1..],
+        _ => words,
+    }
+}
+
+fn request_of<'a>(alloc: Global, matches: &ArgMatches<'a>) -> Result<Request<'a>, AllocError>
+    ensures { IfOk result IsOfOneFile }
+{
+    let Some((name, matches)) = matches.subcommand() else {
+        return no_command(alloc);
+    };
+    match name {
+        "check" => Ok(Request::Check(files_of(alloc, matches)?)),
+        "show" => Ok(Request::Show(files_of(alloc, matches)?, matches.get_flag("json"))),
+        "features" => Ok(Request::Features(files_of(alloc, matches)?)),
+        "index" => index(alloc, matches),
+        "lint" => lint(alloc, matches),
+        "audit" => audit(alloc, matches),
+        "document" => Ok(Request::Document(files_of(alloc, matches)?, matches.get_flag("dot"))),
+        _ => no_command(alloc),
+    }
+}
+
+fn no_command<'a>(alloc: Global) -> Result<Request<'a>, AllocError>
+    ensures { IfOk result IsOfOneFile }
+{
+    let words = "error: no command; `--help` tells which there are\n";
+    Ok(Request::NoCommand(String::from_str(alloc, words)?))
+}
+
+fn files_of<'a>(alloc: Global, matches: &ArgMatches<'a>) -> Result<Inputs<'a>, AllocError> {
+    Ok(Inputs {
+        files: strings(alloc, matches, "files")?,
+        from: matches.get_str("files-from"),
+        workspace: matches.get_str("workspace"),
+    })
+}
+
+/// One checksum is asked of one file.
+fn index<'a>(alloc: Global, matches: &ArgMatches<'a>) -> Result<Request<'a>, AllocError>
+    ensures { IfOk result IsOfOneFile }
+{
+    let inputs = files_of(alloc, matches)?;
+    let Some(names) = names(alloc, matches)? else {
+        return refused(alloc, "a name of a registry is NAME=URL");
+    };
+    let mut wanted = Wanted {
+        registry: matches.get_str("registry").unwrap_or(CRATES_IO),
+        names,
+        checksum: None,
+        checksums: matches.get_str("checksums"),
+        force: matches.get_flag("force"),
+        with_names: matches.get_flag("with-names"),
+        layout: matches.get_str("layout"),
+    };
+    match matches.get_str("checksum") {
+        Some(text) if inputs.files.len() == 1 && inputs.from.is_none() && is_checksum(text) => {
+            wanted.checksum = Some(text);
+            Ok(Request::Index(inputs, wanted))
+        }
+        Some(_) => refused(
+            alloc,
+            "a checksum is 64 hex digits in lower case, of one FILE",
+        ),
+        None => Ok(Request::Index(inputs, wanted)),
+    }
+}
+
+fn refused<'a>(alloc: Global, words: &str) -> Result<Request<'a>, AllocError>
+    ensures { IfOk result IsOfOneFile }
+{
+    Ok(Request::NoCommand(format!(in alloc; "error: {words}\n")?))
+}
+
+/// What registries are called, or nothing where one has no address.
+fn names<'a>(
+    alloc: Global,
+    matches: &ArgMatches<'a>,
+) -> Result<Option<Vec<Named<'a>>>, AllocError> {
+    let mut names = Vec::new(alloc);
+    for name in strings(alloc, matches, "registry-name")? {
+        let Some(named) = name.split_once('=') else {
+            return Ok(None);
+        };
+        names.push(named)?;
+    }
+    Ok(Some(names))
+}
+
+fn lint<'a>(alloc: Global, matches: &ArgMatches<'a>) -> Result<Request<'a>, AllocError>
+    ensures { IfOk result IsOfOneFile }
+{
+    let judging = Judging {
+        json: matches.get_flag("json"),
+        allowed: strings(alloc, matches, "allow")?,
+        denies_hints: matches.get_str("deny").is_some(),
+    };
+    Ok(Request::Lint(files_of(alloc, matches)?, judging))
+}
+
+fn audit<'a>(alloc: Global, matches: &ArgMatches<'a>) -> Result<Request<'a>, AllocError>
+    ensures { IfOk result IsOfOneFile }
+{
+    match matches.get_str("folder") {
+        Some(folder) => Ok(Request::Audit(folder, matches.get_flag("json"))),
+        None => no_command(alloc),
+    }
+}
+
+fn strings<'a>(
+    alloc: Global,
+    matches: &ArgMatches<'a>,
+    name: &str,
+) -> Result<Vec<&'a str>, AllocError> {
+    match matches.get_strs(name) {
+        Some(files) => Vec::from_slice(alloc, files),
+        None => Ok(Vec::new(alloc)),
+    }
+}
+
+/// Whether the text is a SHA-256 as an index writes it.
+fn is_checksum(text: &str) -> bool {
+    text.len() == 64
+        && text
+            .bytes()
+            .all(|byte| matches!(byte, b'0'..=b'9' | b'a'..=b'f'))
+}

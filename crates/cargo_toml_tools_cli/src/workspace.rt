@@ -1,0 +1,141 @@
+//! The workspace around a folder.
+use cargo_toml::Error;
+use cargo_toml_audit::audit::{Code, Finding, json, lines};
+use cargo_toml_audit::auditing::audit;
+use cargo_toml_audit::members::{manifest_path, seen_from};
+use cargo_toml_check::check::{Told, faults_in};
+use cargo_toml_tools::files::text_in;
+use std::alloc::{AllocError, Global};
+use std::collections::BTreeSet;
+use std::random::RandomSource;
+use std::rt::Files;
+use std::{fs, io};
+
+/// The report as text, and whether something is odd. Where a member doesn't read, what is at fault
+/// in it is told.
+pub(crate) fn report_text<R: Files + Eprint + RandomSource + AllocGlobal>(
+    rt: &R,
+    folder: &str,
+    as_json: bool,
+    shows: bool,
+) -> Result<(String, bool), Error> {
+    let alloc = rt.alloc();
+    let here = here(rt)?;
+    let mut report = audit(rt, folder, shows)?;
+    let mut findings = Vec::new(alloc);
+    for finding in &report.findings {
+        push_told(rt, here.as_str(), finding, &mut findings)?;
+    }
+    report.findings = findings;
+    let text = if as_json {
+        json(alloc, &report)?
+    } else {
+        lines(alloc, &report)?
+    };
+    Ok((text, !report.findings.is_empty()))
+}
+
+/// Adds a finding, or one for each part at fault where it is of a manifest that doesn't read.
+fn push_told<R: Files + AllocGlobal>(
+    rt: &R,
+    here: &str,
+    finding: &Finding,
+    findings: &mut Vec<Finding>,
+) -> Result<(), AllocError> {
+    let alloc = rt.alloc();
+    let file = file_of(alloc, here, finding.subject.as_str())?;
+    let mut faults = Vec::new(alloc);
+    if finding.code == Code::Incomplete {
+        if let Ok(text) = text_in(rt, file.as_str()) {
+            faults = faults_in(alloc, text.as_str())?;
+        }
+    }
+    if faults.is_empty() {
+        return push_finding(finding, finding.words.clone()?, findings);
+    }
+    for told in &faults {
+        push_finding(finding, told_words(alloc, file.as_str(), told)?, findings)?;
+    }
+    Ok(())
+}
+
+/// Adds a finding with other words.
+fn push_finding(
+    finding: &Finding,
+    words: String,
+    findings: &mut Vec<Finding>,
+) -> Result<(), AllocError> {
+    let subject = finding.subject.clone()?;
+    findings.push(Finding {
+        code: finding.code,
+        subject,
+        words,
+    })?;
+    Ok(())
+}
+
+fn told_words(alloc: Global, file: &str, told: &Told) -> Result<String, AllocError> {
+    let (line, column) = told.place;
+    let words = told.words.as_str().trim_end();
+    if told.key.is_empty() {
+        return format!(in alloc; "{file}:{line}:{column}: {words}");
+    }
+    format!(in alloc; "{file}:{line}:{column}: {}: {words}", told.key)
+}
+
+/// The manifests of the members of the workspace around a folder, and of what is refused as one.
+pub(crate) fn members<R: Files + Eprint + RandomSource + AllocGlobal>(
+    rt: &R,
+    folder: &str,
+    shows: bool,
+) -> Result<BTreeSet<String>, Error> {
+    let alloc = rt.alloc();
+    let here = here(rt)?;
+    let report = audit(rt, folder, shows)?;
+    let mut files = BTreeSet::new(alloc);
+    for member in &report.members {
+        files.insert(file_of(alloc, here.as_str(), member.folder.as_str())?)?;
+    }
+    for finding in &report.findings {
+        if matches!(finding.code, Code::Absent | Code::Incomplete) {
+            files.insert(file_of(alloc, here.as_str(), finding.subject.as_str())?)?;
+        }
+    }
+    Ok(files)
+}
+
+/// The nearest manifest at or above a folder in which something is at fault, and its text.
+pub(crate) fn unread_above<R: Files + AllocGlobal>(
+    rt: &R,
+    folder: &str,
+) -> io::Result<Option<(String, String)>> {
+    let alloc = rt.alloc();
+    let here = here(rt)?;
+    let start = fs::canonicalize(rt, folder)?;
+    let mut place = start.to_str().unwrap_or("");
+    for _ in 0..place.len() {
+        let file = file_of(alloc, here.as_str(), place)?;
+        if let Ok(text) = text_in(rt, file.as_str()) {
+            if !faults_in(alloc, text.as_str())?.is_empty() {
+                return Ok(Some((file, text)));
+            }
+        }
+        place = match place.rsplit_once('/') {
+            Some((above, _)) if !above.is_empty() => above,
+            _ if place == "/" => break,
+            _ => "/",
+        };
+    }
+    Ok(None)
+}
+
+/// The folder that the program runs in.
+fn here<R: Files + AllocGlobal>(rt: &R) -> io::Result<String> {
+    let here = fs::canonicalize(rt, ".")?;
+    Ok(String::from_str(rt.alloc(), here.to_str().unwrap_or(""))?)
+}
+
+/// The manifest at a place, as it is seen from a folder.
+fn file_of(alloc: Global, here: &str, place: &str) -> Result<String, AllocError> {
+    manifest_path(alloc, seen_from(alloc, here, place)?.as_str())
+}

@@ -14,7 +14,7 @@ use std::rt::{Clock, Env, Files};
 use std::{env, io};
 
 /// Does what is asked.
-fn answer<R: Files + Print + Eprint + RandomSource + Clock + AllocGlobal>(
+fn answer<R: Files + Input + Print + Eprint + RandomSource + Clock + AllocGlobal>(
     rt: &R,
     request: &Request<'_>,
     shows: bool,
@@ -65,7 +65,7 @@ fn arguments<R: Env + AllocGlobal>(rt: &R) -> io::Result<Option<Vec<String>>> {
     }
 }
 
-fn run<R: Env + Files + Print + Eprint + RandomSource + Clock + AllocGlobal>(
+fn run<R: Env + Files + Input + Print + Eprint + RandomSource + Clock + AllocGlobal>(
     rt: &R,
     shows: bool,
 ) -> io::Result<Outcome> {

@@ -11,7 +11,7 @@ use cargo_toml_tools::{Inputs, Outcome, Request, Wanted};
 use std::collections::BTreeMap;
 use std::fmt::Display;
 use std::io;
-use std::io::Write;
+use std::io::{Read, Write};
 use std::random::RandomSource;
 use std::rt::{Clock, Files};
 use std::time::Instant;
@@ -28,7 +28,7 @@ pub(crate) struct Run<'a, R> {
     told: u128,
 }
 
-impl<'a, R: Files + Print + Eprint + RandomSource + Clock + AllocGlobal> Run<'a, R> {
+impl<'a, R: Files + Input + Print + Eprint + RandomSource + Clock + AllocGlobal> Run<'a, R> {
     /// A run that begins now. Where `shows` is set, a terminal is told how far it is.
     pub(crate) fn new(rt: &'a R, shows: bool) -> io::Result<Run<'a, R>> {
         let began = if shows { Some(Instant::now(rt)?) } else { None };
@@ -51,7 +51,7 @@ impl<'a, R: Files + Print + Eprint + RandomSource + Clock + AllocGlobal> Run<'a,
         let mut lines = String::new(alloc);
         if let Request::Index(_, wanted) = request {
             if let Some(file) = wanted.checksums {
-                match text_in(self.rt, file) {
+                match text_of(self.rt, file) {
                     Ok(text) => lines = text,
                     Err(fault) => return self.refuse(file, "", fault),
                 }
@@ -77,7 +77,7 @@ impl<'a, R: Files + Print + Eprint + RandomSource + Clock + AllocGlobal> Run<'a,
             files.push(String::from_str(alloc, *file)?)?;
         }
         if let Some(from) = inputs.from {
-            match text_in(self.rt, from) {
+            match text_of(self.rt, from) {
                 Ok(list) => {
                     for file in list.lines() {
                         files.push(String::from_str(alloc, file)?)?;
@@ -107,7 +107,7 @@ impl<'a, R: Files + Print + Eprint + RandomSource + Clock + AllocGlobal> Run<'a,
         file: &str,
     ) -> io::Result<Outcome> {
         self.step()?;
-        let read = match text_in(self.rt, file) {
+        let read = match text_of(self.rt, file) {
             Ok(text) => text,
             Err(fault) => return self.refuse(file, "", fault),
         };
@@ -215,6 +215,16 @@ impl<'a, R: Files + Print + Eprint + RandomSource + Clock + AllocGlobal> Run<'a,
         let rt = self.rt;
         eprint!(rt; "\r\u{1b}[K")
     }
+}
+
+/// The text of a file, or of standard input where the file is called `-`.
+fn text_of<R: Files + Input + AllocGlobal>(rt: &R, file: &str) -> Result<String, Error> {
+    if file != "-" {
+        return text_in(rt, file);
+    }
+    let mut text = String::new(rt.alloc());
+    rt.reader().read_to_string(&mut text)?;
+    Ok(text)
 }
 
 /// What is made of the text of a file, and whether it tells something odd.

@@ -10,12 +10,11 @@ use cargo_toml_bench::HeldManifest;
 use std::fs;
 use std::rt::Files;
 
-/// The text of a file, or of standard input where the file is called `-`.
+/// The text of a file.
 pub fn text_in<R: Files + AllocGlobal>(rt: &R, file: &str) -> Result<String, Error>
     ensures { IfErr result IsOfInput }
 {
-    let path = if file == "-" { "/dev/stdin" } else { file };
-    Ok(fs::read_to_string(rt, path)?)
+    Ok(fs::read_to_string(rt, file)?)
 }
 
 /// The manifest in the text of this file, completed from what is around it.

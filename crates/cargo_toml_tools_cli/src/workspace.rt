@@ -112,19 +112,13 @@ pub(crate) fn unread_above<R: Files + AllocGlobal>(
     let alloc = rt.alloc();
     let here = here(rt)?;
     let start = fs::canonicalize(rt, folder)?;
-    let mut place = start.to_str().unwrap_or("");
-    for _ in 0..place.len() {
-        let file = file_of(alloc, here.as_str(), place)?;
+    for above in start.as_path().ancestors() {
+        let file = file_of(alloc, here.as_str(), above.as_str())?;
         if let Ok(text) = text_in(rt, file.as_str()) {
             if !faults_in(alloc, text.as_str())?.is_empty() {
                 return Ok(Some((file, text)));
             }
         }
-        place = match place.rsplit_once('/') {
-            Some((above, _)) if !above.is_empty() => above,
-            _ if place == "/" => break,
-            _ => "/",
-        };
     }
     Ok(None)
 }

@@ -9,6 +9,7 @@
 
 mod cases;
 mod findings;
+mod packages;
 mod words;
 
 use cargo_toml::Error;
@@ -21,6 +22,7 @@ use cargo_toml_check::lint::lint_lines;
 use cargo_toml_tools::files::{document_text, index_of};
 use cargo_toml_tools::index::{CRATES_IO, Options};
 use cargo_toml_tools::{Judging, Outcome, files};
+use packages::with_packages;
 use std::alloc::Global;
 use std::collections::BTreeMap;
 use std::random::RandomSource;
@@ -167,6 +169,7 @@ fn answer_of<R: Files + RandomSource + Eprint + AllocGlobal>(
     row: &str,
 ) -> Result<String, Error> {
     if let Some(lines) = text_in(rt, row, "tree")? {
+        let lines = with_packages(rt.alloc(), lines.as_str())?;
         return answer_in_tree(rt, kind, row, lines.as_str());
     }
     let Some(other) = text_in(rt, row, "like")? else {

@@ -27,12 +27,14 @@ fn is_unsupported(fault: &Error) -> bool {
 
 // Whether that is the fault, wrapped with this hint.
 fn is_wrapped(outcome: Result<(), Error>, hint: &str) -> bool {
-    match &outcome {
+    let is_wrapped = match &outcome {
         Err(Error::Workspace(inner)) => {
             is_unsupported(&inner.0) && inner.1.as_deref() == Some(hint)
         }
         _ => false,
-    }
+    };
+    drop(outcome);
+    is_wrapped
 }
 
 const MEMBER: &str = "package = { name = \"m\", workspace = \"../\", version.workspace = true }";
@@ -53,7 +55,8 @@ fn root_for_hint_of_a_silent_implementor(rt: HostRuntime) -> Result<(), Fail> {
 #[test]
 fn root_bytes_are_never_read_among_real_files(rt: HostRuntime) -> Result<(), Fail> {
     let read = Filesystem::new(&rt, "").read_root_workspace(rt.alloc(), None);
-    assert!(rt; matches!(&read, Err(fault) if is_unsupported(fault)));
+    let is_refused = matches!(&read, Err(fault) if is_unsupported(fault));
     drop(read);
+    assert!(rt; is_refused);
     Ok(())
 }

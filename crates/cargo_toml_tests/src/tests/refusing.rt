@@ -3,9 +3,9 @@
 ghost use Rattle.std.specs.Prelude.{◌≡◌, false};
 
 use cargo_toml::features::Resolver;
-use cargo_toml::{Error, Inheritable};
+use cargo_toml::{Error, Inheritable, Manifest};
 use cargo_toml_bench::HeldManifest;
-use std::alloc::AllocError;
+use std::alloc::{AllocError, Global};
 use std::hash::{BuildHasher, FoldHasher};
 use std::test::Fail;
 
@@ -19,14 +19,13 @@ impl Clone for Costly {
     }
 }
 
-fn is_memory<T: Drop>(answer: Result<T, Error>) -> bool {
-    matches!(answer, Err(Error::Memory))
-}
-
 #[test]
 fn refused_memory_of_a_copy(rt: HostRuntime) {
     let mut own: Inheritable<Costly> = Inheritable::Inherited;
-    assert!(rt; is_memory(own.inherit(&Costly)));
+    let answer = own.inherit(&Costly);
+    let is_refused = matches!(&answer, Err(Error::Memory));
+    drop(answer);
+    assert!(rt; is_refused);
     assert!(rt; !own.is_set());
 }
 
@@ -58,15 +57,24 @@ fn keep_none(_name: &str) -> bool
     false
 }
 
-#[test]
-fn refused_memory_of_a_state(rt: HostRuntime) -> Result<(), Fail> {
-    let alloc = rt.alloc();
+// Whether there is no memory to resolve with such a state.
+fn is_refused(alloc: Global, manifest: &Manifest) -> bool {
     let keep = keep_none;
     let state = State {
         hasher: FoldHasher::default(),
     };
     let resolver = Resolver::new_with_hasher_and_filter(state, &keep);
+    let answer = resolver.parse(alloc, manifest);
+    let is_refused = matches!(&answer, Err(Error::Memory));
+    drop(answer);
+    drop(resolver);
+    is_refused
+}
+
+#[test]
+fn refused_memory_of_a_state(rt: HostRuntime) -> Result<(), Fail> {
+    let alloc = rt.alloc();
     let held = HeldManifest::from_str(alloc, "features = { a = [] }")?;
-    assert!(rt; matches!(resolver.parse(alloc, &*held.manifest), Err(Error::Memory)));
+    assert!(rt; is_refused(alloc, &*held.manifest));
     Ok(())
 }

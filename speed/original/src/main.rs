@@ -231,7 +231,8 @@ fn run(words: &[&str]) -> Result<Measured, Error> {
             Ok(if *verb == "each" { each(&texts, count) } else { answer_each(&texts, count) })
         }
         ["parse-each", files @ .., _] => {
-            let manifests = files.iter().map(|file| manifest(file)).collect::<Result<Vec<_>, _>>()?;
+            let manifests =
+                files.iter().map(|file| manifest(file)).collect::<Result<Vec<_>, _>>()?;
             Ok(parse_each(&manifests, count))
         }
         ["early", file, _] => Ok(early(&std::fs::read(file)?, count)),

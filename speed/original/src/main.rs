@@ -4,12 +4,14 @@
 //! and prints the best time of one call in nanoseconds and how many things the answer holds. The
 //! answer's release is timed too, but for that of `complete`. Right before and right after each
 //! call the clock is asked, and at no other time: the counter of memory goes by that.
+//!
+//! `original print FILE ..` completes each manifest and prints it as a line of JSON.
 
 use cargo_toml::features::{Kind, ParseDependency, Resolver};
 use cargo_toml::{AbstractFilesystem, Error, Manifest, Value};
 use std::collections::{HashMap, HashSet};
 use std::hint::black_box;
-use std::io;
+use std::io::{self, Write};
 use std::path::Path;
 use std::time::{Duration, Instant};
 
@@ -104,20 +106,85 @@ fn text(manifest: &Manifest, count: u64) -> Measured {
     })
 }
 
+fn resolve(manifest: &Manifest) -> usize {
+    let answer = Resolver::new().parse(black_box(manifest));
+    answer.features.len() + answer.dependencies.len() + answer.hidden_features.len()
+}
+
 fn parse(manifest: &Manifest, count: u64) -> Measured {
-    repeat(count, || {
-        let answer = Resolver::new().parse(black_box(manifest));
-        answer.features.len() + answer.dependencies.len() + answer.hidden_features.len()
-    })
+    repeat(count, || resolve(manifest))
+}
+
+/// Of several, one after the other.
+fn parse_each(manifests: &[Manifest], count: u64) -> Measured {
+    repeat(count, || manifests.iter().map(resolve).sum())
 }
 
 /// From the text to the answer.
+fn answer_of(bytes: &[u8]) -> usize {
+    resolve(&Manifest::from_slice(black_box(bytes)).expect("a manifest"))
+}
+
 fn answer(bytes: &[u8], count: u64) -> Measured {
-    repeat(count, || {
-        let manifest = Manifest::from_slice(black_box(bytes)).expect("a manifest");
-        let answer = Resolver::new().parse(&manifest);
-        answer.features.len() + answer.dependencies.len() + answer.hidden_features.len()
-    })
+    repeat(count, || answer_of(bytes))
+}
+
+fn answer_each(texts: &[Vec<u8>], count: u64) -> Measured {
+    repeat(count, || texts.iter().map(|text| answer_of(text)).sum())
+}
+
+fn put_text(text: &str, line: &mut String) {
+    line.push('"');
+    for letter in text.chars() {
+        match letter {
+            '"' | '\\' => line.extend(['\\', letter]),
+            letter if letter < ' ' => line.push_str(&format!("\\u{:04x}", letter as u32)),
+            letter => line.push(letter),
+        }
+    }
+    line.push('"');
+}
+
+fn put_json(tree: &Value, line: &mut String) {
+    match tree {
+        Value::String(text) => put_text(text, line),
+        Value::Datetime(date) => put_text(&date.to_string(), line),
+        Value::Integer(number) => line.push_str(&number.to_string()),
+        Value::Float(number) => line.push_str(&number.to_string()),
+        Value::Boolean(is_true) => line.push_str(if *is_true { "true" } else { "false" }),
+        Value::Array(items) => {
+            let mut before = '[';
+            for item in items {
+                line.push(before);
+                put_json(item, line);
+                before = ',';
+            }
+            line.push_str(if before == '[' { "[]" } else { "]" });
+        }
+        Value::Table(table) => {
+            let mut before = '{';
+            for (key, item) in table {
+                line.push(before);
+                put_text(key, line);
+                line.push(':');
+                put_json(item, line);
+                before = ',';
+            }
+            line.push_str(if before == '{' { "{}" } else { "}" });
+        }
+    }
+}
+
+/// Each manifest with what stands around it, as a line of JSON.
+fn print(files: &[&str]) -> Result<(), Error> {
+    let mut out = io::BufWriter::new(io::stdout().lock());
+    for file in files {
+        let mut line = String::new();
+        put_json(&tree_of(&Manifest::from_path(file)?), &mut line);
+        line.push('\n');
+        out.write_all(line.as_bytes())?;
+    }
+    Ok(out.flush()?)
 }
 
 /// Its features and normal dependencies, as if they stood in no manifest.
@@ -159,9 +226,14 @@ fn run(words: &[&str]) -> Result<Measured, Error> {
     let count = words.last().and_then(|word| word.parse().ok());
     let count = count.ok_or(Error::Other("COUNT is a number"))?;
     match words {
-        ["each", files @ .., _] => {
+        [verb @ ("each" | "answer-each"), files @ .., _] => {
             let texts = files.iter().map(std::fs::read).collect::<Result<Vec<_>, _>>()?;
-            Ok(each(&texts, count))
+            Ok(if *verb == "each" { each(&texts, count) } else { answer_each(&texts, count) })
+        }
+        ["parse-each", files @ .., _] => {
+            let manifests =
+                files.iter().map(|file| manifest(file)).collect::<Result<Vec<_>, _>>()?;
+            Ok(parse_each(&manifests, count))
         }
         ["early", file, _] => Ok(early(&std::fs::read(file)?, count)),
         ["read", file, _] => Ok(read(&std::fs::read(file)?, count)),
@@ -180,6 +252,9 @@ fn run(words: &[&str]) -> Result<Measured, Error> {
 fn main() -> Result<(), Error> {
     let words: Vec<String> = std::env::args().skip(1).collect();
     let words: Vec<&str> = words.iter().map(String::as_str).collect();
+    if let ["print", files @ ..] = words.as_slice() {
+        return print(files);
+    }
     let measured = run(&words)?;
     println!("{} {}", measured.best.as_nanos(), measured.size);
     Ok(())

@@ -11,11 +11,12 @@ ghost use Rattle.cargo_toml_lint.specs.Steps.{Finds};
 
 use crate::faults::request_fault;
 use crate::finding::{Code, Finding};
-use crate::gathering::{add_if, add_texts};
+use crate::gathering::{add, add_if};
 use cargo_toml::{Dependency, DepsSet, Manifest, Target, TargetDepsSet};
 use std::alloc::AllocError;
 
 // Adds what is found of an entry, which may be of dev-dependencies, or beyond the limit.
+#[tactic(auto, using(crate::proofs::Adding::mapped_next, crate::proofs::Adding::asked_is))]
 fn add_entry<'m>(
     found: &mut Vec<Finding<'m>>,
     key: &'m str,
@@ -29,15 +30,16 @@ fn add_entry<'m>(
     let is_refused = is_dev & dependency.optional();
     add_if(found, is_refused, Code::OptionalDev, key)?;
     add_if(found, is_over, Code::OverLimit, key)?;
-    add_texts(
-        found,
-        key,
-        dependency.req_features(),
-        |text| request_fault(text),
-    )
+    let texts = dependency.req_features();
+    for text in texts {
+        let text = text.as_str();
+        add(found, request_fault(text), key, text)?;
+    }
+    Ok(())
 }
 
 // Adds what is found of a table, of which as many entries count as the limit says.
+#[tactic(auto, using(crate::proofs::Adding::table_next, crate::proofs::Adding::table_none))]
 fn add_table<'m>(
     found: &mut Vec<Finding<'m>>,
     table: &'m DepsSet,
@@ -71,6 +73,7 @@ fn add_target<'m>(
 }
 
 // Adds what is found of the tables of each target.
+#[tactic(auto, using(crate::proofs::Adding::left_next, crate::proofs::Adding::left_none))]
 fn add_targets<'m>(
     found: &mut Vec<Finding<'m>>,
     targets: &'m TargetDepsSet,
@@ -79,7 +82,7 @@ fn add_targets<'m>(
     ensures { OnOk result (Finds (flat_map (λ t. target_findings limit t.1)
         (map_meaning target_meaning targets.now)) found.old.items found.new.items) }
 {
-    for target in targets.values() {
+    for (_, target) in targets {
         add_target(found, target, limit)?;
     }
     Ok(())

@@ -6,7 +6,7 @@ use Rattle.cargo_toml_lint.proofs.Edges.{passes_at, passes_missing, passes_none,
 use Rattle.cargo_toml_lint.proofs.linking.add_edge.Goals as goal
 
 same : {A P : Type 0} → (¬ P) → A ↔ (A ⊎ P)
-same no = (inl, elim [ inl a ↦ a | inr p ↦ absurd (no p) ])
+same never = (inl, elim [ inl a ↦ a | inr p ↦ absurd (never p) ])
 
 pub returns-then-not-is_turning : goal.returns-then-not-is_turning
 returns-then-not-is_turning c = λ b.

@@ -11,12 +11,12 @@ use Rattle.cargo_toml_lint.specs.Steps.{CountsBy, Finds}
 use Rattle.cargo_toml_lint.specs.declared.finding.Code.{Code}
 use Rattle.cargo_toml_lint.specs.declared.finding.Code.TheVariants.{Implied, PrivateDefault, Cycle, Unreachable}
 use Rattle.cargo_toml_lint.specs.declared.finding.Finding.{Finding}
-use Rattle.cargo_toml_lint.proofs.Rows.{among_either, among_first, among_last}
+use Rattle.cargo_toml_graph.proofs.BinLists.{among-either, among-first, among-second}
 
 -- what is found after something was added
-pub found_after : {a b : List Finding} {xs : List About} → Finds xs a b → (c : Code) (f t : Text)
+found_after : (a b : List Finding) (xs : List About) → Finds xs a b → (c : Code) (f t : Text)
     → IsFound b c f t ↔ (IsFound a c f t ⊎ Among xs (c, f, t))
-found_after {a} {b} {xs} put c f t = grind (arith, among_either, among_first, among_last)
+found_after a b xs put c f t = grind (arith, among-either, among-first, among-second)
 
 -- what is found in the end, where nothing was found at first
 pub found_first : {P : Type 0} (a b d e : List Finding) (xs : List About) (c : Code) (f t : Text)
@@ -54,25 +54,25 @@ module _ {S : Type 0} (m : HashMap (Bor Text) Feature S) (t : Table) (n : Text) 
   one d b h c f x i = grind (arith, told_in)
 
   of_code : (c : Code) → CountsBy m t c n → Among All (c, n, [])
-  of_code Implied q = among_first (told n [] (when implied Implied)) Later (Implied, n, []) ((told_in Implied implied n Implied n []).1 (refl, refl, refl, h1.1 q))
-  of_code PrivateDefault q = among_last (told n [] (when implied Implied)) Later (PrivateDefault, n, [])
-      (among_first (told n [] (when alone PrivateDefault)) Last (PrivateDefault, n, []) ((told_in PrivateDefault alone n PrivateDefault n []).1 (refl, refl, refl, h2.1 q)))
-  of_code Cycle q = among_last (told n [] (when implied Implied)) Later (Cycle, n, []) (among_last (told n [] (when alone PrivateDefault)) Last (Cycle, n, [])
-      (among_first (told n [] (when cyclic Cycle)) (told n [] (when left Unreachable)) (Cycle, n, []) ((told_in Cycle cyclic n Cycle n []).1 (refl, refl, refl, h3.1 q))))
-  of_code Unreachable q = among_last (told n [] (when implied Implied)) Later (Unreachable, n, []) (among_last (told n [] (when alone PrivateDefault)) Last (Unreachable, n, [])
-      (among_last (told n [] (when cyclic Cycle)) (told n [] (when left Unreachable)) (Unreachable, n, []) ((told_in Unreachable left n Unreachable n []).1 (refl, refl, refl, h4.1 q))))
+  of_code Implied q = among-first (told n [] (when implied Implied)) Later (Implied, n, []) ((told_in Implied implied n Implied n []).1 (refl, refl, refl, h1.1 q))
+  of_code PrivateDefault q = among-second (told n [] (when implied Implied)) Later (PrivateDefault, n, [])
+      (among-first (told n [] (when alone PrivateDefault)) Last (PrivateDefault, n, []) ((told_in PrivateDefault alone n PrivateDefault n []).1 (refl, refl, refl, h2.1 q)))
+  of_code Cycle q = among-second (told n [] (when implied Implied)) Later (Cycle, n, []) (among-second (told n [] (when alone PrivateDefault)) Last (Cycle, n, [])
+      (among-first (told n [] (when cyclic Cycle)) (told n [] (when left Unreachable)) (Cycle, n, []) ((told_in Cycle cyclic n Cycle n []).1 (refl, refl, refl, h3.1 q))))
+  of_code Unreachable q = among-second (told n [] (when implied Implied)) Later (Unreachable, n, []) (among-second (told n [] (when alone PrivateDefault)) Last (Unreachable, n, [])
+      (among-second (told n [] (when cyclic Cycle)) (told n [] (when left Unreachable)) (Unreachable, n, []) ((told_in Unreachable left n Unreachable n []).1 (refl, refl, refl, h4.1 q))))
   of_code _ q = absurd q
 
-  pub all_found : {a b : List Finding} → Finds All a b → (c : Code) (f x : Text)
+  pub all_found : (a b : List Finding) → Finds All a b → (c : Code) (f x : Text)
       → IsFound b c f x ↔ (IsFound a c f x ⊎ ((x ≡ []) × (n ≡ f) × CountsBy m t c f))
-  all_found put c f x = let after = found_after put c f x in (
+  all_found a b put c f x = let after = found_after a b All put c f x in (
     λ i. elim (after.0 i) [
       | inl j ↦ inl j
-      | inr j ↦ inr (elim (among_either (told n [] (when implied Implied)) Later (c, f, x) j) [
+      | inr j ↦ inr (elim (among-either (told n [] (when implied Implied)) Later (c, f, x) j) [
         | inl k ↦ one Implied implied h1 c f x k
-        | inr k ↦ elim (among_either (told n [] (when alone PrivateDefault)) Last (c, f, x) k) [
+        | inr k ↦ elim (among-either (told n [] (when alone PrivateDefault)) Last (c, f, x) k) [
           | inl k ↦ one PrivateDefault alone h2 c f x k
-          | inr k ↦ elim (among_either (told n [] (when cyclic Cycle)) (told n [] (when left Unreachable)) (c, f, x) k) [ inl k ↦ one Cycle cyclic h3 c f x k | inr k ↦ one Unreachable left h4 c f x k ]
+          | inr k ↦ elim (among-either (told n [] (when cyclic Cycle)) (told n [] (when left Unreachable)) (c, f, x) k) [ inl k ↦ one Cycle cyclic h3 c f x k | inr k ↦ one Unreachable left h4 c f x k ]
         ]
       ])
     ],

@@ -1,26 +1,17 @@
 -- What the lists of features turn on, as rows of places.
-use Rattle.std.proofs.Common.{◌≡◌, ◌↔◌, ◌||◌, ◌<◌, ℕ, Bool, false, List, [], ◌∷◌, ◌++◌, length, map, Option, Some, None, IfSome, is_some, option_map, Bor, String, Vec, Global, IsTrue, bytes_eq, string_bytes, refl, sym, ap, subst, ◌∙◌, arith}
-use Rattle.std.proofs.lemmas.Bool.{false≢true, or_cases, or_left, or_right}
+use Rattle.std.proofs.Common.{◌≡◌, ◌↔◌, ◌||◌, cond, ◌&&◌, ◌<◌, ℕ, Bool, true, false, List, length, map, Option, is_some, not, option_map, Bor, String, Vec, Global, IsTrue, bytes_eq, string_bytes, refl, sym, ap, subst, ◌∙◌, [], ◌∷◌, arith}
+use Rattle.std.proofs.Math.Bool.{and-true}
+use Rattle.std.proofs.lemmas.Bool.{and_from, and_parts, false≢true}
 use Rattle.std.proofs.lemmas.Grind.{common_steps}
 use Rattle.std.proofs.lemmas.List.{length-map}
 use Rattle.std.proofs.lemmas.Map.Text.{is_eq-slice_cmp}
 use Rattle.std.proofs.lemmas.Slice.Eq.{bytes_eq-Decides}
-use Rattle.std.specs.BTreeMap.{BTreeMap, get_by_text, is_at}
-use Rattle.std.specs.Cmp.Lexicographic.{slice_cmp}
-use Rattle.std.specs.List.{list_any}
-use Rattle.std.specs.Map.{lookup}
-use Rattle.std.specs.Ordering.{nat_cmp}
-use Rattle.std.specs.Prelude.{unwrap_or}
-use Rattle.cargo_toml.specs.Action.{Text, item_of}
-use Rattle.cargo_toml.specs.Ascending.{Ascend}
-use Rattle.cargo_toml.specs.Reach.{Among}
-use Rattle.cargo_toml.specs.Views.{listed_in}
+use Rattle.std.specs.{BTreeMap.BTreeMap, BTreeMap.get_by_text, BTreeMap.is_at, Cmp.Lexicographic.slice_cmp, Map.lookup, Ordering.nat_cmp}
+use Rattle.cargo_toml.specs.{Action.Text, Action.Item.Name, Action.Item.On, Action.item_of, Ascending.Ascend, Reach.Among, Views.listed_in}
 use Rattle.cargo_toml_features.proofs.ByPlace.{among_at, once}
-use Rattle.cargo_toml_features.specs.Places.{nth_text}
-use Rattle.cargo_toml_lint.specs.Turning.{says, turned, turns_to}
-use Rattle.cargo_toml_lint.specs.Reached.{Leads}
-use Rattle.cargo_toml_lint.proofs.Gathered.{any_map}
-use Rattle.cargo_toml_lint.proofs.Rows.{among_either, among_first, among_last}
+use Rattle.cargo_toml_features.specs.{ActionText.action_in, ActionText.item_in, Places.nth_text}
+use Rattle.cargo_toml_features.specs.declared.action.ActionText.{ActionText}
+use Rattle.cargo_toml_lint.specs.{Linked.Passes, Reached.Leads, Turning.turns_to}
 
 pub length_now : (names : List (Bor Text)) → length (map (λ t. t.now) names) ≡ length names
 length_now names = length-map names (λ t. t.now)
@@ -29,51 +20,49 @@ length_now names = length-map names (λ t. t.now)
 abbrev pub IsFilled : {Z : Type 0} → (ℕ → ℕ → Type 0) → ℕ → List (Vec ℕ Z) → Type 0
 IsFilled P n rows = (length rows ≡ n) × ((a b : ℕ) → a < n → Leads rows a b ↔ P a b)
 
--- ---- what one text turns on
-module _ (names : List (Bor Text)) (test : Text → Bool) where
+-- ---- what one text turns on: this name, if it does so
+pub turns_in : (optional : Text → Bool) (text : Text) (t : ActionText) (turns : Bool) → item_in t ≡ item_of text
+    → turns ≡ (not (t.is_dep_only || is_some t.dep_feature) || (optional t.target.now && (not t.is_conditional && not t.is_dep_only)))
+    → (x : Text) → turns_to optional x (item_of text) ≡ (bytes_eq x t.target.now && turns)
+turns_in optional text t turns is told x =
+    ap (turns_to optional x) (sym is) ∙ go (t.is_dep_only || is_some t.dep_feature) ∙ ap (λ b. bytes_eq x t.target.now && b) (sym told)
+  where
+    go : (acts : Bool) → turns_to optional x (cond acts (On t.target.now (action_in t)) (Name t.target.now))
+        ≡ (bytes_eq x t.target.now && (not acts || (optional t.target.now && (not t.is_conditional && not t.is_dep_only))))
+    go true = refl
+    go false = sym (and-true _)
+
+module _ (names : List (Bor Text)) (test : Text → Bool) (name : Text) (turns : Bool)
+    (is : (x : Text) → test x ≡ (bytes_eq x name && turns)) (b : ℕ) where
   abbrev texts : List Text
   texts = map (λ t. t.now) names
 
-  -- the name in place b passes
-  abbrev pub Hits : ℕ → Type 0
-  Hits b = (b < length names) × IsTrue (test (nth_text texts b))
+  at : Passes names test b → b < length texts
+  at h = subst (λ k. b < k) (sym (length_now names)) h.0
 
-  below : {b : ℕ} → b < length names → b < length texts
-  below {b} lt = subst (λ k. b < k) (sym (length_now names)) lt
+  -- the name that passes is this one
+  named : Passes names test b → (nth_text texts b ≡ name) × IsTrue turns
+  named h =
+      let both = and_parts _ _ (sym (is (nth_text texts b)) ∙ h.1) in
+      ((bytes_eq-Decides (nth_text texts b) name).0 both.0, both.1)
 
-  -- one name passes, which has a place or not
-  pub edge_some : Ascend texts → (name : Text) → ((x : Text) → test x ≡ bytes_eq x name) → (r : Option ℕ)
-      → IfSome r (λ i. (i < length names) × (nth_text texts i ≡ name)) → (r ≡ None → ¬ Among texts name) → (b : ℕ) → (r ≡ Some b) ↔ Hits b
-  edge_some up name is None found missing b = (
-    λ e. absurd (false≢true (ap is_some e)),
-    λ h. absurd (missing refl (subst (Among texts) ((bytes_eq-Decides (nth_text texts b) name).0 (sym (is (nth_text texts b)) ∙ h.1)) (among_at texts b [] (below h.0)))),
+  pub passes_none : turns ≡ false → ¬ Passes names test b
+  passes_none off h = false≢true (sym off ∙ (named h).1)
+
+  pub passes_missing : (¬ Among texts name) → ¬ Passes names test b
+  passes_missing missing h = missing (subst (Among texts) (named h).0 (among_at texts b [] (at h)))
+
+  pub passes_at : turns ≡ true → Ascend texts → (i : ℕ) → (i < length names) × (nth_text texts i ≡ name) → Passes names test b ↔ (b ≡ i)
+  passes_at on up i here = (
+    λ h. once texts up b i (at h) (subst (λ k. i < k) (sym (length_now names)) here.0) ((named h).0 ∙ sym here.1),
+    λ e. subst (Passes names test) (sym e) (here.0, is (nth_text texts i) ∙ and_from _ _ ((bytes_eq-Decides (nth_text texts i) name).1 here.1) on),
   )
-  edge_some up name is (Some i) found missing b = (
-    λ e.
-        let same : i ≡ b = cc in
-        subst Hits same (found.0, is (nth_text texts i) ∙ (bytes_eq-Decides (nth_text texts i) name).1 found.1),
-    λ h. ap Some (once texts up i b (below found.0) (below h.0) (found.1 ∙ sym ((bytes_eq-Decides (nth_text texts b) name).0 (sym (is (nth_text texts b)) ∙ h.1)))),
-  )
-
-  -- none passes
-  pub edge_none : ((x : Text) → test x ≡ false) → (b : ℕ) → (None ≡ Some b) ↔ Hits b
-  edge_none is b = grind (arith, false≢true)
-
--- one more text of a list
-module _ (n : ℕ) (before one now : ℕ → Bool) (more : (b : ℕ) → now b ≡ (before b || one b)) (r : Option ℕ)
-    (is : (b : ℕ) → (r ≡ Some b) ↔ ((b < n) × IsTrue (one b))) (row : List ℕ)
-    (held : (b : ℕ) → Among row b ↔ ((b < n) × IsTrue (before b))) where
-  pub one_pushed : (place : ℕ) → r ≡ Some place → (b : ℕ) → Among (row ++ place ∷ []) b ↔ ((b < n) × IsTrue (now b))
-  one_pushed place at b = grind (arith, among_either, or_left, or_right, or_cases, among_first, among_last)
-
-  pub none_pushed : r ≡ None → (b : ℕ) → Among row b ↔ ((b < n) × IsTrue (now b))
-  none_pushed none b = grind (arith, or_left, or_cases, false≢true)
 
 -- ---- the list of a feature
 abbrev Lists : Type 0
 Lists = BTreeMap (String Global) (Vec (String Global) Global)
 
-abbrev texts_of : Vec (String Global) Global → List Text
+abbrev pub texts_of : Vec (String Global) Global → List Text
 texts_of v = map string_bytes v.items
 
 looked_up : (f : Text) (es : List (String Global × Vec (String Global) Global))
@@ -85,15 +74,3 @@ looked_up f (e ∷ es) = grind (arith, common_steps, string_bytes, is_eq-slice_c
 module _ (lists : Lists) where
   pub listed_at : (f : Text) → lookup (bytes_eq f) (listed_in lists) ≡ option_map texts_of (get_by_text lists f)
   listed_at f = looked_up f lists.entries
-
-  turned_by : (optional : Text → Bool) (f : Text) (o : Option (Vec (String Global) Global)) → get_by_text lists f ≡ o → (x : Text)
-      → turned (listed_in lists) optional f x ≡ list_any (turns_to optional x) (map item_of (unwrap_or (option_map texts_of o) []))
-  turned_by optional f o is x =
-      ap (λ ts. list_any (turns_to optional x) (map item_of (unwrap_or ts []))) (listed_at f ∙ ap (option_map texts_of) is)
-
-  pub turned_of : (optional : Text → Bool) (f : Text) (v : Vec (String Global) Global) → get_by_text lists f ≡ Some v → (x : Text)
-      → turned (listed_in lists) optional f x ≡ says (turns_to optional x) (map string_bytes v.items)
-  turned_of optional f v is x = turned_by optional f (Some v) is x ∙ any_map (turns_to optional x) item_of (texts_of v)
-
-  pub turned_none : (optional : Text → Bool) (f : Text) → get_by_text lists f ≡ None → (x : Text) → turned (listed_in lists) optional f x ≡ false
-  turned_none optional f is x = turned_by optional f None is x

@@ -1,7 +1,6 @@
 -- What is found in an answer for a manifest is what holds of the manifest.
 use Rattle.std.proofs.Common.{arith, ◌≡◌, ◌⊎◌, ◌↔◌, ◌||◌, ◌++◌, [], not, Bool, true, false, ℕ, Some, is_some, IsTrue, length, nat_lt, List, sym, ap, subst, ◌∙◌}
 use Rattle.std.proofs.lemmas.Bool.{false≢true, and_parts, not-true, not_from_false, false_from_ne_true, or_cases, or_left, or_right}
-use Rattle.std.specs.List.{flat_map}
 use Rattle.std.specs.Option.{option_map_or}
 use Rattle.cargo_toml.specs.Action.{Text}
 use Rattle.cargo_toml.specs.Admitted.{Listed, admitted, is_explicit}
@@ -17,13 +16,13 @@ use Rattle.cargo_toml.specs.Removal.{is_removed}
 use Rattle.cargo_toml.specs.Views.{answer_of, table_in, value_at}
 use Rattle.cargo_toml_features.proofs.NoneRemoved.{held, there}
 use Rattle.cargo_toml_features.specs.declared.features.Features.{Features}
-use Rattle.cargo_toml_lint.specs.Findings.{Counts, HoldsOf, IsCyclic, IsOnlyDefault, IsUnreachable, feature_findings, is_hidden, is_private, products_findings, tables_findings, told, written_findings}
+use Rattle.cargo_toml_lint.specs.Findings.{Counts, HoldsOf, IsCyclic, IsOnlyDefault, IsUnreachable, findings_by, is_hidden, is_private, written_findings}
 use Rattle.cargo_toml_lint.specs.Known.{all_names}
 use Rattle.cargo_toml_lint.specs.Names.{listed_by, held_names}
 use Rattle.cargo_toml_lint.specs.Steps.{CountsBy, explicit_at, implied_at, private_at, written_in}
 use Rattle.cargo_toml_lint.specs.Turning.{turning, turning_by}
 use Rattle.cargo_toml_lint.specs.declared.finding.Code.{Code}
-use Rattle.cargo_toml_lint.specs.declared.finding.Code.TheVariants.{Cycle, FeatureTable, Implied, PrivateDefault, Unreachable}
+use Rattle.cargo_toml_lint.specs.declared.finding.Code.TheVariants.{Cycle, Implied, PrivateDefault, Unreachable}
 use Rattle.cargo_toml_lint.specs.declared.known.Known.{Known}
 
 same_truth : (a b : Bool) → (IsTrue a ↔ IsTrue b) → a ≡ b
@@ -94,9 +93,7 @@ module _ {M S H : Type 0} (limit : ℕ) (m : ManifestMeaning M) (a : Features S 
   counts_is _ f = (λ h. absurd h.1, λ h. absurd h)
 
   written_same : written_in a.features known limit m ≡ written_findings limit m
-  written_same = λ i. flat_map (λ e. feature_findings (names i) (nat_lt limit (length e.1) || not (explicit_is e.0 i)) e.0 e.1) (listed_as i)
-      ++ (flat_map (λ e. told e.0 [] (Some FeatureTable)) m.feature_details
-      ++ (tables_findings limit m ++ products_findings (names i) m))
+  written_same = λ i. findings_by (names i) (λ f ts. nat_lt limit (length ts) || not (explicit_is f i)) limit (listed_as i) m
 
   -- what is found is what holds
   pub holds_is : (c : Code) (f t : Text)

@@ -35,23 +35,16 @@ among_now (k ∷ ks) f = let rest = among_now ks f in (
 )
 
 -- ---- one step of a loop
--- a key is put into a set where the test holds
-pub put_if : (old new same test : Bool) → test ≡ true → new ≡ (old || same) → new
-    ≡ (old || (same && test))
-put_if old new same test is put = grind arith
-
-pub put_none : (old same test : Bool) → test ≡ false → old ≡ (old || (same && test))
-put_none old same test is = grind arith
-
 -- one more of the first elements
-pub any_more : {X Y : Type 0} (p : Y → Bool) (g : X → Y) (xs : List X) (i : ℕ) (x : X)
-    → i < length xs → x ≡ get_or xs i x →
-    list_any p (map g (take (i + 1) xs)) ≡ (list_any p (map g (take i xs)) || p (g x))
-any_more p g xs i x below read =
-    ap (λ ys. list_any p (map g ys))
-    (take_more xs i x below ∙ ap (λ y. take i xs ++ y ∷ []) (sym read))
-    ∙ ap (list_any p) (map_push g (take i xs) x) ∙ list_any-append p (map g (take i xs)) (g x ∷ [])
-    ∙ ap (λ b. list_any p (map g (take i xs)) || b) (or-false (p (g x)))
+pub any_more : {X Y Z : Type 0} (p : Z → Bool) (f : Y → Z) (g : X → Y) (xs : List X) (i : ℕ) (x : X)
+    → i < length xs → x ≡ get_or xs i x
+    → list_any p (map f (map g (take (i + 1) xs))) ≡ (list_any p (map f (map g (take i xs))) || p (f (g x)))
+any_more p f g xs i x below read =
+    let before = map f (map g (take i xs)) in
+    ap (λ ys. list_any p (map f (map g ys))) (take_more xs i x below ∙ ap (λ y. take i xs ++ y ∷ []) (sym read))
+    ∙ ap (λ ys. list_any p (map f ys)) (map_push g (take i xs) x)
+    ∙ ap (list_any p) (map_push f (map g (take i xs)) (g x)) ∙ list_any-append p before (f (g x) ∷ [])
+    ∙ ap (λ b. list_any p before || b) (or-false (p (f (g x))))
 
 pub any_map : {X Y : Type 0} (p : Y → Bool) (g : X → Y) (xs : List X) → list_any p (map g xs)
     ≡ list_any (λ x. p (g x)) xs
@@ -60,8 +53,8 @@ any_map p g (x ∷ xs) = ap (λ b. p (g x) || b) (any_map p g xs)
 
 -- ---- entries of a map of lists
 -- a name, and the texts of its list
-abbrev pub told : List (String Global × Vec (String Global) Global) → List (Text × List Text)
-told es = map (λ e. (string_bytes e.0, map string_bytes e.1.items)) es
+abbrev pub list_of : String Global × Vec (String Global) Global → Text × List Text
+list_of e = (string_bytes e.0, map string_bytes e.1.items)
 
 -- a map of texts has the name
 pub listed_in : {X Y : Type 0} (g : X → Y) (f : Text) (es : List (String Global × X)) →

@@ -8,7 +8,8 @@ use Rattle.cargo_toml_features.proofs.ByPlace.{among_at}
 use Rattle.cargo_toml_graph.proofs.Closure.{chained}
 use Rattle.cargo_toml_lint.specs.Reached.{IsFlagged, IsInRing, IsWhole, Leads, Path, Searches, Stands, row_at}
 use Rattle.cargo_toml_lint.specs.declared.reach.Reach.{Reach}
-use Rattle.cargo_toml_lint.proofs.Rows.{among_either, among_first, among_last, flag_set}
+use Rattle.cargo_toml_graph.proofs.BinLists.{among-either, among-first, among-second}
+use Rattle.cargo_toml_lint.proofs.Rows.{flag_set}
 
 abbrev All : ℕ → Type 0
 All v = Unit {0}
@@ -36,10 +37,10 @@ path_inside r whole a b lt p = along (Leads r.next.items) (λ v. v < length r.ne
 
 module _ (r : Reach) (start : ℕ) (row : List Bool) (waiting : List ℕ) (x : ℕ) (s : Searches r start row (waiting ++ x ∷ [])) where
   was : (y : ℕ) → Among (waiting ++ x ∷ []) y → Among waiting y ⊎ (y ≡ x)
-  was y i = elim (among_either waiting (x ∷ []) y i) [ inl j ↦ inl j | inr j ↦ elim j [ inl e ↦ inr e | inr a ↦ absurd a ] ]
+  was y i = elim (among-either waiting (x ∷ []) y i) [ inl j ↦ inl j | inr j ↦ elim j [ inl e ↦ inr e | inr a ↦ absurd a ] ]
 
   pub meets_old : IsFlagged row x → Searches r start row waiting
-  meets_old on = grind (arith, among_either, among_first)
+  meets_old on = grind (arith, among-either, among-first)
 
   pub meets_row : IsWhole r → Stands r x → (new : List Bool) → length new ≡ length row → ((y : ℕ) → IsFlagged new y ↔ (IsFlagged row y ⊎ IsFlagged (row_at r.rows.items x) y)) → Searches r start new waiting
   meets_row whole stands new len is = record {
@@ -47,9 +48,9 @@ module _ (r : Reach) (start : ℕ) (row : List Bool) (waiting : List ℕ) (x : �
     begun = elim s.begun [ inl f ↦ inl ((is start).1 (inl f)) | inr i ↦ taken start (was start i) ];
     sound = λ y f. elim ((is y).0 f) [
       | inl o ↦ s.sound y o
-      | inr h ↦ path_then (Leads r.next.items) (s.met x (among_last waiting (x ∷ []) x (inl refl))) ((whole.right x y stands).0 h)
+      | inr h ↦ path_then (Leads r.next.items) (s.met x (among-second waiting (x ∷ []) x (inl refl))) ((whole.right x y stands).0 h)
     ];
-    met = λ y i. s.met y (among_first waiting (x ∷ []) y i);
+    met = λ y i. s.met y (among-first waiting (x ∷ []) y i);
     done = λ y z f l. elim ((is y).0 f) [
       | inl o ↦ elim (s.done y z o l) [ inl a ↦ inl ((is z).1 (inl a)) | inr i ↦ taken z (was z i) ]
       | inr h ↦ inl ((is z).1 (inr ((whole.right x z stands).1 (path_edge (Leads r.next.items) ((whole.right x y stands).0 h) l))))
@@ -61,7 +62,7 @@ module _ (r : Reach) (start : ℕ) (row : List Bool) (waiting : List ℕ) (x : �
       taken y (inr e) = inl ((is y).1 (inr ((whole.right x y stands).1 (inl e))))
 
   pub meets_new : x < length row → Searches r start (set row x true) (waiting ++ row_at r.next.items x)
-  meets_new lt = grind (arith, among_either, among_first, among_last, path_edge (Leads r.next.items), flag_set row x lt, length-set row x true)
+  meets_new lt = grind (arith, among-either, among-first, among-second, path_edge (Leads r.next.items), flag_set row x lt, length-set row x true)
 
 pub search_ends : (r : Reach) (start : ℕ) (row : List Bool) (waiting : List ℕ) → length waiting ≡ 0 → Searches r start row waiting → (y : ℕ) → IsFlagged row y ↔ Path r.next.items start y
 search_ends r start row [] none s y = grind (arith, along (Leads r.next.items) (IsFlagged row))

@@ -178,26 +178,36 @@ pub record IsOnlyDefault (t : Table) (f : Text) : Type 0 where
   pub default_does : Edge t (codes "default") f
   pub no_other : (e : Text) → Edge t e f → e ≡ codes "default"
 
+-- what holds of f among the features that count, by which of them are implied and which are private
+abbrev pub CountsWith : (Text → Bool) → (Text → Bool) → Table → Code → Text → Type 0
+CountsWith implied internal t Implied f = IsTrue (implied f)
+CountsWith implied internal t PrivateDefault f =
+    IsTrue (is_hidden f || internal f) × IsOnlyDefault t f
+CountsWith implied internal t Cycle f = IsCyclic t f
+CountsWith implied internal t Unreachable f = IsUnreachable t f
+CountsWith implied internal t _ f = ⊥
+
+-- the findings of all that is written, by the names that there are, and the lists beyond the limit
+abbrev pub findings_by : {M : Type 0} → Names → (Text → List Text → Bool) → ℕ → Listed
+    → ManifestMeaning M → List About
+findings_by n over limit listed m =
+    flat_map (λ e. feature_findings n (over e.0 e.1) e.0 e.1) listed
+    ++ (flat_map (λ e. told e.0 [] (Some FeatureTable)) m.feature_details
+    ++ (tables_findings limit m ++ products_findings n m))
+
 -- where so many names of the table of features count, texts of a feature, and keys of a table of
 -- dependencies
 module _ {M : Type 0} (limit : ℕ) (m : ManifestMeaning M) where
   -- the findings of all that is written
   abbrev pub written_findings : List About
-  written_findings =
-      flat_map (λ e. feature_findings (all_names m) (is_over limit m.features e.0 e.1) e.0 e.1)
-      m.features
-      ++ (flat_map (λ e. told e.0 [] (Some FeatureTable)) m.feature_details
-      ++ (tables_findings limit m ++ products_findings (all_names m) m))
+  written_findings = findings_by (all_names m) (is_over limit m.features) limit m.features m
 
   -- what holds of f among the features that count, listed or implied, and of what they turn on
   abbrev pub Counts : Code → Text → Type 0
-  Counts Implied f = IsTrue (is_implied (admitted limit m.features) (parsed_entries limit m) f)
-  Counts PrivateDefault f =
-      IsTrue (is_hidden f || is_private (admitted limit m.features) m.feature_details f)
-      × IsOnlyDefault (turning m (parsed_table limit m).has) f
-  Counts Cycle f = IsCyclic (turning m (parsed_table limit m).has) f
-  Counts Unreachable f = IsUnreachable (turning m (parsed_table limit m).has) f
-  Counts _ f = ⊥
+  Counts =
+      CountsWith (is_implied (admitted limit m.features) (parsed_entries limit m))
+      (is_private (admitted limit m.features) m.feature_details)
+      (turning m (parsed_table limit m).has)
 
   -- what a finding of the code says of f, and of the text t
   abbrev pub HoldsOf : Code → Text → Text → Type 0

@@ -1,6 +1,6 @@
 -- Features by the places of their names.
 use Rattle.std.specs.Prelude.{◌≡◌, ◌≢◌, ◌↔◌, ◌<◌, ℕ, Bool, List, IsTrue, bytes_eq, codes, length}
-use Rattle.std.specs.Prelude.{map, not}
+use Rattle.std.specs.{Prelude.map, Prelude.not, Borrow.Bor}
 use Rattle.cargo_toml.specs.Action.{Text}
 use Rattle.cargo_toml.specs.Ascending.{Ascend}
 use Rattle.cargo_toml.specs.Graph.{Table}
@@ -19,6 +19,11 @@ names_of l = map (λ t. t.now) l.names.items
 -- the name in this place
 abbrev pub name_at : Links → ℕ → Text
 name_at l a = nth_text (names_of l) a
+
+-- the name in place b passes
+abbrev pub Passes : List (Bor Text) → (Text → Bool) → ℕ → Type 0
+Passes names test b =
+    (b < length names) × IsTrue (test (nth_text (map (λ t. t.now) names) b))
 
 -- each name has a place, and what each place leads to is found
 pub record AreFound (l : Links) : Type 0 where

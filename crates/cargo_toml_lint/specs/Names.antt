@@ -1,22 +1,20 @@
 -- The names that are gathered of a manifest: words of steps, on which no public contract rests.
-use Rattle.std.specs.Prelude.{◌≡◌, ◌||◌, map, string_bytes}
+use Rattle.std.specs.Prelude.{◌≡◌, ◌++◌, Bool, List, map, string_bytes}
 use Rattle.cargo_toml.specs.Action.{Text}
 use Rattle.cargo_toml.specs.Admitted.{Listed}
 use Rattle.cargo_toml.specs.Reads.{map_meaning}
 use Rattle.cargo_toml.specs.Views.{set_has}
-use Rattle.cargo_toml_lint.specs.Known.{Marked, Names, has_key, has_marked, is_name}
-use Rattle.cargo_toml_lint.specs.declared.known.Keys.{Keys}
+use Rattle.cargo_toml_lint.specs.Known.{Marked, Names, is_name}
+use Rattle.cargo_toml_lint.specs.declared.known.Key.{Key}
 use Rattle.cargo_toml_lint.specs.declared.known.Known.{Known}
 
--- keys are added to sets, the marked ones to one of their own
-pub record AddsKeys (ks : Marked) (old new : Keys) : Type 0 where
-  pub all : (k : Text) → set_has new.all k ≡ (set_has old.all k || has_key ks k)
-  pub marked : (k : Text) → set_has new.marked k ≡ (set_has old.marked k || has_marked ks k)
+-- a key, and whether it is marked
+abbrev pub key_of : Key → Text × Bool
+key_of k = (k.name.now, k.is_marked)
 
--- the sets have these keys
-pub record HoldsKeys (ks : Marked) (keys : Keys) : Type 0 where
-  pub all : (k : Text) → set_has keys.all k ≡ has_key ks k
-  pub marked : (k : Text) → set_has keys.marked k ≡ has_marked ks k
+-- these keys are added at the end
+abbrev pub AddsKeys : Marked → List Key → List Key → Type 0
+AddsKeys ks old new = map key_of new ≡ map key_of old ++ ks
 
 -- the features as they are listed
 abbrev pub listed_by : Known → Listed

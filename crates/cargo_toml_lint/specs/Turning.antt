@@ -14,10 +14,6 @@ turns_to optional x (Name y) = bytes_eq x y
 turns_to optional x (On k a) =
     bytes_eq x k && (optional k && (not a.is_conditional && not a.is_dep_only))
 
--- some text of a list is such
-abbrev pub says : (Item → Bool) → List Text → Bool
-says test texts = list_any (λ text. test (item_of text)) texts
-
 -- some item of the list of f does so
 abbrev pub turned : Listed → (Text → Bool) → Text → Text → Bool
 turned listed optional f x = list_any (turns_to optional x) (items listed f)

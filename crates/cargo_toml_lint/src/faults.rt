@@ -1,20 +1,19 @@
 //! What is wrong with one text, or with one feature.
-ghost use Rattle.std.specs.Prelude.{◌≡◌, ◌||◌, not, nat_lt, length, map, string_bytes};
+ghost use Rattle.std.specs.Prelude.{◌≡◌, not, map, string_bytes};
 ghost use Rattle.cargo_toml.specs.Action.{item_of};
 ghost use Rattle.cargo_toml_lint.specs.Findings.{has_same_name, is_missing};
 ghost use Rattle.cargo_toml_lint.specs.Findings.{action_fault, name_fault, required_fault};
 ghost use Rattle.cargo_toml_lint.specs.Findings.{text_fault, when};
 ghost use Rattle.cargo_toml_lint.specs.Names.{held_names};
-ghost use Rattle.cargo_toml_lint.specs.Steps.{explicit_at};
+ghost use Rattle.cargo_toml_lint.specs.Steps.{explicit_at, is_beyond};
 ghost use Rattle.cargo_toml_lint.specs.Taken.{is_feature_name};
 ghost use Rattle.cargo_toml_lint.specs.declared.finding.Code.TheVariants.{BadRequest};
 
 use crate::finding::Code;
+use crate::graph::FeatureMap;
 use crate::known::Known;
 use crate::names::{is_bad_text, is_feature_name, is_never_required};
-use cargo_toml::features::Feature;
 use cargo_toml_features::action::read_action;
-use std::collections::HashMap;
 use std::hash::BuildHasher;
 
 // What is wrong with a name in the list of a feature.
@@ -104,7 +103,7 @@ pub(crate) fn is_same_name(known: &Known<'_>, name: &str) -> bool
 }
 
 // Whether the resolved features have one of the name that the manifest lists.
-fn is_explicit<S: BuildHasher>(features: &HashMap<&str, Feature<'_>, S>, name: &str) -> bool
+fn is_explicit<S: BuildHasher>(features: &FeatureMap<'_, S>, name: &str) -> bool
     ensures { result ≡ explicit_at features.now name.now }
 {
     match features.get(name) {
@@ -115,13 +114,12 @@ fn is_explicit<S: BuildHasher>(features: &HashMap<&str, Feature<'_>, S>, name: &
 
 /// Whether the limit left out the name, or some of its texts.
 pub(crate) fn is_over<S: BuildHasher>(
-    features: &HashMap<&str, Feature<'_>, S>,
+    features: &FeatureMap<'_, S>,
     name: &str,
     texts: &[String],
     limit: usize,
 ) -> bool
-    ensures { result ≡ (nat_lt limit (length (map string_bytes texts.now))
-        || not (explicit_at features.now name.now)) }
+    ensures { result ≡ is_beyond features.now limit name.now (map string_bytes texts.now) }
 {
     texts.len() > limit || !is_explicit(features, name)
 }

@@ -1,8 +1,6 @@
 //! What is found of features as they are written, and of targets that require some.
-ghost use Rattle.std.specs.Prelude.{◌≡◌, [], Option, Some, OnOk, map, string_bytes, unwrap_or};
-ghost use Rattle.std.specs.Fn.{FnReturnsAt};
+ghost use Rattle.std.specs.Prelude.{◌≡◌, [], Some, OnOk, map, string_bytes, unwrap_or};
 ghost use Rattle.std.specs.List.{flat_map};
-ghost use Rattle.cargo_toml.specs.Action.{Text};
 ghost use Rattle.cargo_toml.specs.Details.{detail_of};
 ghost use Rattle.cargo_toml.specs.Manifests.{held};
 ghost use Rattle.cargo_toml.specs.Products.{product_meaning};
@@ -10,8 +8,7 @@ ghost use Rattle.cargo_toml.specs.Reads.{map_meaning};
 ghost use Rattle.cargo_toml_lint.specs.Findings.{feature_findings};
 ghost use Rattle.cargo_toml_lint.specs.Findings.{product_findings, products_findings, told, when};
 ghost use Rattle.cargo_toml_lint.specs.Names.{held_names, listed_by};
-ghost use Rattle.cargo_toml_lint.specs.Steps.{Finds, listed_findings};
-ghost use Rattle.cargo_toml_lint.specs.declared.finding.Code.{Code};
+ghost use Rattle.cargo_toml_lint.specs.Steps.{Finds, is_beyond};
 ghost use Rattle.cargo_toml_lint.specs.declared.finding.Code.TheVariants.{FeatureTable};
 
 use crate::faults::{is_over, is_same_name, required_fault, text_fault};
@@ -33,17 +30,15 @@ pub(crate) fn add<'m>(
     ensures { OnOk result (Finds (told feature.now text.now fault) found.old.items
         found.new.items) }
 {
-    match fault {
-        Some(code) => {
-            found.push(Finding {
-                code,
-                feature,
-                text,
-            })?;
-            Ok(())
-        }
-        None => Ok(()),
-    }
+    let Some(code) = fault else {
+        return Ok(());
+    };
+    found.push(Finding {
+        code,
+        feature,
+        text,
+    })?;
+    Ok(())
 }
 
 /// Adds a finding of the code for a feature, if it holds.
@@ -56,34 +51,11 @@ pub(crate) fn add_if<'m>(
     ensures { OnOk result (Finds (told feature.now [] (when holds code)) found.old.items
         found.new.items) }
 {
-    if holds {
-        add(found, Some(code), feature, "")
-    } else {
-        Ok(())
-    }
-}
-
-/// Adds what is found of each of the texts that stand under a name.
-pub(crate) fn add_texts<'m, F: Fn(&str) -> Option<Code>>(
-    found: &mut Vec<Finding<'m>>,
-    name: &'m str,
-    texts: &'m [String],
-    fault: F,
-) -> Result<(), AllocError>
-    requires { F.IsAlwaysCallable fault }
-    ensures { OnOk result ((of : Text → Option Code)
-        → ((t : Text) (r : Option Code) → FnReturnsAt F.Fn fault t r → r ≡ of t)
-        → Finds (flat_map (λ t. told name.now t (of t)) (map string_bytes texts.now))
-        found.old.items found.new.items) }
-{
-    for text in texts {
-        let text = text.as_str();
-        add(found, fault(text), name, text)?;
-    }
-    Ok(())
+    add(found, holds.then_some(code), feature, "")
 }
 
 // Adds what is found of a feature, which may be beyond the limit.
+#[tactic(auto, using(crate::proofs::Adding::mapped_next))]
 fn add_feature<'m>(
     found: &mut Vec<Finding<'m>>,
     known: &Known<'m>,
@@ -97,18 +69,24 @@ fn add_feature<'m>(
     add_if(found, !is_feature_name(name), Code::BadName, name)?;
     add_if(found, is_same_name(known, name), Code::SameName, name)?;
     add_if(found, is_over, Code::OverLimit, name)?;
-    add_texts(found, name, texts, |text| text_fault(known, name, text))
+    for text in texts {
+        let text = text.as_str();
+        add(found, text_fault(known, name, text), name, text)?;
+    }
+    Ok(())
 }
 
 /// Adds what is found of each listed feature.
+#[tactic(auto, using(crate::proofs::Adding::left_next, crate::proofs::Adding::left_none))]
 pub(crate) fn add_features<'m, S: BuildHasher>(
     found: &mut Vec<Finding<'m>>,
     known: &Known<'m>,
     features: &FeatureMap<'m, S>,
     limit: usize,
 ) -> Result<(), AllocError>
-    ensures { OnOk result (Finds (flat_map (listed_findings features.now known.now limit)
-        (listed_by known.now)) found.old.items found.new.items) }
+    ensures { OnOk result (Finds (flat_map (λ e. feature_findings (held_names known.now)
+        (is_beyond features.now limit e.0 e.1) e.0 e.1) (listed_by known.now))
+        found.old.items found.new.items) }
 {
     for (name, texts) in known.features {
         let name = name.as_str();
@@ -120,6 +98,7 @@ pub(crate) fn add_features<'m, S: BuildHasher>(
 }
 
 /// Adds the features of which a table says something.
+#[tactic(auto, using(crate::proofs::Adding::left_next, crate::proofs::Adding::left_none))]
 pub(crate) fn add_details<'m>(
     found: &mut Vec<Finding<'m>>,
     details: &'m FeatureDetails,
@@ -127,7 +106,7 @@ pub(crate) fn add_details<'m>(
     ensures { OnOk result (Finds (flat_map (λ e. told e.0 [] (Some FeatureTable))
         (map_meaning detail_of details.now)) found.old.items found.new.items) }
 {
-    for name in details.keys() {
+    for (name, _) in details {
         add(found, Some(Code::FeatureTable), name.as_str(), "")?;
     }
     Ok(())
@@ -143,7 +122,26 @@ fn name_of(product: &Product) -> &str
     }
 }
 
+// Adds what is found of the features that a target requires.
+#[tactic(auto, using(crate::proofs::Adding::mapped_next))]
+fn add_product<'m>(
+    found: &mut Vec<Finding<'m>>,
+    known: &Known<'m>,
+    product: &'m Product,
+) -> Result<(), AllocError>
+    ensures { OnOk result (Finds (product_findings (held_names known.now)
+        (product_meaning product.now)) found.old.items found.new.items) }
+{
+    let name = name_of(product);
+    for text in &product.required_features {
+        let text = text.as_str();
+        add(found, required_fault(known, text), name, text)?;
+    }
+    Ok(())
+}
+
 // Adds what is found of targets of one kind.
+#[tactic(auto, using(crate::proofs::Adding::mapped_next))]
 fn add_some<'m>(
     found: &mut Vec<Finding<'m>>,
     known: &Known<'m>,
@@ -153,13 +151,7 @@ fn add_some<'m>(
         (map product_meaning products.now)) found.old.items found.new.items) }
 {
     for product in products {
-        let texts = product.required_features.as_slice();
-        add_texts(
-            found,
-            name_of(product),
-            texts,
-            |text| required_fault(known, text),
-        )?;
+        add_product(found, known, product)?;
     }
     Ok(())
 }

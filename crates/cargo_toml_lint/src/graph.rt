@@ -18,10 +18,7 @@ pub(crate) fn is_hidden(name: &str) -> bool
 }
 
 /// Whether an optional dependency implies the feature of this name.
-pub(crate) fn is_implied<S: BuildHasher>(
-    features: &HashMap<&str, Feature<'_>, S>,
-    name: &str,
-) -> bool
+pub(crate) fn is_implied<S: BuildHasher>(features: &FeatureMap<'_, S>, name: &str) -> bool
     ensures { result ≡ implied_at features.now name.now }
 {
     match features.get(name) {
@@ -31,10 +28,7 @@ pub(crate) fn is_implied<S: BuildHasher>(
 }
 
 /// Whether the feature of this name is private.
-pub(crate) fn is_private<S: BuildHasher>(
-    features: &HashMap<&str, Feature<'_>, S>,
-    name: &str,
-) -> bool
+pub(crate) fn is_private<S: BuildHasher>(features: &FeatureMap<'_, S>, name: &str) -> bool
     ensures { result ≡ private_at features.now name.now }
 {
     match features.get(name) {

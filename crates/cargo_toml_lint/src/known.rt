@@ -1,14 +1,13 @@
 //! Which names a manifest has: of features, of dependencies, and those that `dep:` names.
-ghost use Rattle.std.specs.Prelude.{◌≡◌, ◌&&◌, ◌||◌, ◌∷◌, [], not, IfOk, OnOk, map, string_bytes};
+ghost use Rattle.std.specs.Prelude.{◌≡◌, ◌&&◌, ◌||◌, not, IfOk, OnOk, map, string_bytes};
 ghost use Rattle.std.specs.List.{flat_map};
-ghost use Rattle.cargo_toml.specs.Dependencies.{dependency_meaning};
-ghost use Rattle.cargo_toml.specs.Manifests.{held};
-ghost use Rattle.cargo_toml.specs.Reads.{map_meaning};
-ghost use Rattle.cargo_toml.specs.Targets.{target_meaning};
-ghost use Rattle.cargo_toml_lint.specs.Known.{Marked, acted_by, acted_keys, all_names};
-ghost use Rattle.cargo_toml_lint.specs.Known.{dependency_keys, keys_in, target_keys};
-ghost use Rattle.cargo_toml_lint.specs.Names.{AddsKeys, HoldsKeys, listed_by, held_names};
-ghost use Rattle.cargo_toml_lint.specs.declared.known.Keys.{Keys};
+ghost use Rattle.cargo_toml.specs.{Action.Text, Action.item_of, Dependencies.dependency_meaning};
+ghost use Rattle.cargo_toml.specs.{Manifests.held, Reads.map_meaning, Targets.target_meaning};
+ghost use Rattle.cargo_toml.specs.Views.{set_has};
+ghost use Rattle.cargo_toml_lint.specs.Known.{acted_by, acted_in, acted_keys, all_names};
+ghost use Rattle.cargo_toml_lint.specs.Known.{dependency_keys, has_key, has_marked, keys_in};
+ghost use Rattle.cargo_toml_lint.specs.{Known.target_keys, Names.AddsKeys, Names.key_of};
+ghost use Rattle.cargo_toml_lint.specs.Names.{held_names, listed_by};
 
 use cargo_toml::{DepsSet, FeatureSet, Manifest, Target, TargetDepsSet};
 use cargo_toml_features::action::{add_text, read_action};
@@ -30,105 +29,123 @@ pub(crate) struct Known<'m> {
     pub reserved: BTreeSet<&'m str>,
 }
 
-// Keys of dependencies, some of which are marked.
-#[derive(Drop)]
-struct Keys<'m> {
-    // All of them.
-    all: BTreeSet<&'m str>,
-    // Those that are marked.
-    marked: BTreeSet<&'m str>,
+// A key of a dependency, which may be marked.
+#[derive(Copy, Clone)]
+struct Key<'m> {
+    name: &'m str,
+    is_marked: bool,
 }
 
-fn no_keys<'m>(alloc: Global) -> Keys<'m>
-    ensures { (ks : Marked) (keys : Keys) → AddsKeys ks result keys → HoldsKeys ks keys }
+// Adds those of a table: marked are those of optional dependencies.
+fn add_table<'m>(keys: &mut Vec<Key<'m>>, table: &'m DepsSet) -> Result<(), AllocError>
+    ensures { OnOk result (AddsKeys (keys_in (map_meaning dependency_meaning table.now))
+        keys.old.items keys.new.items) }
 {
-    Keys {
-        all: BTreeSet::new(alloc),
-        marked: BTreeSet::new(alloc),
+    for (key, dependency) in table {
+        keys.push(Key {
+            name: key.as_str(),
+            is_marked: dependency.optional(),
+        })?;
     }
+    Ok(())
 }
 
-impl<'m> Keys<'m> {
-    fn add(&mut self, key: &'m str, is_marked: bool) -> Result<(), AllocError>
-        ensures { OnOk result (AddsKeys ((key.now, is_marked) ∷ []) self.old self.new) }
-    {
-        add_text(&mut self.all, key)?;
-        if is_marked {
-            add_text(&mut self.marked, key)
-        } else {
-            Ok(())
-        }
-    }
+// Adds those of the tables of a target.
+fn add_target<'m>(keys: &mut Vec<Key<'m>>, target: &'m Target) -> Result<(), AllocError>
+    ensures { OnOk result
+        (AddsKeys (target_keys (target_meaning target.now)) keys.old.items keys.new.items) }
+{
+    add_table(keys, &target.dependencies)?;
+    add_table(keys, &target.build_dependencies)?;
+    add_table(keys, &target.dev_dependencies)
+}
 
-    // Adds those of a table: marked are those of optional dependencies.
-    fn add_table(&mut self, table: &'m DepsSet) -> Result<(), AllocError>
-        ensures { OnOk result
-            (AddsKeys (keys_in (map_meaning dependency_meaning table.now)) self.old self.new) }
-    {
-        for (key, dependency) in table {
-            self.add(key.as_str(), dependency.optional())?;
-        }
-        Ok(())
+// Adds those of each target.
+#[tactic(auto, using(crate::proofs::Adding::left_next, crate::proofs::Adding::left_none))]
+fn add_targets<'m>(keys: &mut Vec<Key<'m>>, targets: &'m TargetDepsSet) -> Result<(), AllocError>
+    ensures { OnOk result (AddsKeys (flat_map (λ t. target_keys t.1)
+        (map_meaning target_meaning targets.now)) keys.old.items keys.new.items) }
+{
+    for (_, target) in targets {
+        add_target(keys, target)?;
     }
+    Ok(())
+}
 
-    // Adds those of the tables of a target.
-    fn add_target(&mut self, target: &'m Target) -> Result<(), AllocError>
-        ensures { OnOk result
-            (AddsKeys (target_keys (target_meaning target.now)) self.old self.new) }
-    {
-        self.add_table(&target.dependencies)?;
-        self.add_table(&target.build_dependencies)?;
-        self.add_table(&target.dev_dependencies)
+// Adds the key on which a text acts, if it does: marked is one that it names by `dep:`.
+fn add_acted<'m>(keys: &mut Vec<Key<'m>>, text: &'m str) -> Result<(), AllocError>
+    ensures { OnOk result (AddsKeys (acted_in (item_of text.now)) keys.old.items keys.new.items) }
+{
+    let action = read_action(text);
+    if !action.acts() {
+        return Ok(());
     }
+    keys.push(Key {
+        name: action.target,
+        is_marked: action.is_dep_only,
+    })?;
+    Ok(())
+}
 
-    // Adds those of each target.
-    fn add_targets(&mut self, targets: &'m TargetDepsSet) -> Result<(), AllocError>
-        ensures { OnOk result
-            (AddsKeys (flat_map (λ t. target_keys t.1) (map_meaning target_meaning targets.now))
-            self.old self.new) }
-    {
-        for target in targets.values() {
-            self.add_target(target)?;
-        }
-        Ok(())
+// Adds those on which the texts of a list act.
+#[tactic(auto, using(crate::proofs::Adding::mapped_next))]
+fn add_list<'m>(keys: &mut Vec<Key<'m>>, texts: &'m [String]) -> Result<(), AllocError>
+    ensures { OnOk result
+        (AddsKeys (acted_by (map string_bytes texts.now)) keys.old.items keys.new.items) }
+{
+    for text in texts {
+        add_acted(keys, text.as_str())?;
     }
-
-    // Adds those on which the texts of a list act: marked are those that they name by `dep:`.
-    fn add_list(&mut self, texts: &'m [String]) -> Result<(), AllocError>
-        ensures { OnOk result (AddsKeys (acted_by (map string_bytes texts.now)) self.old self.new) }
-    {
-        for text in texts {
-            let action = read_action(text.as_str());
-            if action.acts() {
-                self.add(action.target, action.is_dep_only)?;
-            }
-        }
-        Ok(())
-    }
+    Ok(())
 }
 
 // The keys of all tables of dependencies of a manifest.
-fn dependency_keys<M>(alloc: Global, manifest: &Manifest<M>) -> Result<Keys<'_>, AllocError>
-    ensures { IfOk result (HoldsKeys (dependency_keys (held manifest.now))) }
+fn dependency_keys<M>(alloc: Global, manifest: &Manifest<M>) -> Result<Vec<Key<'_>>, AllocError>
+    ensures { IfOk result (λ v. map key_of v.items ≡ dependency_keys (held manifest.now)) }
 {
-    let mut keys = no_keys(alloc);
-    keys.add_table(&manifest.dependencies)?;
-    keys.add_table(&manifest.build_dependencies)?;
-    keys.add_table(&manifest.dev_dependencies)?;
-    keys.add_targets(&manifest.target)?;
+    let mut keys = Vec::new(alloc);
+    add_table(&mut keys, &manifest.dependencies)?;
+    add_table(&mut keys, &manifest.build_dependencies)?;
+    add_table(&mut keys, &manifest.dev_dependencies)?;
+    add_targets(&mut keys, &manifest.target)?;
     Ok(keys)
 }
 
 // The keys on which the texts of features act.
-fn acted_keys(alloc: Global, features: &FeatureSet) -> Result<Keys<'_>, AllocError>
-    ensures { IfOk result (HoldsKeys (acted_keys
-        (map_meaning (λ v. map string_bytes v.items) features.now))) }
+#[tactic(auto, using(crate::proofs::Adding::left_next, crate::proofs::Adding::left_none))]
+fn acted_keys(alloc: Global, features: &FeatureSet) -> Result<Vec<Key<'_>>, AllocError>
+    ensures { IfOk result (λ v. map key_of v.items ≡ acted_keys
+        (map_meaning (λ v. map string_bytes v.items) features.now)) }
 {
-    let mut keys = no_keys(alloc);
-    for texts in features.values() {
-        keys.add_list(texts.as_slice())?;
+    let mut keys = Vec::new(alloc);
+    for (_, texts) in features {
+        add_list(&mut keys, texts.as_slice())?;
     }
     Ok(keys)
+}
+
+// All keys as a set.
+fn all_of<'m>(alloc: Global, keys: &[Key<'m>]) -> Result<BTreeSet<&'m str>, AllocError>
+    ensures { IfOk result (λ s. (k : Text) → set_has s k ≡ has_key (map key_of keys.now) k) }
+{
+    let mut all = BTreeSet::new(alloc);
+    for key in keys {
+        add_text(&mut all, key.name)?;
+    }
+    Ok(all)
+}
+
+// Those that are marked.
+fn marked_of<'m>(alloc: Global, keys: &[Key<'m>]) -> Result<BTreeSet<&'m str>, AllocError>
+    ensures { IfOk result (λ s. (k : Text) → set_has s k ≡ has_marked (map key_of keys.now) k) }
+{
+    let mut marked = BTreeSet::new(alloc);
+    for key in keys {
+        if key.is_marked {
+            add_text(&mut marked, key.name)?;
+        }
+    }
+    Ok(marked)
 }
 
 /// The names that a manifest has.
@@ -145,10 +162,10 @@ pub(crate) fn known_names<'m, M>(
     let acted = acted_keys(alloc, &manifest.features)?;
     Ok(Known {
         features: &manifest.features,
-        dependencies: keys.all,
-        optional: keys.marked,
-        acted: acted.all,
-        reserved: acted.marked,
+        dependencies: all_of(alloc, keys.as_slice())?,
+        optional: marked_of(alloc, keys.as_slice())?,
+        acted: all_of(alloc, acted.as_slice())?,
+        reserved: marked_of(alloc, acted.as_slice())?,
     })
 }
 

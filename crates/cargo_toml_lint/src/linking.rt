@@ -1,19 +1,15 @@
 //! Which features of a manifest turn on which.
-ghost use Rattle.std.specs.Prelude.{◌≡◌, ◌↔◌, ◌<◌, ◌&&◌, ℕ, IfOk, IsTrue, Some};
-ghost use Rattle.std.specs.Prelude.{bytes_eq, false, length, map, not, string_bytes};
-ghost use Rattle.std.specs.Option.{option_map_or};
-ghost use Rattle.cargo_toml.specs.Action.{Text, item_of};
-ghost use Rattle.cargo_toml.specs.Ascending.{Ascend};
-ghost use Rattle.cargo_toml.specs.Graph.{Table};
-ghost use Rattle.cargo_toml.specs.Manifests.{held};
-ghost use Rattle.cargo_toml.specs.Reach.{Among};
-ghost use Rattle.cargo_toml.specs.Recursive.{Enables};
-ghost use Rattle.cargo_toml.specs.Views.{set_has, table_in};
+ghost use Rattle.std.specs.Prelude.{◌≡◌, ◌↔◌, ◌⊎◌, ◌<◌, ◌&&◌, ◌||◌, ℕ, [], IfOk, IsTrue, OnOk};
+ghost use Rattle.std.specs.Prelude.{bytes_eq, is_some, length, map, not, string_bytes, unwrap_or};
+ghost use Rattle.std.specs.{List.list_any, Map.lookup};
+ghost use Rattle.cargo_toml.specs.{Action.Text, Action.item_of, Ascending.Ascend, Graph.Table};
+ghost use Rattle.cargo_toml.specs.{Manifests.held, Reach.Among, Recursive.Enables, Views.set_has};
+ghost use Rattle.cargo_toml.specs.Views.{table_in};
 ghost use Rattle.cargo_toml_features.specs.Places.{nth_text};
-ghost use Rattle.cargo_toml_lint.specs.Turning.{says, turned, turning, turning_by, turns_to};
-ghost use Rattle.cargo_toml_lint.specs.Linked.{AreFound, AreLinks, name_at};
-ghost use Rattle.cargo_toml_lint.specs.Names.{held_names, listed_by};
-ghost use Rattle.cargo_toml_lint.specs.Reached.{Leads, Path};
+ghost use Rattle.cargo_toml_lint.specs.Turning.{turned, turning, turning_by, turns_to};
+ghost use Rattle.cargo_toml_lint.specs.Linked.{AreFound, AreLinks, Passes, name_at};
+ghost use Rattle.cargo_toml_lint.specs.{Names.held_names, Names.listed_by, Reached.Leads};
+ghost use Rattle.cargo_toml_lint.specs.Reached.{Path};
 
 use crate::graph::FeatureMap;
 use crate::known::{Known, known_names};
@@ -34,42 +30,37 @@ pub struct Links<'m> {
     pub(crate) reach: Reach,
 }
 
-// Whether an action turns on the feature with the name of its dependency: that is optional, and the
-// action is neither conditional nor by `dep:`.
+// Whether an action turns on the feature of its target's name: where it names that, or where the
+// dependency is optional, and the action is neither conditional nor by `dep:`.
 fn is_turning(known: &Known<'_>, action: &ActionText<'_>) -> bool
-    ensures { result ≡ ((held_names known.now).optional action.now.target.now
-        && (not action.now.is_conditional && not action.now.is_dep_only)) }
+    ensures { result ≡ (not (action.now.is_dep_only || is_some action.now.dep_feature)
+        || ((held_names known.now).optional action.now.target.now
+        && (not action.now.is_conditional && not action.now.is_dep_only))) }
 {
-    known.optional.contains(action.target) && !action.is_conditional && !action.is_dep_only
+    !action.acts()
+        || (known.optional.contains(action.target) && !action.is_conditional && !action.is_dep_only)
 }
 
-// What a text of a list turns on, if that is a feature.
-fn turned_by<'t>(known: &Known<'_>, text: &'t str) -> Option<&'t str>
-    ensures { (x : Text) → turns_to (held_names known.now).optional x (item_of text.now)
-        ≡ option_map_or (λ name. bytes_eq x name.now) result false }
+// Adds the place of what a text of a list turns on, if that is a feature.
+fn add_edge(
+    row: &mut Vec<usize>,
+    known: &Known<'_>,
+    names: &[&str],
+    text: &str,
+) -> Result<(), AllocError>
+    requires { Ascend (map (λ t. t.now) names.now) }
+    ensures { OnOk result ((b : ℕ) → Among row.new.items b ↔ (Among row.old.items b ⊎ Passes
+        names.now (λ x. turns_to (held_names known.now).optional x (item_of text.now)) b)) }
 {
     let action = read_action(text);
-    if !action.acts() {
-        return Some(action.target);
+    if !is_turning(known, &action) {
+        return Ok(());
     }
-    if is_turning(known, &action) {
-        Some(action.target)
-    } else {
-        None
-    }
-}
-
-// The place of what a text of a list turns on.
-fn edge_of(known: &Known<'_>, names: &[&str], text: &str) -> Option<usize>
-    requires { Ascend (map (λ t. t.now) names.now) }
-    ensures { (b : ℕ) → (result ≡ Some b) ↔ ((b < length names.now)
-        × IsTrue (turns_to (held_names known.now).optional
-        (nth_text (map (λ t. t.now) names.now) b) (item_of text.now))) }
-{
-    match turned_by(known, text) {
-        Some(name) => place_of(names, name),
-        None => None,
-    }
+    let Some(place) = place_of(names, action.target) else {
+        return Ok(());
+    };
+    row.push(place)?;
+    Ok(())
 }
 
 // The places of what the texts of a list turn on.
@@ -80,20 +71,29 @@ fn edges_of(
     texts: &[String],
 ) -> Result<Vec<usize>, AllocError>
     requires { Ascend (map (λ t. t.now) names.now) }
-    ensures { IfOk result (λ row. (b : ℕ) → Among row.items b ↔ ((b < length names.now)
-        × IsTrue (says (turns_to (held_names known.now).optional
-        (nth_text (map (λ t. t.now) names.now) b)) (map string_bytes texts.now)))) }
+    ensures { IfOk result (λ row. (b : ℕ) → Among row.items b ↔ Passes names.now
+        (λ x. list_any (turns_to (held_names known.now).optional x)
+        (map item_of (map string_bytes texts.now))) b) }
 {
     let mut row = Vec::new(alloc);
     for text in texts {
-        if let Some(place) = edge_of(known, names, text.as_str()) {
-            row.push(place)?;
-        }
+        add_edge(&mut row, known, names, text.as_str())?;
     }
     Ok(row)
 }
 
-// What the feature of this name turns on: nothing, where the manifest doesn't list it.
+// The texts in the list of the feature of this name: none, where the manifest doesn't list it.
+fn texts_of<'k>(known: &'k Known<'_>, name: &str) -> &'k [String]
+    ensures { map string_bytes result.now
+        ≡ unwrap_or (lookup (bytes_eq name.now) (listed_by known.now)) [] }
+{
+    match known.features.get(name) {
+        Some(texts) => texts.as_slice(),
+        None => &[],
+    }
+}
+
+// What the feature of this name turns on.
 fn row_of(
     alloc: Global,
     known: &Known<'_>,
@@ -101,14 +101,10 @@ fn row_of(
     name: &str,
 ) -> Result<Vec<usize>, AllocError>
     requires { Ascend (map (λ t. t.now) names.now) }
-    ensures { IfOk result (λ row. (b : ℕ) → Among row.items b ↔ ((b < length names.now)
-        × IsTrue (turned (listed_by known.now) (held_names known.now).optional name.now
-        (nth_text (map (λ t. t.now) names.now) b)))) }
+    ensures { IfOk result (λ row. (b : ℕ) → Among row.items b ↔ Passes names.now
+        (turned (listed_by known.now) (held_names known.now).optional name.now) b) }
 {
-    match known.features.get(name) {
-        Some(texts) => edges_of(alloc, known, names, texts.as_slice()),
-        None => Ok(Vec::new(alloc)),
-    }
+    edges_of(alloc, known, names, texts_of(known, name))
 }
 
 // The same of each name.
@@ -116,9 +112,8 @@ fn edges(alloc: Global, known: &Known<'_>, names: &[&str]) -> Result<Vec<Vec<usi
     requires { Ascend (map (λ t. t.now) names.now) }
     ensures len { IfOk result (λ next. length next.items ≡ length names.now) }
     ensures exact { IfOk result (λ next. (a b : ℕ) → a < length names.now
-        → Leads next.items a b ↔ ((b < length names.now)
-        × IsTrue (turned (listed_by known.now) (held_names known.now).optional
-        (nth_text (map (λ t. t.now) names.now) a) (nth_text (map (λ t. t.now) names.now) b)))) }
+        → Leads next.items a b ↔ Passes names.now (turned (listed_by known.now)
+        (held_names known.now).optional (nth_text (map (λ t. t.now) names.now) a)) b) }
 {
     let mut next = Vec::with_capacity(alloc, names.len())?;
     for place in 0..names.len() {

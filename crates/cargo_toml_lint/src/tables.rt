@@ -2,6 +2,7 @@
 ghost use Rattle.std.specs.Prelude.{OnOk};
 ghost use Rattle.std.specs.List.{flat_map};
 ghost use Rattle.cargo_toml.specs.Dependencies.{dependency_meaning};
+ghost use Rattle.cargo_toml.specs.InheritedManifests.{own_tables};
 ghost use Rattle.cargo_toml.specs.Manifests.{held};
 ghost use Rattle.cargo_toml.specs.Reads.{map_meaning};
 ghost use Rattle.cargo_toml.specs.Targets.{target_meaning};
@@ -11,11 +12,12 @@ ghost use Rattle.cargo_toml_lint.specs.Steps.{Finds};
 
 use crate::faults::request_fault;
 use crate::finding::{Code, Finding};
-use crate::gathering::{add_if, add_texts};
+use crate::gathering::{add, add_if};
 use cargo_toml::{Dependency, DepsSet, Manifest, Target, TargetDepsSet};
 use std::alloc::AllocError;
 
 // Adds what is found of an entry, which may be of dev-dependencies, or beyond the limit.
+#[tactic(auto, using(crate::proofs::Adding::mapped_next, crate::proofs::Adding::asked_is))]
 fn add_entry<'m>(
     found: &mut Vec<Finding<'m>>,
     key: &'m str,
@@ -29,15 +31,16 @@ fn add_entry<'m>(
     let is_refused = is_dev & dependency.optional();
     add_if(found, is_refused, Code::OptionalDev, key)?;
     add_if(found, is_over, Code::OverLimit, key)?;
-    add_texts(
-        found,
-        key,
-        dependency.req_features(),
-        |text| request_fault(text),
-    )
+    let texts = dependency.req_features();
+    for text in texts {
+        let text = text.as_str();
+        add(found, request_fault(text), key, text)?;
+    }
+    Ok(())
 }
 
 // Adds what is found of a table, of which as many entries count as the limit says.
+#[tactic(auto, using(crate::proofs::Adding::table_next, crate::proofs::Adding::table_none))]
 fn add_table<'m>(
     found: &mut Vec<Finding<'m>>,
     table: &'m DepsSet,
@@ -71,6 +74,7 @@ fn add_target<'m>(
 }
 
 // Adds what is found of the tables of each target.
+#[tactic(auto, using(crate::proofs::Adding::left_next, crate::proofs::Adding::left_none))]
 fn add_targets<'m>(
     found: &mut Vec<Finding<'m>>,
     targets: &'m TargetDepsSet,
@@ -79,10 +83,24 @@ fn add_targets<'m>(
     ensures { OnOk result (Finds (flat_map (λ t. target_findings limit t.1)
         (map_meaning target_meaning targets.now)) found.old.items found.new.items) }
 {
-    for target in targets.values() {
+    for (_, target) in targets {
         add_target(found, target, limit)?;
     }
     Ok(())
+}
+
+// Adds what is found of the tables that are of no target.
+fn add_own_tables<'m, M>(
+    found: &mut Vec<Finding<'m>>,
+    manifest: &'m Manifest<M>,
+    limit: usize,
+) -> Result<(), AllocError>
+    ensures { OnOk result (Finds (target_findings limit (own_tables (held manifest.now)))
+        found.old.items found.new.items) }
+{
+    add_table(found, &manifest.dependencies, false, limit)?;
+    add_table(found, &manifest.build_dependencies, false, limit)?;
+    add_table(found, &manifest.dev_dependencies, true, limit)
 }
 
 /// Adds what is found of all tables of dependencies.
@@ -94,8 +112,6 @@ pub(crate) fn add_tables<'m, M>(
     ensures { OnOk result (Finds (tables_findings limit (held manifest.now))
         found.old.items found.new.items) }
 {
-    add_table(found, &manifest.dependencies, false, limit)?;
-    add_table(found, &manifest.build_dependencies, false, limit)?;
-    add_table(found, &manifest.dev_dependencies, true, limit)?;
+    add_own_tables(found, manifest, limit)?;
     add_targets(found, &manifest.target, limit)
 }

@@ -140,5 +140,6 @@ pub(crate) fn add_place<'m, S: BuildHasher>(
     add_if(found, is_implied(features, name), Code::Implied, name)?;
     add_if(found, is_internal & is_alone, Code::PrivateDefault, name)?;
     add_if(found, links.reach.is_in_ring(place), Code::Cycle, name)?;
-    add_if(found, is_left_alone, Code::Unreachable, name)
+    add_if(found, is_left_alone, Code::Unreachable, name)?;
+    Ok(())
 }

@@ -1,14 +1,11 @@
-use Rattle.std.proofs.Common.{[], Some, string_bytes}
-use Rattle.std.specs.BTreeMap.{keys}
+use Rattle.std.proofs.Common.{◌≡◌, ◌++◌, [], Some, map, string_bytes}
 use Rattle.std.specs.List.{flat_map}
-use Rattle.cargo_toml_lint.specs.Findings.{told}
-use Rattle.cargo_toml_lint.specs.Steps.{Finds}
-use Rattle.cargo_toml_lint.specs.declared.finding.Code.TheVariants.{FeatureTable}
-use Rattle.cargo_toml_lint.proofs.Adding.{Adding}
+use Rattle.cargo_toml.specs.{Action.Text, Details.Detail, Details.detail_of, Reads.map_meaning}
+use Rattle.cargo_toml_lint.specs.{Findings.about, Findings.told, declared.finding.Code.TheVariants.FeatureTable}
 use Rattle.cargo_toml_lint.proofs.gathering.add_details.Given as goal
 
 abbrev pub invariant-loop-name : goal.invariant-loop-name
-invariant-loop-name l = Adding Finds
-    (flat_map (λ k. told (string_bytes k) [] (Some FeatureTable)) l.name-iterator)
-    (flat_map (λ k. told (string_bytes k) [] (Some FeatureTable)) (keys l.details))
-    l.initial.found.items l.found.items
+invariant-loop-name l =
+    let of = λ (e : Text × Detail). told e.0 [] (Some FeatureTable) in
+    map about l.found.items ++ flat_map of (map (λ e. (string_bytes e.0, detail_of e.1)) l.name-iterator)
+    ≡ map about l.initial.found.items ++ flat_map of (map_meaning detail_of l.details)

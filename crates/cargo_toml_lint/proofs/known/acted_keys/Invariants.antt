@@ -1,12 +1,10 @@
-use Rattle.std.proofs.Common.{map, string_bytes}
-use Rattle.std.specs.BTreeMap.{values}
-use Rattle.std.specs.List.{flat_map}
-use Rattle.cargo_toml_lint.specs.Known.{acted_by}
-use Rattle.cargo_toml_lint.specs.Names.{AddsKeys}
-use Rattle.cargo_toml_lint.proofs.Adding.{Adding}
+use Rattle.std.proofs.Common.{◌≡◌, ◌++◌, map, string_bytes}
+use Rattle.cargo_toml_lint.specs.{Known.acted_keys, Names.key_of}
+use Rattle.cargo_toml.specs.Reads.{map_meaning}
+use Rattle.cargo_toml_lint.proofs.Gathered.{list_of}
 use Rattle.cargo_toml_lint.proofs.known.acted_keys.Given as goal
 
 abbrev pub invariant-loop-texts : goal.invariant-loop-texts
-invariant-loop-texts l = Adding AddsKeys
-    (flat_map (λ v. acted_by (map string_bytes v.items)) l.texts-iterator)
-    (flat_map (λ v. acted_by (map string_bytes v.items)) (values l.features)) l.initial.keys l.keys
+invariant-loop-texts l =
+    map key_of l.keys.items ++ acted_keys (map list_of l.texts-iterator)
+    ≡ acted_keys (map_meaning (λ v. map string_bytes v.items) l.features)

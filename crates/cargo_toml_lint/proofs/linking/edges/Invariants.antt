@@ -1,9 +1,9 @@
-use Rattle.std.proofs.Common.{◌<◌, IsTrue, length, map}
+use Rattle.std.proofs.Common.{map}
 use Rattle.cargo_toml_features.specs.Places.{nth_text}
-use Rattle.cargo_toml_lint.specs.Names.{held_names, listed_by}
-use Rattle.cargo_toml_lint.specs.Turning.{turned}
+use Rattle.cargo_toml_lint.specs.{Linked.Passes, Names.held_names, Names.listed_by, Turning.turned}
 use Rattle.cargo_toml_lint.proofs.Edges.{IsFilled}
 use Rattle.cargo_toml_lint.proofs.linking.edges.Given as goal
 
 abbrev pub invariant-loop-place : goal.invariant-loop-place
-invariant-loop-place l = IsFilled (λ a b. (b < length l.names) × IsTrue (turned (listed_by l.known) (held_names l.known).optional (nth_text (map (λ t. t.now) l.names) a) (nth_text (map (λ t. t.now) l.names) b))) l.place l.next.items
+invariant-loop-place l = IsFilled (λ a. Passes l.names (turned (listed_by l.known)
+    (held_names l.known).optional (nth_text (map (λ t. t.now) l.names) a))) l.place l.next.items

@@ -3,6 +3,3 @@ use Rattle.cargo_toml_lint.proofs.names.is_bad_text.Goals as goal
 
 pub returns-in-Some : goal.returns-in-Some
 returns-in-Some c = search (rules, ap₂)
-
-pub returns-in-None : goal.returns-in-None
-returns-in-None c = search rules

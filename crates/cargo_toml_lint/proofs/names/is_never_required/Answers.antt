@@ -3,6 +3,3 @@ use Rattle.cargo_toml_lint.proofs.names.is_never_required.Goals as goal
 
 pub returns-in-Some : goal.returns-in-Some
 returns-in-Some c = search (rules, nat_eq)
-
-pub returns-in-None : goal.returns-in-None
-returns-in-None c = search rules

@@ -1,6 +1,6 @@
 use Rattle.std.proofs.Common.{◌∷◌, [], arith, inl, refl, subst, sym}
 use Rattle.cargo_toml.specs.Reach.{Among}
-use Rattle.cargo_toml_lint.proofs.Rows.{among_last}
+use Rattle.cargo_toml_graph.proofs.BinLists.{among-second}
 use Rattle.cargo_toml_lint.proofs.Searching.{path_inside, search_ends}
 use Rattle.cargo_toml_lint.proofs.reach.row_of.Goals as goal
 
@@ -8,7 +8,7 @@ pub meet-requires-clause-inside : goal.meet-requires-clause-inside
 meet-requires-clause-inside c =
     let x = c.in-Some.x in
     path_inside c.args.reach.now c.requires.whole c.args.start x c.requires.inside (c.loop-x.invariant.met x
-    (subst (λ ws. Among ws x) (sym c.in-Some.ensures.items) (among_last c.pop.new.self.items (x ∷ []) x (inl refl))))
+    (subst (λ ws. Among ws x) (sym c.in-Some.ensures.items) (among-second c.pop.new.self.items (x ∷ []) x (inl refl))))
 
 pub returns-clause-right : goal.returns-clause-right
 returns-clause-right c =

@@ -1,13 +1,12 @@
-use Rattle.std.specs.BTreeMap.{values}
+use Rattle.std.proofs.Common.{◌≡◌, ◌++◌, map}
 use Rattle.std.specs.List.{flat_map}
-use Rattle.cargo_toml.specs.Targets.{target_meaning}
-use Rattle.cargo_toml_lint.specs.Findings.{target_findings}
-use Rattle.cargo_toml_lint.specs.Steps.{Finds}
-use Rattle.cargo_toml_lint.proofs.Adding.{Adding}
+use Rattle.cargo_toml.specs.{Action.Text, Reads.map_meaning, Targets.TargetMeaning, Targets.target_meaning}
+use Rattle.cargo_toml_lint.specs.{Findings.about, Findings.target_findings}
+use Rattle.cargo_toml_lint.proofs.Adding.{target_of}
 use Rattle.cargo_toml_lint.proofs.tables.add_targets.Given as goal
 
 abbrev pub invariant-loop-target : goal.invariant-loop-target
-invariant-loop-target l = Adding Finds
-    (flat_map (λ t. target_findings l.limit (target_meaning t)) l.target-iterator)
-    (flat_map (λ t. target_findings l.limit (target_meaning t)) (values l.targets))
-    l.initial.found.items l.found.items
+invariant-loop-target l =
+    let of = λ (t : Text × TargetMeaning). target_findings l.limit t.1 in
+    map about l.found.items ++ flat_map of (map target_of l.target-iterator)
+    ≡ map about l.initial.found.items ++ flat_map of (map_meaning target_meaning l.targets)

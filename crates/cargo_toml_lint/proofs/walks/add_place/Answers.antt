@@ -1,10 +1,8 @@
-use Rattle.std.proofs.Common.{◌≡◌, ◌↔◌, ◌⊎◌, ◌&&◌, [], sym, subst, ◌∙◌}
+use Rattle.std.proofs.Common.{◌≡◌, ◌↔◌, ◌⊎◌, ◌&&◌, [], append_assoc, arith, sym, subst, ◌∙◌}
 use Rattle.std.proofs.lemmas.Bool.{and_from, and_parts}
-use Rattle.std.proofs.lemmas.Result.{on_ok_weaker}
 use Rattle.cargo_toml.specs.Action.{Text}
 use Rattle.cargo_toml_lint.specs.Findings.{IsFound}
 use Rattle.cargo_toml_lint.specs.Steps.{CountsBy}
-use Rattle.cargo_toml_lint.proofs.Adding.{finds_more}
 use Rattle.cargo_toml_lint.proofs.Counted.{all_found}
 use Rattle.cargo_toml_lint.proofs.Leading.{cyclic_at, only_default_at, unreachable_at}
 use Rattle.cargo_toml_lint.proofs.walks.add_place.Goals as goal
@@ -19,12 +17,14 @@ returns g c =
     let internal = rw c.name-name.ensures at c.is_internal-is_internal.ensures in
     let alone = rw (c.as_slice.ensures.value, c.as_slice-2.ensures.value) at c.is_alone-is_alone.ensures in
     let left = rw (c.as_slice-3.ensures.value, c.name-name.ensures) at c.is_left_alone-is_left_alone.ensures in
-    on_ok_weaker c.add_if-4.result (λ last t are none d f x.
+    let found = c.args.found.now.items in
+    let new = c.add_if-4.new.found.items in
+    λ t are none d f x.
     let inside = c.requires.inside in
     let only = only_default_at t l are none w c.requires.walks place inside in
     let ring = cyclic_at t l are none w c.requires.walks place inside in
     let away = unreachable_at t l are none w c.requires.walks place inside in
-    subst (λ (n : Text). IsFound c.add_if-4.new.found.items d f x ↔ (IsFound c.args.found.now.items d f x
+    subst (λ (n : Text). IsFound new d f x ↔ (IsFound found d f x
     ⊎ ((x ≡ []) × (n ≡ f) × CountsBy m t d f))) c.name-name.ensures
     (all_found m t c.name-name.result.now c.is_implied.result
     (c.is_internal-is_internal.result && c.is_alone-is_alone.result) c.is_in_ring.result c.is_left_alone-is_left_alone.result
@@ -35,5 +35,4 @@ returns g c =
     ))
     (rw c.name-name.ensures (λ h. ring.0 (c.is_in_ring.ensures.0 h), λ h. c.is_in_ring.ensures.1 (ring.1 h)))
     (rw c.name-name.ensures (λ h. away.0 (left.0 h), λ h. left.1 (away.1 h)))
-    (finds_more c.in_ok-add_if.ensures (finds_more c.in_ok-add_if-2.ensures (finds_more c.in_ok-add_if-3.ensures last))) d f x))
-    c.add_if-4.ensures
+    found new (grind (arith, append_assoc, c.in_ok-add_if.ensures, c.in_ok-add_if-2.ensures, c.in_ok-add_if-3.ensures, c.in_ok-add_if-4.ensures)) d f x)

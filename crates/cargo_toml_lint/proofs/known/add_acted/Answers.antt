@@ -1,0 +1,10 @@
+use Rattle.std.proofs.Common.{rules}
+use Rattle.std.proofs.lemmas.List.{append-nil, map_push}
+use Rattle.cargo_toml_lint.proofs.Items.{acting, naming}
+use Rattle.cargo_toml_lint.proofs.known.add_acted.Goals as goal
+
+pub returns-then-not-acts : goal.returns-then-not-acts
+returns-then-not-acts c = search (rules, naming, append-nil)
+
+pub returns : goal.returns
+returns c = search (rules, acting, map_push)

@@ -1,0 +1,8 @@
+use Rattle.std.proofs.Common.{◌≡◌, ◌++◌, map, string_bytes, take}
+use Rattle.cargo_toml_lint.specs.{Known.acted_by, Names.key_of}
+use Rattle.cargo_toml_lint.proofs.known.add_list.Given as goal
+
+abbrev pub invariant-loop-text : goal.invariant-loop-text
+invariant-loop-text l =
+    map key_of l.keys.items ≡ map key_of l.initial.keys.items
+    ++ acted_by (map string_bytes (take l.text-index l.texts))

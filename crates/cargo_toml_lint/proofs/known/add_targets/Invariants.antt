@@ -1,0 +1,12 @@
+use Rattle.std.proofs.Common.{◌≡◌, ◌++◌, map}
+use Rattle.std.specs.List.{flat_map}
+use Rattle.cargo_toml.specs.{Action.Text, Reads.map_meaning, Targets.TargetMeaning, Targets.target_meaning}
+use Rattle.cargo_toml_lint.specs.{Known.target_keys, Names.key_of}
+use Rattle.cargo_toml_lint.proofs.Adding.{target_of}
+use Rattle.cargo_toml_lint.proofs.known.add_targets.Given as goal
+
+abbrev pub invariant-loop-target : goal.invariant-loop-target
+invariant-loop-target l =
+    let of = λ (t : Text × TargetMeaning). target_keys t.1 in
+    map key_of l.keys.items ++ flat_map of (map target_of l.target-iterator)
+    ≡ map key_of l.initial.keys.items ++ flat_map of (map_meaning target_meaning l.targets)

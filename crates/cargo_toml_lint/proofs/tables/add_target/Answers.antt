@@ -1,7 +1,0 @@
-use Rattle.std.proofs.Common.{rules}
-use Rattle.std.proofs.lemmas.Result.{on_ok_weaker}
-use Rattle.cargo_toml_lint.proofs.Adding.{finds_more}
-use Rattle.cargo_toml_lint.proofs.tables.add_target.Goals as goal
-
-pub returns : goal.returns
-returns c = search (rules, on_ok_weaker, finds_more)

@@ -1,13 +1,21 @@
 -- What `index` answers of a text of a file.
 use Rattle.std.specs.Prelude.{◌≡◌, ◌⊎◌, ◌++◌, [], ◌∷◌, List, None, Option, Result, Some, ⊤}
+use Rattle.std.specs.Prelude.{codes, option_and_then}
+use Rattle.std.specs.BTreeMap.{BTreeMap, get_by}
+use Rattle.std.specs.Borrow.{Bor}
+use Rattle.std.specs.Cmp.Lexicographic.{slice_cmp}
+use Rattle.std.specs.Option.{option_copied, option_or}
+use Rattle.std.specs.Ordering.{nat_cmp}
 use Rattle.std.specs.declared.fmt.Error.{Error as FmtError}
 use Rattle.std.specs.declared.fmt.Formatter.{Formatter}
+use Rattle.semver.specs.Identifiers.{parts_text}
 use Rattle.serde_json.specs.Data.{Data}
 use Rattle.serde_json.specs.Written.{IsInOrder}
 use Rattle.toml.specs.declared.value.Value.{Value}
 use Rattle.cargo_toml.specs.Action.{Text}
 use Rattle.cargo_toml.specs.Manifest.{Manifest}
-use Rattle.cargo_toml.specs.Manifests.{held}
+use Rattle.cargo_toml.specs.InheritableValues.{value_of}
+use Rattle.cargo_toml.specs.Manifests.{ManifestMeaning, held}
 use Rattle.cargo_toml_parts.specs.OwnWords.{HasOwnWords, WritesSome}
 use Rattle.cargo_toml_lint.specs.declared.finding.Finding.{Finding}
 use Rattle.cargo_toml_tools.specs.FromFiles.{IsCompletedIn, IsOfInput, IsUncompleted}
@@ -26,16 +34,30 @@ pub record IsLookedAt (path text : Text) (m : Manifest Value) (findings : List F
   pub completed : IsCompletedIn path text m
   pub found : AreFindingsOf (held m) findings
 
--- what is printed is the line of such a manifest, which an index takes, and a line feed; it has
--- this checksum or none
-pub record IsLineOf (path text : Text) (w : Wanted) (printed : Text) : Type 0 where
+-- what these sums have for a name
+abbrev pub sum_at : BTreeMap (Bor Text) (Bor Text) → Text → Option Text
+sum_at sums name = option_copied (get_by (λ q. slice_cmp nat_cmp name q.now) sums)
+
+-- the sum of a crate's archive, `NAME-VERSION.crate`, among sums by name
+abbrev pub sum_of : {M : Type 0} → (Text → Option Text) → ManifestMeaning M → Option Text
+sum_of sums m =
+    option_and_then (λ p. option_and_then
+    (λ v. sums (p.name ++ codes "-" ++ parts_text v ++ codes ".crate")) (value_of p.version))
+    m.«package»
+
+-- what is printed is the line of such a manifest, which an index takes, and a line feed. Its
+-- checksum is the one that is asked for, or else the one that the sums have of the crate
+pub record IsLineOf (path text : Text) (w : Wanted) (sums : Text → Option Text) (printed : Text)
+    : Type 0 where
   pub manifest : Manifest Value
   pub findings : List Finding
   pub looked_at : IsLookedAt path text manifest findings
   pub taken : refusal_of w findings text (held manifest) ≡ None
-  pub sum : Option Text
   pub line : Data
-  pub is : Some line ≡ index_data (record w { checksum = sum }) text (held manifest)
+  pub is :
+      Some line
+      ≡ index_data (record w { checksum = option_or w.checksum (sum_of sums (held manifest)) })
+      text (held manifest)
   pub spelled : Text
   pub exact : IsInOrder spelled line
   pub ended : printed ≡ spelled ++ 10 ∷ []

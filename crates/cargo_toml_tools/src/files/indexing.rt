@@ -1,7 +1,9 @@
 //! The line of a registry's index.
-ghost use Rattle.std.specs.Prelude.{IfErr, IfOk, IsSome, OnOk, string_bytes};
+ghost use Rattle.std.specs.Prelude.{◌≡◌, IfErr, IfOk, IsSome, OnOk, string_bytes};
+ghost use Rattle.std.specs.Option.{option_copied};
 ghost use Rattle.std.specs.Path.{path_parent};
-ghost use Rattle.cargo_toml_tools.specs.IndexedFiles.{IsIndexFault, IsLineOf};
+ghost use Rattle.cargo_toml.specs.Manifests.{held};
+ghost use Rattle.cargo_toml_tools.specs.IndexedFiles.{IsIndexFault, IsLineOf, sum_at, sum_of};
 ghost use Rattle.cargo_toml_tools.specs.Sections.{wanted_of};
 
 use super::linting::findings_of;
@@ -24,7 +26,6 @@ pub enum Fault {
 }
 
 impl From<Error> for Fault {
-    ghost use Rattle.std.specs.Prelude.{◌≡◌};
     ghost use Rattle.cargo_toml_tools.specs.declared.files.indexing.Fault.TheVariants as fault;
 
     ghost from_gives = { λ inner e. e ≡ fault.Manifest inner };
@@ -35,7 +36,6 @@ impl From<Error> for Fault {
 }
 
 impl From<IndexError> for Fault {
-    ghost use Rattle.std.specs.Prelude.{◌≡◌};
     ghost use Rattle.cargo_toml_tools.specs.declared.files.indexing.Fault.TheVariants as fault;
 
     ghost from_gives = { λ inner e. e ≡ fault.Index inner };
@@ -46,7 +46,6 @@ impl From<IndexError> for Fault {
 }
 
 impl From<AllocError> for Fault {
-    ghost use Rattle.std.specs.Prelude.{◌≡◌};
     ghost use Rattle.cargo_toml.specs.Error.{Memory};
     ghost use Rattle.cargo_toml_tools.specs.declared.files.indexing.Fault.TheVariants as fault;
 
@@ -81,8 +80,9 @@ pub struct Indexed {
 }
 
 /// The line that an index has of the crate in this text of a file, which is completed first: an
-/// object of JSON, with the checksum of `NAME-VERSION.crate` among these where one is there.
-/// Refused where the text doesn't read or complete as a manifest, or has what no index takes.
+/// object of JSON. Its checksum is the one that is asked for, or else that of `NAME-VERSION.crate`
+/// among these. Refused where the text doesn't read or complete as a manifest, or has what no index
+/// takes.
 pub fn index_of<R: Files + RandomSource + AllocGlobal>(
     rt: &R,
     file: &str,
@@ -91,15 +91,15 @@ pub fn index_of<R: Files + RandomSource + AllocGlobal>(
     sums: &BTreeMap<&str, &str>,
 ) -> Result<Indexed, Fault>
     ensures printed { IfOk result (λ indexed. IsLineOf file.now text.now
-        (wanted_of options.entry) (string_bytes indexed.line)) }
+        (wanted_of options.entry) (sum_at sums.now) (string_bytes indexed.line)) }
     ensures named { OnOk result (IsSome (path_parent file.now)) }
     ensures refused { IfErr result (IsIndexFault file.now text.now (wanted_of options.entry)) }
 {
     let alloc = rt.alloc();
     let held = completed_of(rt, file, text)?;
     let manifest = &*held.manifest;
-    let (name, archive) = archive_of(alloc, manifest)?;
-    let checksum = sums.get(archive.as_str()).copied().or(options.checksum);
+    let found = sum_of(alloc, manifest, sums)?;
+    let checksum = options.checksum.or(found);
     let findings = findings_of(rt, manifest)?;
     let options = Options {
         checksum,
@@ -108,20 +108,29 @@ pub fn index_of<R: Files + RandomSource + AllocGlobal>(
     let entry = index_entry(alloc, manifest, text, findings.as_slice(), options)?;
     let mut line = entry.to_string(alloc)?;
     line.push_str("\n")?;
+    let name = match &manifest.package {
+        Some(package) => package.name.clone()?,
+        None => String::new(alloc),
+    };
     Ok(Indexed { name, line })
 }
 
-/// The name of a crate, and that of its archive. Both are empty where there is no package.
-fn archive_of(alloc: Global, manifest: &Manifest) -> Result<(String, String), AllocError> {
+/// The sum that these have of a crate's archive.
+fn sum_of<'s>(
+    alloc: Global,
+    manifest: &Manifest,
+    sums: &BTreeMap<&str, &'s str>,
+) -> Result<Option<&'s str>, AllocError>
+    ensures { IfOk result (λ sum. option_copied sum
+        ≡ sum_of (sum_at sums.now) (held manifest.now)) }
+{
     let Some(package) = &manifest.package else {
-        return Ok((String::new(alloc), String::new(alloc)));
+        return Ok(None);
     };
-    let name = package.name.clone()?;
-    match &package.version {
-        Inheritable::Set(version) => {
-            let archive = format!(in alloc; "{name}-{version}.crate")?;
-            Ok((name, archive))
-        }
-        Inheritable::Inherited => Ok((name, String::new(alloc))),
-    }
+    let Inheritable::Set(version) = &package.version else {
+        return Ok(None);
+    };
+    let name = package.name.as_str();
+    let archive = format!(in alloc; "{name}-{version}.crate")?;
+    Ok(sums.get(archive.as_str()).copied())
 }

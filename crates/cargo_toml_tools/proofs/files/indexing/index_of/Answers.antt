@@ -1,11 +1,18 @@
-use Rattle.std.proofs.Common.{rules, string_bytes, subst, sym}
+use Rattle.std.proofs.Common.{◌≡◌, ◌∙◌, Bor, None, Option, Some, ap, refl, rules, string_bytes}
+use Rattle.std.proofs.Common.{subst, sym}
 use Rattle.std.proofs.lemmas.Result.{err_from_is_err_and}
-use Rattle.std.specs.Option.{option_copied}
+use Rattle.std.specs.Option.{option_copied, option_or}
 use Rattle.serde_json.specs.View.{view}
 use Rattle.cargo_toml.specs.Manifests.{held}
 use Rattle.cargo_toml_tools.specs.FromFiles.{IsCompletedIn}
+use Rattle.cargo_toml_tools.specs.IndexLines.{index_data}
 use Rattle.cargo_toml_tools.specs.Linted.{AreFindingsOf}
+use Rattle.cargo_toml_tools.specs.Sections.{wanted_of}
 use Rattle.cargo_toml_tools.proofs.files.indexing.index_of.Goals as goal
+
+or_copied : {A : Type 0} (o p : Option (Bor A)) → option_copied (option_or o p) ≡ option_or (option_copied o) (option_copied p)
+or_copied None p = refl
+or_copied (Some x) p = refl
 
 pub returns-in_err-held-clause-refused : goal.returns-in_err-held-clause-refused
 returns-in_err-held-clause-refused g c = search (rules, err_from_is_err_and)
@@ -35,9 +42,11 @@ returns-clause-printed g c = record {
     found = subst (AreFindingsOf (held c.deref-manifest.result.now)) (sym c.as_slice.ensures.value) c.in_ok-findings.ensures.found;
   };
   taken = c.in_ok-entry.ensures.taken;
-  sum = option_copied c.or-checksum.result;
   line = view c.in_ok-entry.entry;
-  is = c.in_ok-entry.ensures.entry;
+  is =
+      subst (λ s. Some (view c.in_ok-entry.entry) ≡ index_data (record (wanted_of c.args.options) { checksum = s }) c.args.text.now (held c.deref-manifest.result.now))
+      (ap option_copied c.or-checksum.ensures ∙ or_copied _ _ ∙ ap (option_or (option_copied c.args.options.checksum)) c.in_ok-found.ensures)
+      c.in_ok-entry.ensures.entry;
   spelled = string_bytes c.in_ok-line.line;
   exact = c.in_ok-line.ensures.order;
   ended = c.in_ok-push_str.ensures.bytes;

@@ -1,11 +1,12 @@
 //! The line of a registry's index.
-ghost use Rattle.std.specs.Prelude.{IfErr, IfOk, IsSome, OnOk, string_bytes};
-ghost use Rattle.std.specs.Path.{path_parent};
-ghost use Rattle.cargo_toml_tools.specs.IndexedFiles.{IsIndexFault, IsLineOf};
+ghost use Rattle.std.specs.Prelude.{◌≡◌, IfErr, IfOk, IsSome, OnOk, string_bytes};
+ghost use Rattle.std.specs.{Option.option_copied, Path.path_parent};
+ghost use Rattle.cargo_toml.specs.{Error.Memory, Manifests.held};
+ghost use Rattle.cargo_toml_tools.specs.IndexedFiles.{IsIndexFault, IsLineOf, sum_at, sum_of};
 ghost use Rattle.cargo_toml_tools.specs.Sections.{wanted_of};
+ghost use Rattle.cargo_toml_tools.specs.declared.files.indexing.Fault.TheVariants as fault;
 
-use super::linting::findings_of;
-use super::reading::completed_of;
+use super::reading::{completed_of, findings_of};
 use crate::index::{IndexError, Options, index_entry};
 use cargo_toml::{Error, Inheritable, Manifest};
 use std::alloc::{AllocError, Global};
@@ -24,9 +25,6 @@ pub enum Fault {
 }
 
 impl From<Error> for Fault {
-    ghost use Rattle.std.specs.Prelude.{◌≡◌};
-    ghost use Rattle.cargo_toml_tools.specs.declared.files.indexing.Fault.TheVariants as fault;
-
     ghost from_gives = { λ inner e. e ≡ fault.Manifest inner };
 
     fn from(fault: Error) -> Fault {
@@ -35,9 +33,6 @@ impl From<Error> for Fault {
 }
 
 impl From<IndexError> for Fault {
-    ghost use Rattle.std.specs.Prelude.{◌≡◌};
-    ghost use Rattle.cargo_toml_tools.specs.declared.files.indexing.Fault.TheVariants as fault;
-
     ghost from_gives = { λ inner e. e ≡ fault.Index inner };
 
     fn from(fault: IndexError) -> Fault {
@@ -46,10 +41,6 @@ impl From<IndexError> for Fault {
 }
 
 impl From<AllocError> for Fault {
-    ghost use Rattle.std.specs.Prelude.{◌≡◌};
-    ghost use Rattle.cargo_toml.specs.Error.{Memory};
-    ghost use Rattle.cargo_toml_tools.specs.declared.files.indexing.Fault.TheVariants as fault;
-
     ghost from_gives = { λ _ e. e ≡ fault.Manifest Memory };
 
     fn from(fault: AllocError) -> Fault {
@@ -59,11 +50,7 @@ impl From<AllocError> for Fault {
 
 /// The words of the fault inside.
 impl fmt::Display for Fault {
-    ghost use Rattle.cargo_toml_tools.specs.IndexedFiles.{WritesOwnWords};
-
-    fn fmt<W: fmt::Write>(&self, f: &mut fmt::Formatter<W>) -> fmt::Result
-        ensures words { WritesOwnWords W.write_str_gives f.old result self.now f.new }
-    {
+    fn fmt<W: fmt::Write>(&self, f: &mut fmt::Formatter<W>) -> fmt::Result {
         match self {
             Fault::Manifest(fault) => fault.fmt(f),
             Fault::Index(fault) => fault.fmt(f),
@@ -81,8 +68,9 @@ pub struct Indexed {
 }
 
 /// The line that an index has of the crate in this text of a file, which is completed first: an
-/// object of JSON, with the checksum of `NAME-VERSION.crate` among these where one is there.
-/// Refused where the text doesn't read or complete as a manifest, or has what no index takes.
+/// object of JSON. Its checksum is the one that is asked for, or else that of `NAME-VERSION.crate`
+/// among these. Refused where the text doesn't read or complete as a manifest, or has what no index
+/// takes.
 pub fn index_of<R: Files + RandomSource + AllocGlobal>(
     rt: &R,
     file: &str,
@@ -91,15 +79,15 @@ pub fn index_of<R: Files + RandomSource + AllocGlobal>(
     sums: &BTreeMap<&str, &str>,
 ) -> Result<Indexed, Fault>
     ensures printed { IfOk result (λ indexed. IsLineOf file.now text.now
-        (wanted_of options.entry) (string_bytes indexed.line)) }
+        (wanted_of options.entry) (sum_at sums.now) (string_bytes indexed.line)) }
     ensures named { OnOk result (IsSome (path_parent file.now)) }
     ensures refused { IfErr result (IsIndexFault file.now text.now (wanted_of options.entry)) }
 {
     let alloc = rt.alloc();
     let held = completed_of(rt, file, text)?;
     let manifest = &*held.manifest;
-    let (name, archive) = archive_of(alloc, manifest)?;
-    let checksum = sums.get(archive.as_str()).copied().or(options.checksum);
+    let found = sum_of(alloc, manifest, sums)?;
+    let checksum = options.checksum.or(found);
     let findings = findings_of(rt, manifest)?;
     let options = Options {
         checksum,
@@ -108,20 +96,29 @@ pub fn index_of<R: Files + RandomSource + AllocGlobal>(
     let entry = index_entry(alloc, manifest, text, findings.as_slice(), options)?;
     let mut line = entry.to_string(alloc)?;
     line.push_str("\n")?;
+    let name = match &manifest.package {
+        Some(package) => package.name.clone()?,
+        None => String::new(alloc),
+    };
     Ok(Indexed { name, line })
 }
 
-/// The name of a crate, and that of its archive. Both are empty where there is no package.
-fn archive_of(alloc: Global, manifest: &Manifest) -> Result<(String, String), AllocError> {
+/// The sum that these have of a crate's archive.
+fn sum_of<'s>(
+    alloc: Global,
+    manifest: &Manifest,
+    sums: &BTreeMap<&str, &'s str>,
+) -> Result<Option<&'s str>, AllocError>
+    ensures { IfOk result (λ sum. option_copied sum
+        ≡ sum_of (sum_at sums.now) (held manifest.now)) }
+{
     let Some(package) = &manifest.package else {
-        return Ok((String::new(alloc), String::new(alloc)));
+        return Ok(None);
     };
-    let name = package.name.clone()?;
-    match &package.version {
-        Inheritable::Set(version) => {
-            let archive = format!(in alloc; "{name}-{version}.crate")?;
-            Ok((name, archive))
-        }
-        Inheritable::Inherited => Ok((name, String::new(alloc))),
-    }
+    let Inheritable::Set(version) = &package.version else {
+        return Ok(None);
+    };
+    let name = package.name.as_str();
+    let archive = format!(in alloc; "{name}-{version}.crate")?;
+    Ok(sums.get(archive.as_str()).copied())
 }

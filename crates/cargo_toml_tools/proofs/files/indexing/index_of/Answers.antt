@@ -1,11 +1,13 @@
-use Rattle.std.proofs.Common.{rules, string_bytes, subst, sym}
-use Rattle.std.proofs.lemmas.Result.{err_from_is_err_and}
-use Rattle.std.specs.Option.{option_copied}
+use Rattle.std.proofs.Common.{◌≡◌, ◌∙◌, Bor, None, Option, Some, ap, refl, rules, string_bytes, subst}
+use Rattle.std.{proofs.lemmas.Result.err_from_is_err_and, specs.Option.option_copied, specs.Option.option_or}
 use Rattle.serde_json.specs.View.{view}
 use Rattle.cargo_toml.specs.Manifests.{held}
-use Rattle.cargo_toml_tools.specs.FromFiles.{IsCompletedIn}
-use Rattle.cargo_toml_tools.specs.Linted.{AreFindingsOf}
+use Rattle.cargo_toml_tools.specs.{IndexEntries.index_data, Sections.wanted_of}
 use Rattle.cargo_toml_tools.proofs.files.indexing.index_of.Goals as goal
+
+or_copied : {A : Type 0} (o p : Option (Bor A)) → option_copied (option_or o p) ≡ option_or (option_copied o) (option_copied p)
+or_copied None p = refl
+or_copied (Some x) p = refl
 
 pub returns-in_err-held-clause-refused : goal.returns-in_err-held-clause-refused
 returns-in_err-held-clause-refused g c = search (rules, err_from_is_err_and)
@@ -20,8 +22,8 @@ returns-in_err-entry-clause-refused g c =
       manifest = c.deref-manifest.result.now;
       findings = c.as_slice.result.now;
       looked_at = record {
-        completed = subst (IsCompletedIn c.args.file.now c.args.text.now) (sym c.deref-manifest.ensures) c.in_ok-held.ensures.completed;
-        found = subst (AreFindingsOf (held c.deref-manifest.result.now)) (sym c.as_slice.ensures.value) c.in_ok-findings.ensures.found;
+        completed = rw c.deref-manifest.ensures c.in_ok-held.ensures.completed;
+        found = rw c.as_slice.ensures.value c.in_ok-findings.ensures.found;
       };
       told_so = c.in_err-entry.ensures.refused;
     })
@@ -31,13 +33,15 @@ returns-clause-printed g c = record {
   manifest = c.deref-manifest.result.now;
   findings = c.as_slice.result.now;
   looked_at = record {
-    completed = subst (IsCompletedIn c.args.file.now c.args.text.now) (sym c.deref-manifest.ensures) c.in_ok-held.ensures.completed;
-    found = subst (AreFindingsOf (held c.deref-manifest.result.now)) (sym c.as_slice.ensures.value) c.in_ok-findings.ensures.found;
+    completed = rw c.deref-manifest.ensures c.in_ok-held.ensures.completed;
+    found = rw c.as_slice.ensures.value c.in_ok-findings.ensures.found;
   };
   taken = c.in_ok-entry.ensures.taken;
-  sum = option_copied c.or-checksum.result;
   line = view c.in_ok-entry.entry;
-  is = c.in_ok-entry.ensures.entry;
+  is =
+      subst (λ s. Some (view c.in_ok-entry.entry) ≡ index_data (record (wanted_of c.args.options) { checksum = s }) c.args.text.now (held c.deref-manifest.result.now))
+      (ap option_copied c.or-checksum.ensures ∙ or_copied _ _ ∙ ap (option_or (option_copied c.args.options.checksum)) c.in_ok-found.ensures)
+      c.in_ok-entry.ensures.entry;
   spelled = string_bytes c.in_ok-line.line;
   exact = c.in_ok-line.ensures.order;
   ended = c.in_ok-push_str.ensures.bytes;

@@ -1,7 +1,7 @@
 -- A manifest, once what its workspace gives is put in.
 use Rattle.std.specs.Prelude.{Option, Some, None, option_map}
 use Rattle.cargo_toml_package.specs.Replacing.{replaced_target, replaced_targets}
-use Rattle.cargo_toml_package.specs.Installing.{put_field, installed_package}
+use Rattle.cargo_toml_package.specs.Inheriting.{put_field, installed_package}
 use Rattle.cargo_toml_package.specs.Packages.{PackageMeaning}
 use Rattle.cargo_toml_package.specs.declared.inheriting.NewFields.{NewFields}
 use Rattle.cargo_toml_parts.specs.Reads.{map_meaning}

@@ -5,8 +5,7 @@ use Rattle.cargo_toml_parts.specs.Answers.{Gives}
 use Rattle.cargo_toml_parts.specs.declared.error.Error.{Error, fold-roll-Error}
 use Rattle.cargo_toml_parts.specs.declared.error.Error.TheVariants.{WorkspaceIntegrity, rolls-WorkspaceIntegrity}
 use Rattle.cargo_toml_parts.specs.FaultValues.{Fault, fault_of, fault_step, workspace_integrity}
-use Rattle.cargo_toml_package.specs.Inheriting.{any_field_left, checked_package}
-use Rattle.cargo_toml_package.specs.Installing.{installed_package}
+use Rattle.cargo_toml_package.specs.Inheriting.{any_field_left, checked_package, installed_package}
 use Rattle.cargo_toml_package.specs.Packages.{PackageMeaning}
 use Rattle.cargo_toml_package.specs.declared.inheriting.NewFields.{NewFields}
 

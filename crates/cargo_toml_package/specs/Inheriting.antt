@@ -1,17 +1,20 @@
 -- What a package becomes whose fields are left to the workspace, and when none is left.
-use Rattle.std.specs.Prelude.{ℕ, List, [], ◌∷◌, ◌++◌, codes, Bool, false, not, IsTrue, IsSome}
-use Rattle.std.specs.Prelude.{if◌then◌else◌, Option, Some, option_map, Result, Ok, Err}
+use Rattle.std.specs.Prelude.{◌≡◌, ℕ, List, [], ◌∷◌, ◌++◌, map, codes, Bool, false, not}
+use Rattle.std.specs.Prelude.{IsTrue, IsSome, if◌then◌else◌, Option, Some, None, option_map}
+use Rattle.std.specs.Prelude.{Result, Ok, Err, string_bytes}
 use Rattle.std.specs.List.{list_any}
 use Rattle.std.specs.Option.{option_map_or}
 use Rattle.std.specs.Path.{path_join}
+use Rattle.semver.specs.Identifiers.{parts_of}
 use Rattle.cargo_toml_parts.specs.FaultValues.{Fault, workspace_integrity}
 use Rattle.cargo_toml_parts.specs.declared.inheritable.Inheritable.{Inheritable}
 use Rattle.cargo_toml_parts.specs.declared.inheritable.Inheritable.TheVariants.{Set, Inherited}
 use Rattle.cargo_toml_parts.specs.InheritableValues.{is_set, value_of}
-use Rattle.cargo_toml_parts.specs.Settings.{File, flag, path}
+use Rattle.cargo_toml_parts.specs.Settings.{File, flag, path, file_meaning, publish_meaning}
 use Rattle.cargo_toml_package.specs.PackageAnswers.{is_known}
 use Rattle.cargo_toml_package.specs.Packages.{PackageMeaning}
 use Rattle.cargo_toml_package.specs.Templates.{TemplateMeaning}
+use Rattle.cargo_toml_package.specs.declared.inheriting.NewFields.{NewFields}
 use Rattle.cargo_toml_package.specs.declared.package.Package.{Package}
 
 -- an inherited field takes the workspace's value, where there is one
@@ -116,3 +119,39 @@ checked_package p = if any_field_left p then Err (missing_fields p.name) else Ok
 abbrev pub inherited_package : {M : Type 0} → Option TemplateMeaning → List ℕ → PackageMeaning M
     → Result (PackageMeaning M) Fault
 inherited_package template base p = checked_package (with_template_if_there base template p)
+
+-- from here on the code's own steps, in contracts of inner functions alone: none has to be believed
+
+-- a field, with a new value in its place if there is one
+abbrev pub put_field : {A : Type 0} → Inheritable A → Option A → Inheritable A
+put_field field None = field
+put_field field (Some x) = Set x
+
+abbrev pub put_if_there : {A : Type 0} → Option (Inheritable A) → Option A → Option (Inheritable A)
+put_if_there field None = field
+put_if_there field (Some x) = option_map (λ f. Set x) field
+
+-- a package with these values in its fields
+abbrev pub installed_package : {M : Type 0} → PackageMeaning M → NewFields → PackageMeaning M
+installed_package p n = record p {
+  version = put_field p.version (option_map parts_of n.version);
+  edition = put_field p.edition (option_map (λ x. x) n.edition);
+  rust_version = put_if_there p.rust_version (option_map string_bytes n.rust_version);
+  authors = put_field p.authors (option_map (λ v. map string_bytes v.items) n.authors);
+  description = put_if_there p.description (option_map string_bytes n.description);
+  homepage = put_if_there p.homepage (option_map string_bytes n.homepage);
+  documentation = put_if_there p.documentation (option_map string_bytes n.documentation);
+  readme = put_field p.readme (option_map file_meaning n.readme);
+  keywords = put_field p.keywords (option_map (λ v. map string_bytes v.items) n.keywords);
+  categories = put_field p.categories (option_map (λ v. map string_bytes v.items) n.categories);
+  exclude = put_field p.exclude (option_map (λ v. map string_bytes v.items) n.exclude);
+  include = put_field p.include (option_map (λ v. map string_bytes v.items) n.include);
+  license = put_if_there p.license (option_map string_bytes n.license);
+  license_file = put_if_there p.license_file (option_map string_bytes n.license_file);
+  repository = put_if_there p.repository (option_map string_bytes n.repository);
+  publish = put_field p.publish (option_map publish_meaning n.publish);
+}
+
+-- from whether memory was refused before to whether it was after: where it was not, this is a fact
+abbrev pub Fills : Bool → Bool → Type 0 → Type 0
+Fills before after fact = after ≡ false → (before ≡ false) × fact

@@ -1,28 +1,217 @@
-//! What a package takes from its workspace: first made, then put in, so that a
-//! refusal changes nothing.
-ghost use Rattle.std.specs.Prelude.{◌≡◌, IfOk, false, option_map};
+//! What a workspace gives to its packages: the template of their fields, and what a package takes
+//! of it, first made, then put in, so that a refusal changes nothing.
+ghost use Rattle.std.specs.Prelude.{◌≡◌, IfOk, Some, None, false, option_map};
 ghost use Rattle.std.specs.Option.{option_copied};
+ghost use Rattle.toml.specs.Data.{no_members};
+ghost use Rattle.toml.specs.View.{table_view};
 ghost use Rattle.cargo_toml_parts.specs.Answers.{Gives};
+ghost use Rattle.cargo_toml_parts.specs.Faults.{IsShape, wrong_shape};
 ghost use Rattle.cargo_toml_parts.specs.Inherits.{inheritable_map};
-ghost use Rattle.cargo_toml_package.specs.Inheriting.{IsFilled};
-ghost use Rattle.cargo_toml_package.specs.Inheriting.{any_field_left, checked_package};
+ghost use Rattle.cargo_toml_parts.specs.Reads.{IsReading};
+ghost use Rattle.cargo_toml_package.specs.Inheriting.{IsFilled, any_field_left, checked_package};
 ghost use Rattle.cargo_toml_package.specs.Inheriting.{inherited_package, field_is_left};
-ghost use Rattle.cargo_toml_package.specs.Inheriting.{is_left_there};
+ghost use Rattle.cargo_toml_package.specs.Inheriting.{is_left_there, installed_package};
+ghost use Rattle.cargo_toml_package.specs.Inheriting.{put_field, put_if_there};
 ghost use Rattle.cargo_toml_package.specs.Inheriting.{with_template, with_template_if_there};
-ghost use Rattle.cargo_toml_package.specs.Installing.{installed_package, put_field};
-ghost use Rattle.cargo_toml_package.specs.Installing.{put_if_there};
 ghost use Rattle.cargo_toml_package.specs.Packages.{held_package};
-ghost use Rattle.cargo_toml_package.specs.Templates.{template_meaning};
+ghost use Rattle.cargo_toml_package.specs.Templates.{TemplateMeaning, template_meaning};
+ghost use Rattle.cargo_toml_package.specs.Templates.{template_of, template_reads};
 
 mod filling;
 
 use crate::package::Package;
-use crate::template::PackageTemplate;
-use cargo_toml_parts::read::Read;
+use cargo_toml_parts::copying::Copying;
+use cargo_toml_parts::read::{Read, into_table};
+use cargo_toml_parts::reading::{Reading, ended};
 use cargo_toml_parts::{Edition, Error, Inheritable, OptionalFile, Publish};
 use filling::Filling;
 use semver::Version;
 use std::alloc::{AllocError, Global};
+use toml::{Table, Value};
+
+/// The table `[workspace.package]`: the values of the package fields that members leave
+/// to their workspace.
+///
+/// Paths in it are relative to the workspace. Where a field's name has `_`, its key has `-`. A key
+/// that is missing gives `None`, unless another value is named at the field; keys that are not
+/// listed here are ignored.
+#[derive(Debug, PartialEq, Eq, Drop)]
+pub struct PackageTemplate {
+    /// Who wrote the packages.
+    pub authors: Option<Vec<String>>,
+
+    /// The registry's categories that the packages belong to.
+    pub categories: Option<Vec<String>>,
+
+    /// What the packages are for, in a few words.
+    pub description: Option<String>,
+
+    /// The address of the documentation.
+    pub documentation: Option<String>,
+
+    /// The edition of the language.
+    pub edition: Option<Edition>,
+
+    /// Patterns of files that are left out of what is published.
+    pub exclude: Option<Vec<String>>,
+
+    /// The address of the project's page.
+    pub homepage: Option<String>,
+
+    /// Patterns of the only files that are published.
+    pub include: Option<Vec<String>>,
+
+    /// Words to find the packages by.
+    pub keywords: Option<Vec<String>>,
+
+    /// The licence, as an expression of names.
+    pub license: Option<String>,
+
+    /// The path of a file that holds the licence.
+    pub license_file: Option<String>,
+
+    /// Where the packages may be published. Missing: `Flag(true)`, everywhere.
+    pub publish: Publish,
+
+    /// The readme file. Missing: `Flag(true)`, one of the usual name if there is any.
+    pub readme: OptionalFile,
+
+    /// The address of the source's repository.
+    pub repository: Option<String>,
+
+    /// The oldest compiler that the packages promise to build with, as a text that
+    /// need not be a version.
+    pub rust_version: Option<String>,
+
+    /// The version, by the rules of semantic versioning.
+    pub version: Option<Version>,
+}
+
+impl Clone for PackageTemplate {
+    ghost is_clone = { λ p copy.
+        ⟦<Option<Vec<String>> as Clone>⟧.is_clone p.authors copy.authors
+        × ⟦<Option<Vec<String>> as Clone>⟧.is_clone p.categories copy.categories
+        × ⟦<Option<String> as Clone>⟧.is_clone p.description copy.description
+        × ⟦<Option<String> as Clone>⟧.is_clone p.documentation copy.documentation
+        × ⟦<Option<Edition> as Clone>⟧.is_clone p.edition copy.edition
+        × ⟦<Option<Vec<String>> as Clone>⟧.is_clone p.exclude copy.exclude
+        × ⟦<Option<String> as Clone>⟧.is_clone p.homepage copy.homepage
+        × ⟦<Option<Vec<String>> as Clone>⟧.is_clone p.include copy.include
+        × ⟦<Option<Vec<String>> as Clone>⟧.is_clone p.keywords copy.keywords
+        × ⟦<Option<String> as Clone>⟧.is_clone p.license copy.license
+        × ⟦<Option<String> as Clone>⟧.is_clone p.license_file copy.license_file
+        × ⟦<Publish as Clone>⟧.is_clone p.publish copy.publish
+        × ⟦<OptionalFile as Clone>⟧.is_clone p.readme copy.readme
+        × ⟦<Option<String> as Clone>⟧.is_clone p.repository copy.repository
+        × ⟦<Option<String> as Clone>⟧.is_clone p.rust_version copy.rust_version
+        × ⟦<Option<Version> as Clone>⟧.is_clone p.version copy.version };
+
+    ghost is_infallible = { λ p.
+        ⟦<Option<Vec<String>> as Clone>⟧.is_infallible p.authors
+        × ⟦<Option<Vec<String>> as Clone>⟧.is_infallible p.categories
+        × ⟦<Option<String> as Clone>⟧.is_infallible p.description
+        × ⟦<Option<String> as Clone>⟧.is_infallible p.documentation
+        × ⟦<Option<Edition> as Clone>⟧.is_infallible p.edition
+        × ⟦<Option<Vec<String>> as Clone>⟧.is_infallible p.exclude
+        × ⟦<Option<String> as Clone>⟧.is_infallible p.homepage
+        × ⟦<Option<Vec<String>> as Clone>⟧.is_infallible p.include
+        × ⟦<Option<Vec<String>> as Clone>⟧.is_infallible p.keywords
+        × ⟦<Option<String> as Clone>⟧.is_infallible p.license
+        × ⟦<Option<String> as Clone>⟧.is_infallible p.license_file
+        × ⟦<Publish as Clone>⟧.is_infallible p.publish
+        × ⟦<OptionalFile as Clone>⟧.is_infallible p.readme
+        × ⟦<Option<String> as Clone>⟧.is_infallible p.repository
+        × ⟦<Option<String> as Clone>⟧.is_infallible p.rust_version
+        × ⟦<Option<Version> as Clone>⟧.is_infallible p.version };
+
+    fn clone(&self) -> Result<PackageTemplate, AllocError> {
+        let mut copying = Copying::new();
+        let copy = PackageTemplate {
+            authors: copying.of(&self.authors, None),
+            categories: copying.of(&self.categories, None),
+            description: copying.of(&self.description, None),
+            documentation: copying.of(&self.documentation, None),
+            edition: copying.of(&self.edition, None),
+            exclude: copying.of(&self.exclude, None),
+            homepage: copying.of(&self.homepage, None),
+            include: copying.of(&self.include, None),
+            keywords: copying.of(&self.keywords, None),
+            license: copying.of(&self.license, None),
+            license_file: copying.of(&self.license_file, None),
+            publish: copying.of(&self.publish, Publish::Flag(true)),
+            readme: copying.of(&self.readme, OptionalFile::Flag(true)),
+            repository: copying.of(&self.repository, None),
+            rust_version: copying.of(&self.rust_version, None),
+            version: copying.of(&self.version, None),
+        };
+        copying.finish(copy)
+    }
+}
+
+/// The template of an empty table: `publish` and `readme` are `Flag(true)`, and the rest is `None`.
+impl Default for PackageTemplate {
+    ghost is_default = { λ template. template_of no_members ≡ Some (template_meaning template) };
+
+    fn default() -> PackageTemplate {
+        PackageTemplate {
+            authors: None,
+            categories: None,
+            description: None,
+            documentation: None,
+            edition: None,
+            exclude: None,
+            homepage: None,
+            include: None,
+            keywords: None,
+            license: None,
+            license_file: None,
+            publish: Publish::Flag(true),
+            readme: OptionalFile::Flag(true),
+            repository: None,
+            rust_version: None,
+            version: None,
+        }
+    }
+}
+
+fn read_table(alloc: Global, table: Table) -> Result<PackageTemplate, Error>
+    ensures { IsReading template_meaning (template_of (table_view table)) (IsShape wrong_shape)
+        result }
+{
+    let mut rest = table;
+    let mut reading = Reading::new(alloc);
+    let mut whole = PackageTemplate::default();
+    reading.take_optional(&mut rest, "authors", &mut whole.authors);
+    reading.take_optional(&mut rest, "categories", &mut whole.categories);
+    reading.take_optional(&mut rest, "description", &mut whole.description);
+    reading.take_optional(&mut rest, "documentation", &mut whole.documentation);
+    reading.take_optional(&mut rest, "edition", &mut whole.edition);
+    reading.take_optional(&mut rest, "exclude", &mut whole.exclude);
+    reading.take_optional(&mut rest, "homepage", &mut whole.homepage);
+    reading.take_optional(&mut rest, "include", &mut whole.include);
+    reading.take_optional(&mut rest, "keywords", &mut whole.keywords);
+    reading.take_optional(&mut rest, "license", &mut whole.license);
+    reading.take_optional(&mut rest, "license-file", &mut whole.license_file);
+    reading.take(&mut rest, "publish", &mut whole.publish);
+    reading.take(&mut rest, "readme", &mut whole.readme);
+    reading.take_optional(&mut rest, "repository", &mut whole.repository);
+    reading.take_optional(&mut rest, "rust-version", &mut whole.rust_version);
+    reading.take_optional(&mut rest, "version", &mut whole.version);
+    ended(reading.fault, whole)
+}
+
+impl Read for PackageTemplate {
+    ghost Meaning = { TemplateMeaning };
+
+    ghost meaning = { template_meaning };
+
+    ghost reads = { template_reads };
+
+    #[tactic(auto, unfolding(crate::specs::Templates::template_reads))]
+    fn read_owned(alloc: Global, value: Value) -> Result<PackageTemplate, Error> {
+        read_table(alloc, into_table(value)?)
+    }
+}
 
 /// The values that a package takes from its workspace: `None` where it keeps its own, or
 /// has no such field. By default a package takes none.

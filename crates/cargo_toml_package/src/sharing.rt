@@ -5,7 +5,7 @@ ghost use Rattle.std.specs.Option.{option_copied};
 ghost use Rattle.cargo_toml_parts.specs.Answers.{Gives};
 ghost use Rattle.cargo_toml_parts.specs.Inherits.{inheritable_map};
 ghost use Rattle.cargo_toml_parts.specs.Reads.{map_meaning};
-ghost use Rattle.cargo_toml_package.specs.Installing.{put_field};
+ghost use Rattle.cargo_toml_package.specs.Inheriting.{put_field};
 ghost use Rattle.cargo_toml_parts.specs.Lints.{lint_meaning};
 ghost use Rattle.cargo_toml_package.specs.Sharing.{inherited_lints};
 

@@ -5,7 +5,7 @@ ghost use Rattle.cargo_toml_parts.specs.Copies.{Finishes};
 ghost use Rattle.cargo_toml_parts.specs.Inherits.{inheritable_map};
 ghost use Rattle.cargo_toml_parts.specs.Settings.{file_meaning};
 ghost use Rattle.cargo_toml_package.specs.Inheriting.{based, filled_field, filled_if_there};
-ghost use Rattle.cargo_toml_package.specs.Installing.{put_field, put_if_there, Fills};
+ghost use Rattle.cargo_toml_package.specs.Inheriting.{put_field, put_if_there, Fills};
 
 use cargo_toml_parts::duplicate::Duplicate;
 use cargo_toml_parts::paths::join;

@@ -1,5 +1,5 @@
 use Rattle.std.proofs.Common.{sym, ◌∙◌, inr}
-use Rattle.cargo_toml_package.specs.Installing.{installed_package}
+use Rattle.cargo_toml_package.specs.Inheriting.{installed_package}
 use Rattle.cargo_toml_package.specs.Packages.{package_meaning}
 use Rattle.cargo_toml_package.proofs.Integrity.{refused}
 use Rattle.cargo_toml_package.proofs.inheriting.check_none_stays.Goals as goal

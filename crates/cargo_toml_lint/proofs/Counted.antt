@@ -1,16 +1,11 @@
 -- Findings of single codes, for the features of which something holds.
 use Rattle.std.proofs.Common.{◌≡◌, ◌⊎◌, ◌↔◌, ◌<◌, ◌+◌, ℕ, Bool, true, false, List, [], ◌++◌, Bor, IsTrue, arith, refl, sym, ap, subst, inl, inr}
-use Rattle.std.proofs.lemmas.Bool.{cases_eq, false≢true}
-use Rattle.std.specs.HashMap.{HashMap}
-use Rattle.cargo_toml.specs.Action.{Text}
-use Rattle.cargo_toml.specs.Feature.{Feature}
-use Rattle.cargo_toml.specs.Graph.{Table}
-use Rattle.cargo_toml.specs.Reach.{Among}
+use Rattle.cargo_toml_lint.specs.declared.finding.Code.TheVariants.{Implied, PrivateDefault, Cycle, Unreachable}
+use Rattle.std.{proofs.lemmas.Bool.cases_eq, proofs.lemmas.Bool.false≢true, specs.HashMap.HashMap}
+use Rattle.cargo_toml.specs.{Action.Text, Feature.Feature, Graph.Table, Reach.Among}
 use Rattle.cargo_toml_lint.specs.Findings.{About, IsFound, told, when}
 use Rattle.cargo_toml_lint.specs.Steps.{CountsBy, Finds}
-use Rattle.cargo_toml_lint.specs.declared.finding.Code.{Code}
-use Rattle.cargo_toml_lint.specs.declared.finding.Code.TheVariants.{Implied, PrivateDefault, Cycle, Unreachable}
-use Rattle.cargo_toml_lint.specs.declared.finding.Finding.{Finding}
+use Rattle.cargo_toml_lint.specs.{declared.finding.Code.Code, declared.finding.Finding.Finding}
 use Rattle.cargo_toml_graph.proofs.BinLists.{among-either, among-first, among-second}
 
 -- what is found after something was added

@@ -1,16 +1,13 @@
 -- What the lists of features turn on, as rows of places.
 use Rattle.std.proofs.Common.{◌≡◌, ◌↔◌, ◌||◌, cond, ◌&&◌, ◌<◌, ℕ, Bool, true, false, List, length, map, Option, is_some, not, option_map, Bor, String, Vec, Global, IsTrue, bytes_eq, string_bytes, refl, sym, ap, subst, ◌∙◌, [], ◌∷◌, arith}
-use Rattle.std.proofs.Math.Bool.{and-true}
-use Rattle.std.proofs.lemmas.Bool.{and_from, and_parts, false≢true}
-use Rattle.std.proofs.lemmas.Grind.{common_steps}
-use Rattle.std.proofs.lemmas.List.{length-map}
-use Rattle.std.proofs.lemmas.Map.Text.{is_eq-slice_cmp}
-use Rattle.std.proofs.lemmas.Slice.Eq.{bytes_eq-Decides}
 use Rattle.std.specs.{BTreeMap.BTreeMap, BTreeMap.get_by_text, BTreeMap.is_at, Cmp.Lexicographic.slice_cmp, Map.lookup, Ordering.nat_cmp}
 use Rattle.cargo_toml.specs.{Action.Text, Action.Item.Name, Action.Item.On, Action.item_of, Ascending.Ascend, Reach.Among, Views.listed_in}
+use Rattle.std.proofs.lemmas.Bool.{and_from, and_parts, false≢true}
+use Rattle.std.proofs.{Math.Bool.and-true, lemmas.Grind.common_steps, lemmas.List.length-map}
+use Rattle.std.proofs.{lemmas.Map.Text.is_eq-slice_cmp, lemmas.Slice.Eq.bytes_eq-Decides}
 use Rattle.cargo_toml_features.proofs.ByPlace.{among_at, once}
-use Rattle.cargo_toml_features.specs.{ActionText.action_in, ActionText.item_in, Places.nth_text}
-use Rattle.cargo_toml_features.specs.declared.action.ActionText.{ActionText}
+use Rattle.cargo_toml_features.specs.ActionText.{action_in, item_in}
+use Rattle.cargo_toml_features.specs.{Places.nth_text, declared.action.ActionText.ActionText}
 use Rattle.cargo_toml_lint.specs.{Linked.Passes, Reached.Leads, Turning.turns_to}
 
 pub length_now : (names : List (Bor Text)) → length (map (λ t. t.now) names) ≡ length names

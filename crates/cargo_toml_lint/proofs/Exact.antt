@@ -1,28 +1,20 @@
 -- What is found in an answer for a manifest is what holds of the manifest.
 use Rattle.std.proofs.Common.{arith, ◌≡◌, ◌⊎◌, ◌↔◌, ◌||◌, ◌++◌, [], not, Bool, true, false, ℕ, Some, is_some, IsTrue, length, nat_lt, List, sym, ap, subst, ◌∙◌}
 use Rattle.std.proofs.lemmas.Bool.{false≢true, and_parts, not-true, not_from_false, false_from_ne_true, or_cases, or_left, or_right}
+use Rattle.cargo_toml_lint.specs.Findings.{Counts, HoldsOf, IsCyclic, IsOnlyDefault, IsUnreachable, findings_by, is_hidden, is_private, written_findings}
+use Rattle.cargo_toml_lint.specs.declared.finding.Code.TheVariants.{Cycle, Implied, PrivateDefault, Unreachable}
 use Rattle.std.specs.Option.{option_map_or}
-use Rattle.cargo_toml.specs.Action.{Text}
-use Rattle.cargo_toml.specs.Admitted.{Listed, admitted, is_explicit}
-use Rattle.cargo_toml.specs.Details.{plain_detail}
-use Rattle.cargo_toml.specs.Feature.{Feature}
-use Rattle.cargo_toml.specs.Graph.{Table}
-use Rattle.cargo_toml.specs.Manifests.{ManifestMeaning}
-use Rattle.cargo_toml.specs.Marks.{marked, marks_in, marks_of}
-use Rattle.cargo_toml.specs.Parsed.{IsParsed, parsed_entries, parsed_table}
-use Rattle.cargo_toml.specs.Reach.{Among}
-use Rattle.cargo_toml.specs.Recorded.{Entry, is_implied}
-use Rattle.cargo_toml.specs.Removal.{is_removed}
-use Rattle.cargo_toml.specs.Views.{answer_of, table_in, value_at}
+use Rattle.cargo_toml.specs.{Action.Text, Admitted.Listed, Admitted.admitted, Admitted.is_explicit}
+use Rattle.cargo_toml.specs.{Details.plain_detail, Feature.Feature, Graph.Table, Marks.marked}
+use Rattle.cargo_toml.specs.{Manifests.ManifestMeaning, Marks.marks_in, Marks.marks_of, Reach.Among}
+use Rattle.cargo_toml.specs.{Parsed.IsParsed, Parsed.parsed_entries, Parsed.parsed_table}
+use Rattle.cargo_toml.specs.{Recorded.Entry, Recorded.is_implied, Removal.is_removed}
+use Rattle.cargo_toml.specs.{Views.answer_of, Views.table_in, Views.value_at}
 use Rattle.cargo_toml_features.proofs.NoneRemoved.{held, there}
 use Rattle.cargo_toml_features.specs.declared.features.Features.{Features}
-use Rattle.cargo_toml_lint.specs.Findings.{Counts, HoldsOf, IsCyclic, IsOnlyDefault, IsUnreachable, findings_by, is_hidden, is_private, written_findings}
-use Rattle.cargo_toml_lint.specs.Known.{all_names}
-use Rattle.cargo_toml_lint.specs.Names.{listed_by, held_names}
 use Rattle.cargo_toml_lint.specs.Steps.{CountsBy, explicit_at, implied_at, private_at, written_in}
-use Rattle.cargo_toml_lint.specs.Turning.{turning, turning_by}
-use Rattle.cargo_toml_lint.specs.declared.finding.Code.{Code}
-use Rattle.cargo_toml_lint.specs.declared.finding.Code.TheVariants.{Cycle, Implied, PrivateDefault, Unreachable}
+use Rattle.cargo_toml_lint.specs.{Known.all_names, Names.listed_by, Names.held_names}
+use Rattle.cargo_toml_lint.specs.{Turning.turning, Turning.turning_by, declared.finding.Code.Code}
 use Rattle.cargo_toml_lint.specs.declared.known.Known.{Known}
 
 same_truth : (a b : Bool) → (IsTrue a ↔ IsTrue b) → a ≡ b

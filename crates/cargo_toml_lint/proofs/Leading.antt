@@ -1,21 +1,16 @@
 -- Where places lead is where names turn.
-use Rattle.std.proofs.Common.{◌≡◌, ◌≢◌, ◌↔◌, ◌<◌, ℕ, Bool, false, None, Bor, List, IsTrue, [], ◌∷◌, bytes_eq, codes, get_or, length, map, zero, suc, arith, ap, refl, sym, subst, inl, inr, ◌∙◌}
+use Rattle.std.proofs.Common.{◌≡◌, ◌≢◌, ◌↔◌, ◌<◌, ℕ, Bool, true, false, not, None, Bor, List, IsTrue, [], ◌∷◌, bytes_eq, codes, get_or, length, map, zero, suc, arith, ap, refl, sym, subst, inl, inr, ◌∙◌}
 use Rattle.std.proofs.lemmas.Bool.{cases_Bool, false≢true, not-true, not_from_false}
 use Rattle.std.proofs.lemmas.Slice.Eq.{bytes_eq-Decides}
-use Rattle.cargo_toml.specs.Action.{Text}
-use Rattle.cargo_toml.specs.Graph.{Table, Edge}
-use Rattle.cargo_toml.specs.Recursive.{Enables}
-use Rattle.cargo_toml.specs.Recursive.Enables.{itself, further}
+use Rattle.cargo_toml.specs.{Action.Text, Graph.Table, Graph.Edge, Recursive.Enables}
+use Rattle.cargo_toml.specs.{Recursive.Enables.itself, Recursive.Enables.further}
 use Rattle.cargo_toml_features.proofs.ByPlace.{among_at, at_among, once}
-use Rattle.cargo_toml_features.proofs.NoneRemoved.{enables_has}
-use Rattle.cargo_toml_features.specs.Places.{nth_text}
+use Rattle.cargo_toml_features.{proofs.NoneRemoved.enables_has, specs.Places.nth_text}
 use Rattle.cargo_toml_lint.specs.Findings.{IsCyclic, IsOnlyDefault, IsUnreachable, is_hidden}
 use Rattle.cargo_toml_lint.specs.Linked.{AreLinks, AreWalks, name_at, names_of}
 use Rattle.cargo_toml_lint.specs.Reached.{IsFlagged, IsInRing, Leads, Path}
-use Rattle.cargo_toml_lint.specs.declared.linking.Links.{Links}
-use Rattle.cargo_toml_lint.specs.declared.walks.Walks.{Walks}
-use Rattle.cargo_toml_lint.proofs.Edges.{length_now}
-use Rattle.cargo_toml_lint.proofs.Searching.{along, path_edge}
+use Rattle.cargo_toml_lint.specs.{declared.linking.Links.Links, declared.walks.Walks.Walks}
+use Rattle.cargo_toml_lint.proofs.{Edges.length_now, Searching.along, Searching.path_edge}
 
 -- the text that is read in a place
 pub text_at : (names : List (Bor Text)) (i : ℕ) (t : Bor Text) → i < length names → t ≡ get_or names i t → t.now ≡ nth_text (map (λ t. t.now) names) i
@@ -85,35 +80,30 @@ module _ (t : Table) (l : Links) (are : AreLinks t l) where
     edge_at : (k : ℕ) → k < n → ((p ≢ k) × Leads l.reach.next.items k p) ↔ Edge t (name_at l k) own
     edge_at k lk = grind (arith, known_at, same_place)
 
-    of_default : IsFlagged w.by_default.items p ↔ Edge t (codes "default") own
-    of_default = (
-      λ h.
-          let r = (walks.by_default.are p).0 h in
-          subst (λ f. Edge t f own) ((bytes_eq-Decides (name_at l r.0) (codes "default")).0 r.2) ((edge_at r.0 r.1).0 r.3),
-      λ e.
-          let q = place (codes "default") e.source in
-          (walks.by_default.are p).1 (q.0, q.1, (bytes_eq-Decides (name_at l q.0) (codes "default")).1 q.2, (edge_at q.0 q.1).1 (subst (λ f. Edge t f own) (sym q.2) e)),
-    )
-
-    of_others : IsFlagged w.by_others.items p ↔ ((e : Text) × Edge t e own × (bytes_eq e (codes "default") ≡ false))
-    of_others = (
-      λ h. let r = (walks.by_others.are p).0 h in (name_at l r.0, (edge_at r.0 r.1).0 r.3, not-true _ r.2),
+    -- the sources by one step of which the test holds
+    of_led : (test : Text → Bool) (flags : List Bool) → ((b : ℕ) → IsFlagged flags b ↔ ((a : ℕ) × (a < n) × IsTrue (test (name_at l a)) × ((b ≢ a) × Leads l.reach.next.items a b)))
+        → IsFlagged flags p ↔ ((e : Text) × Edge t e own × IsTrue (test e))
+    of_led test flags led = (
+      λ h. let r = (led p).0 h in (name_at l r.0, (edge_at r.0 r.1).0 r.3, r.2),
       λ e.
           let q = place e.0 e.1.source in
-          (walks.by_others.are p).1 (q.0, q.1, not_from_false _ (ap (λ f. bytes_eq f (codes "default")) q.2 ∙ e.2), (edge_at q.0 q.1).1 (subst (λ f. Edge t f own) (sym q.2) e.1)),
+          (led p).1 (q.0, q.1, ap test q.2 ∙ e.2, (edge_at q.0 q.1).1 (subst (λ f. Edge t f own) (sym q.2) e.1)),
     )
 
     pub only_default_at : (IsFlagged w.by_default.items p × ¬ IsFlagged w.by_others.items p) ↔ IsOnlyDefault t own
-    only_default_at = (
-      λ h. record {
-        default_does = of_default.0 h.0;
-        no_other = λ e d. elim (cases_Bool (bytes_eq e (codes "default"))) [
-          | inl is ↦ (bytes_eq-Decides e (codes "default")).0 is
-          | inr isnt ↦ absurd (h.1 (of_others.1 (e, d, isnt)))
-        ];
-      },
-      λ o. (
-        of_default.1 o.default_does,
-        λ f. let r = of_others.0 f in false≢true (sym r.2 ∙ (bytes_eq-Decides r.0 (codes "default")).1 (o.no_other r.0 r.1)),
-      ),
-    )
+    only_default_at =
+        let is : (e : Text) → (bytes_eq e (codes "default") ≡ true) ↔ (e ≡ codes "default") = λ e. bytes_eq-Decides e (codes "default") in
+        let by_default = of_led (λ e. bytes_eq e (codes "default")) w.by_default.items walks.by_default.are in
+        let by_others = of_led (λ e. not (bytes_eq e (codes "default"))) w.by_others.items walks.by_others.are in (
+          λ h. record {
+            default_does = let r = by_default.0 h.0 in subst (λ f. Edge t f own) ((is r.0).0 r.2) r.1;
+            no_other = λ e d. elim (cases_Bool (bytes_eq e (codes "default"))) [
+              | inl same ↦ (is e).0 same
+              | inr isnt ↦ absurd (h.1 (by_others.1 (e, d, not_from_false _ isnt)))
+            ];
+          },
+          λ o. (
+            by_default.1 (codes "default", o.default_does, (is (codes "default")).1 refl),
+            λ f. let r = by_others.0 f in false≢true (sym (not-true _ r.2) ∙ (is r.0).1 (o.no_other r.0 r.1)),
+          ),
+        )

@@ -1,12 +1,9 @@
 -- The names in the places that pass, as a loop over places puts them into a set.
 use Rattle.std.proofs.Common.{◌≡◌, ◌↔◌, ◌||◌, ◌<◌, ◌+◌, ℕ, List, [], Bor, IsTrue, bytes_eq, arith}
 use Rattle.std.proofs.lemmas.Bool.{cases_eq, false≢true, or_cases, or_left, or_right}
-use Rattle.std.proofs.lemmas.Slice.Eq.{bytes_eq-Decides}
-use Rattle.std.specs.BTreeSet.{BTreeSet}
-use Rattle.cargo_toml.specs.Action.{Text}
-use Rattle.cargo_toml.specs.Views.{set_has}
-use Rattle.cargo_toml_features.proofs.TextKeys.{none_in}
-use Rattle.cargo_toml_features.specs.Places.{nth_text}
+use Rattle.std.{proofs.lemmas.Slice.Eq.bytes_eq-Decides, specs.BTreeSet.BTreeSet}
+use Rattle.cargo_toml.specs.{Action.Text, Views.set_has}
+use Rattle.cargo_toml_features.{proofs.TextKeys.none_in, specs.Places.nth_text}
 
 module _ (names : List Text) (P : ℕ → Type 0) where
   -- the set has the names in the places before i that pass

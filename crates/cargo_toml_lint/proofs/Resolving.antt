@@ -1,11 +1,8 @@
 -- A resolver with a filter and a limit of a caller's own.
 use Rattle.std.proofs.Common.{◌≡◌, ℕ, Bool, Option, Some, Bor, subst, sym}
 use Rattle.std.specs.Fn.{FnReturnsAt}
-use Rattle.cargo_toml.specs.Action.{Text}
-use Rattle.cargo_toml.specs.Filter.{Asked, FilterTells}
-use Rattle.cargo_toml.specs.Manifests.{ManifestMeaning}
-use Rattle.cargo_toml.specs.Parsed.{IsParsed}
-use Rattle.cargo_toml.specs.Resolved.{Answer}
+use Rattle.cargo_toml.specs.{Action.Text, Filter.Asked, Filter.FilterTells, Parsed.IsParsed}
+use Rattle.cargo_toml.specs.{Manifests.ManifestMeaning, Resolved.Answer}
 
 -- what a filter that was handed in keeps
 pub tells_of : {F : Type 0} (g : Asked F) (o : Option (Bor F)) (f : Bor F) (keep : Text → Bool) →

@@ -1,15 +1,13 @@
 -- A search, one vertex after another.
 use Rattle.std.proofs.Common.{◌≡◌, ◌≢◌, ◌⊎◌, ◌↔◌, ◌<◌, ℕ, Bool, true, false, Vec, List, [], ◌∷◌, ◌++◌, ◌==◌, length, get_or, set, refl, sym, subst, inl, inr, ◌∙◌, arith, length-set}
-use Rattle.std.proofs.lemmas.Bool.{cases_eq}
-use Rattle.std.proofs.lemmas.Bool.Decides.{Decides-eqb}
+use Rattle.cargo_toml_lint.specs.Reached.{IsFlagged, IsInRing, IsWhole, Leads, Path, Searches, Stands, row_at}
+use Rattle.std.proofs.{lemmas.Bool.cases_eq, lemmas.Bool.Decides.Decides-eqb}
 use Rattle.cargo_toml.specs.Reach.{Among, Gathers, Reaches}
 use Rattle.cargo_toml.specs.Reach.Reaches.{edge, through}
 use Rattle.cargo_toml_features.proofs.ByPlace.{among_at}
 use Rattle.cargo_toml_graph.proofs.Closure.{chained}
-use Rattle.cargo_toml_lint.specs.Reached.{IsFlagged, IsInRing, IsWhole, Leads, Path, Searches, Stands, row_at}
-use Rattle.cargo_toml_lint.specs.declared.reach.Reach.{Reach}
 use Rattle.cargo_toml_graph.proofs.BinLists.{among-either, among-first, among-second}
-use Rattle.cargo_toml_lint.proofs.Rows.{flag_set}
+use Rattle.cargo_toml_lint.{specs.declared.reach.Reach.Reach, proofs.Rows.flag_set}
 
 abbrev All : ℕ → Type 0
 All v = Unit {0}

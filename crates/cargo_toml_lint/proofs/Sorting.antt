@@ -1,25 +1,19 @@
 -- Findings in their order, each once.
 use Rattle.std.proofs.Common.{◌≡◌, ◌↔◌, ◌<◌, ℕ, zero, suc, Bool, true, List, [], ◌∷◌, length, get_or, map, Ordering, refl, sym, ap, subst, inl, inr, ◌∙◌, arith}
-use Rattle.std.proofs.lemmas.Bool.{and_parts}
-use Rattle.std.proofs.lemmas.Cmp.{eq_by_cmp_equiv}
-use Rattle.std.proofs.lemmas.List.Filters.{dedup_is}
 use Rattle.std.proofs.lemmas.List.Kept.{Any-dedup, Contains-from_dedup, IsStrictlySortedBy-dedup}
 use Rattle.std.proofs.lemmas.List.Sorted.{IsPermutation-sym, Contains-permutation}
-use Rattle.std.proofs.lemmas.Slice.Eq.{bytes_eq-Decides}
-use Rattle.std.specs.Cmp.{IsEquivalence}
-use Rattle.std.specs.List.{Contains, dedup}
-use Rattle.std.specs.List.Retain.{IsFiltered, DiffersFromLast}
+use Rattle.std.proofs.{lemmas.Bool.and_parts, lemmas.Cmp.eq_by_cmp_equiv}
+use Rattle.std.proofs.{lemmas.List.Filters.dedup_is, lemmas.Slice.Eq.bytes_eq-Decides}
 use Rattle.std.specs.List.Sorted.{IsPermutation, IsSorted, IsStrictlySortedBy}
-use Rattle.std.specs.Ordering.{is_eq}
-use Rattle.cargo_toml.specs.Action.{Text}
-use Rattle.cargo_toml.specs.Reach.{Among}
+use Rattle.std.specs.{Cmp.IsEquivalence, List.Contains, List.dedup, List.Retain.IsFiltered}
+use Rattle.std.specs.{List.Retain.DiffersFromLast, Ordering.is_eq}
+use Rattle.cargo_toml.specs.{Action.Text, Reach.Among}
 use Rattle.cargo_toml_lint.specs.Findings.{About, IsFound, about}
-use Rattle.cargo_toml_lint.specs.contracts.finding.Code.{the_type}
-use Rattle.cargo_toml_lint.specs.contracts.finding.FindingOrd.TheImpl as finding_order
-use Rattle.cargo_toml_lint.specs.contracts.finding.FindingOrd.TheImpl.Laws as laws
-use Rattle.cargo_toml_lint.specs.declared.finding.Code.{Code}
+use Rattle.cargo_toml_lint.specs.{contracts.finding.Code.the_type, declared.finding.Code.Code}
 use Rattle.cargo_toml_lint.specs.declared.finding.Finding.{Finding}
 use denote.Enum.Bare.{same_true}
+use Rattle.cargo_toml_lint.specs.contracts.finding.FindingOrd.TheImpl as finding_order
+use Rattle.cargo_toml_lint.specs.contracts.finding.FindingOrd.TheImpl.Laws as laws
 
 -- what is found is what some finding is about
 found_where : (xs : List Finding) (y : About)

@@ -1,12 +1,8 @@
 -- The names that are gathered of a manifest: words of steps, on which no public contract rests.
 use Rattle.std.specs.Prelude.{◌≡◌, ◌++◌, Bool, List, map, string_bytes}
-use Rattle.cargo_toml.specs.Action.{Text}
-use Rattle.cargo_toml.specs.Admitted.{Listed}
-use Rattle.cargo_toml.specs.Reads.{map_meaning}
-use Rattle.cargo_toml.specs.Views.{set_has}
+use Rattle.cargo_toml.specs.{Action.Text, Admitted.Listed, Reads.map_meaning, Views.set_has}
 use Rattle.cargo_toml_lint.specs.Known.{Marked, Names, is_name}
-use Rattle.cargo_toml_lint.specs.declared.known.Key.{Key}
-use Rattle.cargo_toml_lint.specs.declared.known.Known.{Known}
+use Rattle.cargo_toml_lint.specs.{declared.known.Key.Key, declared.known.Known.Known}
 
 -- a key, and whether it is marked
 abbrev pub key_of : Key → Text × Bool

@@ -4,9 +4,8 @@ use Rattle.std.specs.{Borrow.Bor, HashMap.HashMap, Option.option_map_or}
 use Rattle.cargo_toml.specs.{Action.Text, Feature.Feature, Graph.Table, Manifests.ManifestMeaning}
 use Rattle.cargo_toml.specs.Views.{value_at}
 use Rattle.cargo_toml_lint.specs.Findings.{About, CountsWith, about, findings_by}
-use Rattle.cargo_toml_lint.specs.{Names.held_names, Names.listed_by}
-use Rattle.cargo_toml_lint.specs.declared.finding.{Code.Code, Finding.Finding}
-use Rattle.cargo_toml_lint.specs.declared.known.Known.{Known}
+use Rattle.cargo_toml_lint.specs.{Names.held_names, Names.listed_by, declared.finding.Code.Code}
+use Rattle.cargo_toml_lint.specs.{declared.finding.Finding.Finding, declared.known.Known.Known}
 
 -- these findings are added at the end
 abbrev pub Finds : List About → List Finding → List Finding → Type 0

@@ -1,12 +1,10 @@
 //! What is wrong with one text, or with one feature.
 ghost use Rattle.std.specs.Prelude.{◌≡◌, not, map, string_bytes};
 ghost use Rattle.cargo_toml.specs.Action.{item_of};
-ghost use Rattle.cargo_toml_lint.specs.Findings.{has_same_name, is_missing};
-ghost use Rattle.cargo_toml_lint.specs.Findings.{action_fault, name_fault, required_fault};
-ghost use Rattle.cargo_toml_lint.specs.Findings.{text_fault, when};
-ghost use Rattle.cargo_toml_lint.specs.Names.{held_names};
+ghost use Rattle.cargo_toml_lint.specs.Findings.{has_same_name, is_missing, action_fault};
+ghost use Rattle.cargo_toml_lint.specs.Findings.{name_fault, required_fault, text_fault, when};
 ghost use Rattle.cargo_toml_lint.specs.Steps.{explicit_at, is_beyond};
-ghost use Rattle.cargo_toml_lint.specs.Taken.{is_feature_name};
+ghost use Rattle.cargo_toml_lint.specs.{Names.held_names, Taken.is_feature_name};
 ghost use Rattle.cargo_toml_lint.specs.declared.finding.Code.TheVariants.{BadRequest};
 
 use crate::finding::Code;

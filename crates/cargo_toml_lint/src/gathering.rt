@@ -1,12 +1,10 @@
 //! What is found of features as they are written, and of targets that require some.
 ghost use Rattle.std.specs.Prelude.{◌≡◌, [], Some, OnOk, map, string_bytes, unwrap_or};
 ghost use Rattle.std.specs.List.{flat_map};
-ghost use Rattle.cargo_toml.specs.Details.{detail_of};
-ghost use Rattle.cargo_toml.specs.Manifests.{held};
-ghost use Rattle.cargo_toml.specs.Products.{product_meaning};
+ghost use Rattle.cargo_toml.specs.{Details.detail_of, Manifests.held, Products.product_meaning};
 ghost use Rattle.cargo_toml.specs.Reads.{map_meaning};
-ghost use Rattle.cargo_toml_lint.specs.Findings.{feature_findings};
-ghost use Rattle.cargo_toml_lint.specs.Findings.{product_findings, products_findings, told, when};
+ghost use Rattle.cargo_toml_lint.specs.Findings.{feature_findings, product_findings};
+ghost use Rattle.cargo_toml_lint.specs.Findings.{products_findings, told, when};
 ghost use Rattle.cargo_toml_lint.specs.Names.{held_names, listed_by};
 ghost use Rattle.cargo_toml_lint.specs.Steps.{Finds, is_beyond};
 ghost use Rattle.cargo_toml_lint.specs.declared.finding.Code.TheVariants.{FeatureTable};

@@ -1,7 +1,6 @@
 //! What is found of single features.
 ghost use Rattle.std.specs.Prelude.{◌≡◌};
-ghost use Rattle.cargo_toml_lint.specs.Findings.{is_hidden};
-ghost use Rattle.cargo_toml_lint.specs.Steps.{implied_at, private_at};
+ghost use Rattle.cargo_toml_lint.specs.{Findings.is_hidden, Steps.implied_at, Steps.private_at};
 
 use cargo_toml::features::Feature;
 use std::collections::HashMap;

@@ -1,8 +1,7 @@
 //! Which names and texts Cargo takes.
 ghost use Rattle.std.specs.Prelude.{◌≡◌, IfSome, codes, is_some, nat_eq, slice_get};
 ghost use Rattle.std.specs.List.{after_first, before_first, ends_with, list_all, list_any};
-ghost use Rattle.std.specs.List.{starts_with};
-ghost use Rattle.std.specs.Str.{chars};
+ghost use Rattle.std.specs.{List.starts_with, Str.chars};
 ghost use Rattle.cargo_toml.specs.Action.{is_slash};
 ghost use Rattle.cargo_toml_lint.specs.Taken.{is_bad_text, is_feature_name, is_never_required};
 ghost use Rattle.cargo_toml_lint.specs.Taken.{may_follow, may_start};

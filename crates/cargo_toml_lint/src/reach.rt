@@ -16,13 +16,16 @@ pub struct Reach {
     rows: Vec<Vec<bool>>,
 }
 
-// Sets a flag.
-fn set_flag(flags: &mut Vec<bool>, x: usize)
+// Sets the flag of a vertex, unless it is the one's own.
+fn set_other(flags: &mut Vec<bool>, own: usize, x: usize)
     requires { x < length flags.old.items }
     ensures len { length flags.new.items ≡ length flags.old.items }
-    ensures put { (y : ℕ) → IsFlagged flags.new.items y ↔ (IsFlagged flags.old.items y ⊎ (y ≡ x)) }
+    ensures put { (y : ℕ) → IsFlagged flags.new.items y
+        ↔ (IsFlagged flags.old.items y ⊎ ((y ≢ own) × (y ≡ x))) }
 {
-    flags[x] = true;
+    if x != own {
+        flags[x] = true;
+    }
 }
 
 // Sets the flags that stand in the other list too.
@@ -245,9 +248,7 @@ impl Reach {
     {
         let targets = self.targets(a);
         for x in targets {
-            if *x != a {
-                set_flag(flags, *x);
-            }
+            set_other(flags, a, *x);
         }
     }
 }

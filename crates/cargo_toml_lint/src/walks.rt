@@ -1,13 +1,10 @@
 //! What is found of features that turn on one another.
 ghost use Rattle.std.specs.Prelude.{◌≡◌, ◌<◌, ◌↔◌, ◌||◌, ◌⊎◌, ℕ, [], None, IfOk, IsTrue, OnOk};
 ghost use Rattle.std.specs.Prelude.{length};
-ghost use Rattle.cargo_toml.specs.Action.{Text};
-ghost use Rattle.cargo_toml.specs.Graph.{Table};
-ghost use Rattle.cargo_toml_lint.specs.Findings.{IsFound, is_hidden};
-ghost use Rattle.cargo_toml_lint.specs.Linked.{AreFound, AreLed, AreLinks, AreWalks, Goes};
-ghost use Rattle.cargo_toml_lint.specs.Linked.{is_of, name_at};
-ghost use Rattle.cargo_toml_lint.specs.Reached.{IsFlagged};
-ghost use Rattle.cargo_toml_lint.specs.Steps.{CountsBy, private_at};
+ghost use Rattle.cargo_toml.specs.{Action.Text, Graph.Table};
+ghost use Rattle.cargo_toml_lint.specs.Linked.{AreFound, AreLed, AreLinks, AreWalks, Goes, is_of};
+ghost use Rattle.cargo_toml_lint.specs.{Findings.IsFound, Findings.is_hidden, Linked.name_at};
+ghost use Rattle.cargo_toml_lint.specs.{Reached.IsFlagged, Steps.CountsBy, Steps.private_at};
 ghost use Rattle.cargo_toml_lint.specs.declared.finding.Code.{Code};
 
 use crate::finding::{Code, Finding};

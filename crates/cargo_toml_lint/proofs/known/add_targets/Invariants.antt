@@ -1,8 +1,6 @@
-use Rattle.std.proofs.Common.{◌≡◌, ◌++◌, map}
-use Rattle.std.specs.List.{flat_map}
 use Rattle.cargo_toml.specs.{Action.Text, Reads.map_meaning, Targets.TargetMeaning, Targets.target_meaning}
-use Rattle.cargo_toml_lint.specs.{Known.target_keys, Names.key_of}
-use Rattle.cargo_toml_lint.proofs.Adding.{target_of}
+use Rattle.std.{proofs.Common.◌≡◌, proofs.Common.◌++◌, proofs.Common.map, specs.List.flat_map}
+use Rattle.cargo_toml_lint.{specs.Known.target_keys, specs.Names.key_of, proofs.Adding.target_of}
 use Rattle.cargo_toml_lint.proofs.known.add_targets.Given as goal
 
 abbrev pub invariant-loop-target : goal.invariant-loop-target

@@ -1,8 +1,6 @@
 use Rattle.std.proofs.Common.{◌↔◌, ◌<◌, ℕ, IsTrue, ap, length, map, subst, sym, ◌∙◌}
 use Rattle.cargo_toml_features.specs.Places.{nth_text}
-use Rattle.cargo_toml_lint.specs.Names.{held_names, listed_by}
-use Rattle.cargo_toml_lint.specs.Reached.{Leads}
-use Rattle.cargo_toml_lint.specs.Turning.{turned}
+use Rattle.cargo_toml_lint.specs.{Names.held_names, Names.listed_by, Reached.Leads, Turning.turned}
 use Rattle.cargo_toml_lint.proofs.linking.links_of.Goals as goal
 
 pub returns : goal.returns

@@ -1,6 +1,5 @@
 use Rattle.std.proofs.Common.{◌≡◌, arith, length}
-use Rattle.cargo_toml_lint.proofs.Counted.{all_places, more_places}
-use Rattle.cargo_toml_lint.proofs.Leading.{has_place}
+use Rattle.cargo_toml_lint.proofs.{Counted.all_places, Counted.more_places, Leading.has_place}
 use Rattle.cargo_toml_lint.proofs.linting.add_counting.Goals as goal
 
 pub loop-place-preserved : goal.loop-place-preserved

@@ -1,10 +1,7 @@
 use Rattle.std.proofs.Common.{◌≡◌, ◌<◌, ◌↔◌, ◌⊎◌, [], ℕ, None}
-use Rattle.cargo_toml.specs.Action.{Text}
-use Rattle.cargo_toml.specs.Graph.{Table}
-use Rattle.cargo_toml_lint.specs.Findings.{IsFound}
+use Rattle.cargo_toml.specs.{Action.Text, Graph.Table}
 use Rattle.cargo_toml_lint.specs.Linked.{AreLinks, name_at}
-use Rattle.cargo_toml_lint.specs.Steps.{CountsBy}
-use Rattle.cargo_toml_lint.specs.declared.finding.Code.{Code}
+use Rattle.cargo_toml_lint.specs.{Findings.IsFound, Steps.CountsBy, declared.finding.Code.Code}
 use Rattle.cargo_toml_lint.proofs.linting.add_counting.Given as goal
 
 abbrev pub invariant-loop-place : goal.invariant-loop-place

@@ -1,8 +1,5 @@
-use Rattle.std.proofs.Common.{Bool, true, ◌∙◌}
-use Rattle.std.proofs.lemmas.Result.{IfOk-weaker}
-use Rattle.cargo_toml.specs.Action.{Text}
-use Rattle.cargo_toml.specs.Manifests.{manifest_meaning}
-use Rattle.cargo_toml.specs.Parsed.{IsParsed}
+use Rattle.std.proofs.{Common.Bool, Common.true, Common.◌∙◌, lemmas.Result.IfOk-weaker}
+use Rattle.cargo_toml.specs.{Action.Text, Manifests.manifest_meaning, Parsed.IsParsed}
 use Rattle.cargo_toml.specs.Views.{answer_of}
 use Rattle.cargo_toml_lint.proofs.Resolving.{parsed_at, tells_of}
 use Rattle.cargo_toml_lint.proofs.linting.resolve_whole.Goals as goal

@@ -1,7 +1,6 @@
-use Rattle.std.proofs.Common.{◌≡◌, ◌++◌, map}
-use Rattle.std.specs.List.{flat_map}
 use Rattle.cargo_toml.specs.{Action.Text, Reads.map_meaning, Targets.TargetMeaning, Targets.target_meaning}
-use Rattle.cargo_toml_lint.specs.{Findings.about, Findings.target_findings}
+use Rattle.std.{proofs.Common.◌≡◌, proofs.Common.◌++◌, proofs.Common.map, specs.List.flat_map}
+use Rattle.cargo_toml_lint.specs.Findings.{about, target_findings}
 use Rattle.cargo_toml_lint.proofs.Adding.{target_of}
 use Rattle.cargo_toml_lint.proofs.tables.add_targets.Given as goal
 

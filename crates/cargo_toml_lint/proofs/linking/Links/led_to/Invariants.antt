@@ -1,6 +1,4 @@
-use Rattle.cargo_toml_lint.specs.Linked.{names_of}
-use Rattle.cargo_toml_lint.specs.Reached.{Path}
-use Rattle.cargo_toml_lint.proofs.Placed.{SoFar}
+use Rattle.cargo_toml_lint.{specs.Linked.names_of, specs.Reached.Path, proofs.Placed.SoFar}
 use Rattle.cargo_toml_lint.proofs.linking.Links.led_to.Given as goal
 
 abbrev pub invariant-loop-other : goal.invariant-loop-other

@@ -1,8 +1,5 @@
 -- Texts that are joined, by what each of them is.
-use Rattle.std.proofs.Common.{◌≡◌, ◌++◌, List, [], ◌∷◌, ap, map, refl, sym}
-use Rattle.std.proofs.lemmas.List.Folds.{flat_map-map}
-use Rattle.std.specs.List.{flat_map, join_by}
-use Rattle.cargo_toml.specs.Action.{Text}
+use Rattle.cargo_toml_audit.proofs.Paths.{[], ◌++◌, ◌∷◌, ◌≡◌, List, Text, ap, flat_map-map, join_by, map, refl, sym}
 
 pub join_mapped : {X : Type 0} (f : X → Text) (between : Text) (xs : List X) → join_by f between xs ≡ join_by (λ t. t) between (map f xs)
 join_mapped f between [] = refl

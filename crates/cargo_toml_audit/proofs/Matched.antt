@@ -4,10 +4,14 @@ use Rattle.std.proofs.Math.Bool.{and_comm, or_comm}
 use Rattle.std.proofs.lemmas.Bool.{false≢true}
 use Rattle.std.proofs.lemmas.List.{append-nil, take_all}
 use borrow.Author.Tests.{ne_eqb}
-use Rattle.cargo_toml_audit.specs.Patterns.{Part, accepts, after_any, after_one, begins, is_among, is_empty, is_range, matches}
-use Rattle.cargo_toml_audit.specs.Rows.{next, row, scan, shift}
+use Rattle.cargo_toml_audit.specs.Patterns.{Part, accepts, after_any, after_one, begins, is_among, is_empty, is_range, matches, next, scan, shift}
 use Rattle.cargo_toml_tools.proofs.Grown.{left_next}
 use mathlib.Core.List.{reverse_aux}
+
+-- a test at the end that was taken, and at those with each further character, as a pattern is matched from its end on
+abbrev pub row : (List ℕ → Bool) → List ℕ → List ℕ → List Bool
+row test end [] = test end ∷ []
+row test end (c ∷ cs) = test end ∷ row test (c ∷ end) cs
 
 shifted : (w : Part) (test : List ℕ → Bool) (end cs : List ℕ) → after_one w test end ∷ shift w (row test end cs) cs ≡ row (after_one w test) end cs
 shifted w test end [] = refl
@@ -41,17 +45,11 @@ last_of test end (c ∷ cs) d = last_of test (c ∷ end) cs d
 pub last_row : (test : List ℕ → Bool) (cs : List ℕ) (d : Bool) → get_or (row test [] cs) (length cs) d ≡ test (reverse cs)
 last_row test cs d = last_of test [] cs d
 
-pub drop_here : (xs : List Bool) (i : ℕ) → i < length xs → drop i xs ≡ get_or xs i false ∷ drop (i + 1) xs
-drop_here xs i h = rw (add-one, drop-cons xs i false)
-
 -- what is still to be scanned, or shifted, stands behind what was
 pub scan_step : (items : List Bool) (some here : Bool) (left rest whole : List Bool) → left ≡ here ∷ rest → items ++ scan some left ≡ whole
     → (items ++ (some || here) ∷ []) ++ scan (some || here) rest ≡ whole
 scan_step items some here left rest whole is before =
     append_assoc items ((some || here) ∷ []) (scan (some || here) rest) ∙ ap (λ t. items ++ scan some t) (sym is) ∙ before
-
-pub scan_end : (items : List Bool) (some : Bool) (left whole : List Bool) → left ≡ [] → items ++ scan some left ≡ whole → items ≡ whole
-scan_end items some left whole none before = sym (append-nil items) ∙ ap (λ t. items ++ scan some t) (sym none) ∙ before
 
 pub shift_step : (w : Part) (items : List Bool) (here : Bool) (c : ℕ) (left rest : List Bool) (cs ds : List ℕ) (whole : List Bool) → left ≡ here ∷ rest → cs ≡ c ∷ ds
     → items ++ shift w left cs ≡ whole → (items ++ (here && accepts w c) ∷ []) ++ shift w rest ds ≡ whole

@@ -1,14 +1,5 @@
 -- Texts that stand in a list, with one more.
-use Rattle.std.proofs.Common.{◌≡◌, ◌+◌, ◌++◌, ◌||◌, ◌∙◌, ◌<◌, ℕ, Bool, true, false, List, [], ◌∷◌, ap, cond, drop, get_or, if◌then◌else◌, length, map, refl, sym, take}
-use Rattle.std.proofs.Math.Bool.{or-false}
-use Rattle.std.proofs.lemmas.List.{map-append, take_more}
-use Rattle.std.proofs.lemmas.List.Folds.{list_any-append}
-use Rattle.std.specs.Prelude.{bytes_eq}
-use Rattle.cargo_toml.specs.Action.{Text}
-use Rattle.cargo_toml_graph.proofs.Texts.{bytes_eq_sym}
-use Rattle.cargo_toml_tools.proofs.Grown.{left_next}
-use Rattle.cargo_toml_audit.specs.MemberFolders.{repeats_of}
-use Rattle.cargo_toml_audit.specs.Places.{is_in}
+use Rattle.cargo_toml_audit.proofs.Paths.{[], if◌then◌else◌, ℕ, ◌++◌, ◌+◌, ◌<◌, ◌||◌, ◌∙◌, ◌∷◌, ◌≡◌, Bool, List, Text, ap, bytes_eq, bytes_eq_sym, cond, drop, false, get_or, is_in, left_next, length, list_any-append, map, map-append, or-false, refl, repeats_of, sym, take, take_more, true}
 
 pub cond_or : (b c : Bool) → cond b true c ≡ (c || b)
 cond_or true true = refl

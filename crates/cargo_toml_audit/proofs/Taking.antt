@@ -1,11 +1,5 @@
 -- What a report takes of one place after the other.
-use Rattle.std.proofs.Common.{◌≡◌, ◌++◌, ◌∙◌, List, [], ◌∷◌, ap, append-nil, append_assoc, refl, subst, sym}
-use Rattle.std.specs.Prelude.{Vec}
-use Rattle.std.specs.declared.alloc.Global.{Global}
-use Rattle.cargo_toml_audit.specs.AuditedFiles.{Base, Reading, Takes, gain_of, gain_of_all}
-use Rattle.cargo_toml_audit.specs.Oddities.{Gain, Oddity, both, oddities_of, only_found}
-use Rattle.cargo_toml_audit.specs.declared.audit.Audit.{Audit}
-use Rattle.cargo_toml_audit.specs.declared.audit.Finding.{Finding}
+use Rattle.cargo_toml_audit.proofs.Reports.{[], ◌++◌, ◌∙◌, ◌∷◌, ◌≡◌, Audit, Base, Finding, Gain, Global, List, Oddity, Reading, Takes, Vec, ap, append-nil, append_assoc, both, gain_of, gain_of_all, oddities_of, only_found, refl, subst, sym}
 
 abbrev pub nothing : Gain
 nothing = only_found []

@@ -1,21 +1,5 @@
 -- What is told of each disk that answered so.
-use Rattle.std.proofs.Common.{◌≡◌, ◌≢◌, ◌-◌, ◌∙◌, ℕ, zero, suc, [], ◌∷◌, Bool, true, false, String, Global, ap, arith, map, refl, string_bytes, sym, Some, None, cond}
-use Rattle.std.proofs.lemmas.Map.Text.{btree_map_updates_text}
-use Rattle.std.proofs.lemmas.Option.{none-some}
-use Rattle.std.proofs.lemmas.Slice.Eq.{bytes_eq-Decides}
-use Rattle.std.specs.BTreeMap.{BTreeMap, UpdatesBy, get_by_text}
-use Rattle.std.specs.Cmp.Lexicographic.{slice_cmp}
-use Rattle.std.specs.List.{flat_map}
-use Rattle.std.specs.Option.{option_map_or}
-use Rattle.std.specs.Ordering.{nat_cmp}
-use Rattle.std.specs.Prelude.{bytes_eq, unwrap_or}
-use Rattle.std.specs.String.{string_cmp}
-use Rattle.cargo_toml.specs.Action.{Text}
-use Rattle.cargo_toml_audit.specs.MemberFolders.{Agrees, Disk, Tells, below, disk_of, subfolders}
-use Rattle.cargo_toml_audit.specs.declared.members.walk.Listing.{Listing}
-use Rattle.cargo_toml_audit.specs.declared.members.walk.Looks.{Looks}
-use Rattle.cargo_toml_audit.specs.declared.members.walk.There.{There}
-use Rattle.cargo_toml_audit.specs.declared.members.walk.There.TheVariants.{Nothing}
+use Rattle.cargo_toml_audit.proofs.Paths.{[], ℕ, ◌-◌, ◌∙◌, ◌∷◌, ◌≡◌, ◌≢◌, Agrees, BTreeMap, Bool, Disk, Global, Listing, Looks, None, Nothing, Some, String, Tells, Text, There, UpdatesBy, ap, arith, below, btree_map_updates_text, bytes_eq, bytes_eq-Decides, cond, disk_of, false, flat_map, get_by_text, map, nat_cmp, none-some, option_map_or, refl, slice_cmp, string_bytes, string_cmp, subfolders, suc, sym, true, unwrap_or, zero}
 
 -- ---- one more answer, of a path of which there was none
 module _ {X : Type 0} (bs : Text) (m n : BTreeMap (String Global) X) (w : X)

@@ -1,16 +1,5 @@
 -- The places that are looked at, while some are waiting.
-use Rattle.std.proofs.Common.{ℕ, ◌+◌, ◌-◌, None, Option, Some, String, Global, refl, take, ◌≡◌, ◌++◌, ◌||◌, ◌&&◌, ◌∙◌, Bool, true, false, List, [], ◌∷◌, ap, inl, inr, append-nil, cond, map, string_bytes, subst, sym}
-use Rattle.std.proofs.Math.Bool.{or-false}
-use Rattle.std.proofs.lemmas.List.{map-append}
-use Rattle.std.proofs.lemmas.List.Elements.{filter-append}
-use Rattle.std.specs.BTreeSet.{contains_text}
-use Rattle.std.specs.Prelude.{MatchOption, Vec, bytes_eq, filter, option_to_list}
-use Rattle.cargo_toml.specs.Action.{Text}
-use Rattle.cargo_toml_audit.specs.AuditedFiles.{Base, Reading, Reads, Takes, ended, gain_of_all, is_excluded, is_member, looked, member_places, passed, places_read}
-use Rattle.cargo_toml_audit.specs.Places.{is_in}
-use Rattle.cargo_toml_audit.specs.Walks.{Visits, Walks}
-use Rattle.cargo_toml_audit.specs.declared.audit.Audit.{Audit}
-use Rattle.cargo_toml_audit.specs.declared.auditing.walk.Walk.{Walk}
+use Rattle.cargo_toml_audit.proofs.Reports.{[], ℕ, ◌&&◌, ◌++◌, ◌+◌, ◌-◌, ◌||◌, ◌∙◌, ◌∷◌, ◌≡◌, Audit, Base, Bool, Global, List, MatchOption, None, Option, Reading, Reads, Some, String, Takes, Text, Vec, Visits, Walk, Walks, ap, append-nil, bytes_eq, cond, contains_text, ended, false, filter, filter-append, gain_of_all, inl, inr, is_excluded, is_in, is_member, looked, map, map-append, member_places, option_to_list, or-false, passed, places_read, refl, string_bytes, subst, sym, take, true}
 use Rattle.cargo_toml_audit.proofs.Sets.{one_more_in}
 use Rattle.cargo_toml_audit.proofs.Taking.{one_more_gain, takes_both, takes_nothing, takes_these}
 

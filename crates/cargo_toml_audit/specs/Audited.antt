@@ -1,18 +1,13 @@
 -- What is told of a member.
 use Rattle.std.specs.Prelude.{◌≡◌, ◌||◌, Bool, false, true, List, [], ◌∷◌, Option, Some, String}
 use Rattle.std.specs.Prelude.{codes, map, option_map, string_bytes}
-use Rattle.std.specs.List.{join_by}
-use Rattle.std.specs.Option.{option_map_or}
-use Rattle.std.specs.declared.alloc.Global.{Global}
+use Rattle.std.specs.{List.join_by, Option.option_map_or, declared.alloc.Global.Global}
 use Rattle.semver.specs.Identifiers.{parts_text}
-use Rattle.cargo_toml.specs.Action.{Text}
-use Rattle.cargo_toml.specs.Inheritable.{Inheritable}
-use Rattle.cargo_toml.specs.Inheritable.TheVariants.{Set}
-use Rattle.cargo_toml.specs.InheritableValues.{value_of}
 use Rattle.cargo_toml.specs.InheritedPackages.{field_is_left, is_left_there}
-use Rattle.cargo_toml.specs.Manifests.{ManifestMeaning}
-use Rattle.cargo_toml.specs.Packages.{PackageMeaning}
 use Rattle.cargo_toml.specs.Settings.{Registries, among, edition_text, everywhere}
+use Rattle.cargo_toml.specs.{Action.Text, Inheritable.Inheritable, Inheritable.TheVariants.Set}
+use Rattle.cargo_toml.specs.{InheritableValues.value_of, Manifests.ManifestMeaning}
+use Rattle.cargo_toml.specs.{Packages.PackageMeaning}
 use Rattle.cargo_toml_audit.specs.declared.audit.Member.{Member}
 
 -- the names of registries, with a comma between each two; none at all is `no`

@@ -1,35 +1,22 @@
 -- What `audit` answers, by what was read: the answers of the system, and a manifest at each place.
-use Rattle.std.specs.Prelude.{◌≡◌, ◌≢◌, ◌⊎◌, ◌↔◌, ◌++◌, ◌&&◌, ◌||◌, ◌==◌, Bool, true, false}
-use Rattle.std.specs.Prelude.{List, [], ◌∷◌, Option, Some, IsTrue, bytes_eq, codes, filter}
-use Rattle.std.specs.Prelude.{if◌then◌else◌, is_none, map, not, option_map, string_bytes}
-use Rattle.std.specs.BTreeMap.{btree_map_len, get_by_text}
-use Rattle.std.specs.IoError.{error_kind}
-use Rattle.std.specs.List.{flat_map, list_any}
-use Rattle.std.specs.Option.{option_map_or}
+use Rattle.std.specs.Prelude.{◌≡◌, ◌≢◌, ◌⊎◌, ◌++◌, ◌&&◌, ◌||◌, ◌==◌, Bool, true, false, List}
+use Rattle.std.specs.Prelude.{[], ◌∷◌, Option, Some, IsTrue, bytes_eq, codes, filter, if◌then◌else◌}
+use Rattle.std.specs.Prelude.{is_none, map, not, option_map, string_bytes}
+use Rattle.std.specs.{BTreeMap.btree_map_len, BTreeMap.get_by_text, IoError.error_kind}
+use Rattle.std.specs.{List.flat_map, List.list_any, Option.option_map_or}
 use Rattle.toml.specs.declared.value.Value.{Value}
-use Rattle.cargo_toml.specs.Action.{Text}
-use Rattle.cargo_toml.specs.Choosing.{MayFind}
-use Rattle.cargo_toml.specs.Completed.{IsCompleted}
 use Rattle.cargo_toml.specs.Dependencies.{DependencyMeaning, dependency_meaning, detailed}
 use Rattle.cargo_toml.specs.Dependencies.{inherited, simple}
 use Rattle.cargo_toml.specs.Error.{Error, Memory, out-Error}
-use Rattle.cargo_toml.specs.Faults.{IsOther}
-use Rattle.cargo_toml.specs.InheritedDependencies.{is_left}
-use Rattle.cargo_toml.specs.Manifest.{Manifest}
-use Rattle.cargo_toml.specs.Manifests.{held}
-use Rattle.cargo_toml.specs.Reach.{Among}
-use Rattle.cargo_toml.specs.Reads.{map_meaning}
-use Rattle.cargo_toml.specs.RealFiles.{IsCompletionFault, is_absent, real_folders}
-use Rattle.cargo_toml.specs.RealFiles.{real_roots}
-use Rattle.cargo_toml.specs.Sharing.{shared_of}
-use Rattle.cargo_toml.specs.Templates.{template_meaning}
-use Rattle.cargo_toml.specs.Workspace.{Workspace}
+use Rattle.cargo_toml.specs.RealFiles.{IsCompletionFault, is_absent, real_folders, real_roots}
+use Rattle.cargo_toml.specs.{Action.Text, Choosing.MayFind, Completed.IsCompleted, Faults.IsOther}
+use Rattle.cargo_toml.specs.{InheritedDependencies.is_left, Manifest.Manifest, Manifests.held}
+use Rattle.cargo_toml.specs.{Reads.map_meaning, Sharing.shared_of}
+use Rattle.cargo_toml.specs.{Templates.template_meaning, Workspace.Workspace}
 use Rattle.cargo_toml_parts.specs.declared.error.Error.TheOpen.{Error-F}
-use Rattle.cargo_toml_lint.specs.declared.finding.Finding.{Finding}
-use Rattle.cargo_toml_lint.specs.Findings.{code_level}
+use Rattle.cargo_toml_lint.specs.{declared.finding.Finding.Finding, Findings.code_level}
 use Rattle.cargo_toml_tools.specs.FromFiles.{IsManifestIn, IsUnreadable}
-use Rattle.cargo_toml_tools.specs.Indexed.{is_error}
-use Rattle.cargo_toml_tools.specs.Linted.{AreFindingsOf}
+use Rattle.cargo_toml_tools.specs.{Indexed.is_error, Linted.AreFindingsOf}
 use Rattle.cargo_toml_audit.specs.Audited.{IsMemberOf, is_untold}
 use Rattle.cargo_toml_audit.specs.Entries.{Listed, asked_in, asking_of, entries_of, inherited_in}
 use Rattle.cargo_toml_audit.specs.Entries.{left_keys}
@@ -39,15 +26,13 @@ use Rattle.cargo_toml_audit.specs.Oddities.{Gain, Oddity, both, differences, fou
 use Rattle.cargo_toml_audit.specs.Oddities.{found_in, has_no_target, oddities_of, only_found}
 use Rattle.cargo_toml_audit.specs.Oddities.{overall_oddities, refusals}
 use Rattle.cargo_toml_audit.specs.Places.{excludes, is_in, lies_in, manifest_path, place_of}
-use Rattle.cargo_toml_audit.specs.declared.audit.Audit.{Audit}
-use Rattle.cargo_toml_audit.specs.declared.audit.Code.{Code}
 use Rattle.cargo_toml_audit.specs.declared.audit.Code.TheVariants.{Absent, BadPattern}
 use Rattle.cargo_toml_audit.specs.declared.audit.Code.TheVariants.{DefaultMember, Incomplete}
 use Rattle.cargo_toml_audit.specs.declared.audit.Code.TheVariants.{ListedTwice, NoTarget, Unlisted}
 use Rattle.cargo_toml_audit.specs.declared.audit.Code.TheVariants.{Unseen}
-use Rattle.cargo_toml_audit.specs.declared.audit.Member.{Member}
-use Rattle.cargo_toml_audit.specs.declared.audit.root.Root.{Root}
-use Rattle.cargo_toml_audit.specs.declared.members.walk.Looks.{Looks}
+use Rattle.cargo_toml_audit.specs.{declared.audit.Audit.Audit, declared.audit.Code.Code}
+use Rattle.cargo_toml_audit.specs.{declared.audit.Member.Member, declared.audit.root.Root.Root}
+use Rattle.cargo_toml_audit.specs.{declared.members.walk.Looks.Looks}
 
 -- ---- a place
 
@@ -275,11 +260,8 @@ module _ (base : Base) where
 
   -- ---- the report
   module _ (disk : Disk) where
-    abbrev pub listed_by : List Text → List Text
-    listed_by entries = flat_map (places_if_right disk base.place) entries
-
     abbrev pub listed_places : List Text
-    listed_places = listed_by member_entries
+    listed_places = flat_map (places_if_right disk base.place) member_entries
 
     -- those that aren't excluded, and the root
     abbrev pub entered_places : List Text

@@ -7,6 +7,4 @@ pub mod MemberFolders
 pub mod Places
 pub mod Patterns
 -- the code's own steps, in contracts of inner functions alone: nothing here has to be believed
-pub mod AuditSteps
-pub mod Walks
-pub mod Rows
+pub mod Steps

@@ -1,29 +1,20 @@
 -- The folders that entries of `members` lead to, by what the system answers of paths.
-use Rattle.std.specs.Prelude.{◌≡◌, ◌++◌, ◌&&◌, ◌||◌, ◌==◌, ℕ, suc, zero, Bool, true, false}
-use Rattle.std.specs.Prelude.{List, []}
-use Rattle.std.specs.Prelude.{None, Option, Some}
-use Rattle.std.specs.Prelude.{◌∷◌, Err, Ok, Result, String, bytes_eq, codes, filter, if◌then◌else◌}
+use Rattle.std.specs.Prelude.{◌≡◌, ◌++◌, ◌&&◌, ◌||◌, ◌==◌, ℕ, suc, zero, Bool, true, false, List}
+use Rattle.std.specs.Prelude.{[], Some, ◌∷◌, Err, Ok, Result, String, codes, filter, if◌then◌else◌}
 use Rattle.std.specs.Prelude.{is_none, length, map, nat_eq, not, string_bytes, unwrap_or}
-use Rattle.std.specs.BTreeMap.{get_by_text}
-use Rattle.std.specs.Fs.{file_type}
-use Rattle.std.specs.IoError.{error_kind}
-use Rattle.std.specs.List.{flat_map, list_any}
-use Rattle.std.specs.Option.{option_map_or}
-use Rattle.std.specs.Str.{chars}
-use Rattle.std.specs.declared.alloc.Global.{Global}
-use Rattle.std.specs.declared.fs.attrs.Metadata.{Metadata}
+use Rattle.std.specs.{BTreeMap.get_by_text, Fs.file_type, IoError.error_kind, List.flat_map}
+use Rattle.std.specs.{List.list_any, Option.option_map_or, Path.path_join, Str.chars}
+use Rattle.std.specs.{declared.alloc.Global.Global, declared.fs.attrs.Metadata.Metadata}
 use Rattle.std.specs.declared.io.Error.{Error as IoError}
-use Rattle.cargo_toml.specs.Action.{Text}
-use Rattle.cargo_toml.specs.RealFiles.{is_absent}
-use Rattle.cargo_toml_audit.specs.Patterns.{Part, begins_with_dot, is_deep, is_pattern}
-use Rattle.cargo_toml_audit.specs.Patterns.{matches, parts_of}
-use Rattle.cargo_toml_audit.specs.Places.{is_in, is_rooted, normalized, path_below, pieces}
-use Rattle.cargo_toml_audit.specs.Places.{place_of}
-use Rattle.cargo_toml_audit.specs.declared.members.walk.Listing.{Listing}
-use Rattle.cargo_toml_audit.specs.declared.members.walk.Looks.{Looks}
-use Rattle.cargo_toml_audit.specs.declared.members.walk.There.{There}
+use Rattle.cargo_toml.specs.{Action.Text, RealFiles.is_absent}
+use Rattle.cargo_toml_audit.specs.Patterns.{Part, begins_with_dot, is_deep, is_pattern, matches}
+use Rattle.cargo_toml_audit.specs.Patterns.{parts_of}
+use Rattle.cargo_toml_audit.specs.Places.{is_in, is_rooted, normalized, pieces, place_of}
 use Rattle.cargo_toml_audit.specs.declared.members.walk.There.TheVariants.{Folder, Nothing, Other}
 use Rattle.cargo_toml_audit.specs.declared.members.walk.There.TheVariants.{Unseen}
+use Rattle.cargo_toml_audit.specs.{declared.members.walk.Listing.Listing}
+use Rattle.cargo_toml_audit.specs.{declared.members.walk.Looks.Looks}
+use Rattle.cargo_toml_audit.specs.{declared.members.walk.There.There}
 
 -- what lies at a path, by what the system answers of it
 abbrev pub by_found : Metadata → There
@@ -58,7 +49,7 @@ is_there wanted Unseen = not wanted
 -- the paths of what has such a name in a folder
 abbrev pub named_so : Text → List Part → List Text → List Text
 named_so folder pattern names =
-    map (path_below folder) (filter (λ name. matches pattern (chars name)) names)
+    map (path_join folder) (filter (λ name. matches pattern (chars name)) names)
 
 abbrev pub with_dots : Bool → List Text → List Text
 with_dots wanted names = names ++ (if wanted then codes "." ∷ codes ".." ∷ [] else [])
@@ -87,7 +78,7 @@ module _ (d : Disk) where
   abbrev pub subfolders : Text → List Text
   subfolders folder =
       if is_folder (d.there folder)
-      then flat_map (path_if true) (map (path_below folder) (d.names folder)) else []
+      then flat_map (path_if true) (map (path_join folder) (d.names folder)) else []
 
   -- a folder, and those below it, so many levels of them
   abbrev pub below : ℕ → Text → List Text
@@ -106,7 +97,7 @@ module _ (d : Disk) where
   -- what a name leads to in a folder: itself, where something is there, or what its pattern matches
   abbrev pub further_in : Bool → Text → Text → List Text
   further_in behind_deep name folder =
-      if is_plain behind_deep name then path_if false (path_below folder name)
+      if is_plain behind_deep name then path_if false (path_join folder name)
       else option_map_or (λ pattern. matched behind_deep pattern folder) (parts_of (chars name)) []
 
   -- right behind `**` from the folder and all below it
@@ -154,16 +145,13 @@ disk_of looks = record {
       option_map_or (λ l. map string_bytes l.names.items) (get_by_text looks.names path) [];
 }
 
--- each disk that agrees with the new answers agrees with the old ones, and gives this value
-abbrev pub Tells : {A : Type 0} → (Disk → A) → Looks → Looks → A → Type 0
-Tells of old new value = (d : Disk) → Agrees d new → Agrees d old × (value ≡ of d)
+-- each disk that agrees with the new answers agrees with the old ones, and this holds of it
+abbrev pub OnDisks : (Disk → Type 0) → Looks → Looks → Type 0
+OnDisks holds old new = (d : Disk) → Agrees d new → Agrees d old × holds d
 
--- or these texts, behind others
-abbrev pub Adds : (Disk → List Text) → Looks → Looks → List (String Global)
-    → List (String Global) → Type 0
-Adds found old new before after =
-    (d : Disk) → Agrees d new
-    → Agrees d old × (map string_bytes after ≡ map string_bytes before ++ found d)
+-- it gives this value
+abbrev pub Tells : {A : Type 0} → (Disk → A) → Looks → Looks → A → Type 0
+Tells of old new value = OnDisks (λ d. value ≡ of d) old new
 
 -- ---- entries that are no patterns, and what stands twice
 

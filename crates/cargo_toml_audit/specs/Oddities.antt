@@ -1,23 +1,14 @@
 -- What a report finds odd: of a place, of a member, and of all members together.
-use Rattle.std.specs.Prelude.{◌≡◌, ◌++◌, ◌&&◌, ◌||◌, ◌==◌, Bool, true, false, List, [], ◌∷◌, Option}
+use Rattle.std.specs.Prelude.{◌++◌, ◌&&◌, ◌||◌, ◌==◌, Bool, true, false, List, [], ◌∷◌, Option}
 use Rattle.std.specs.Prelude.{Some, None, Vec, bytes_eq, codes, if◌then◌else◌, is_none, is_some}
 use Rattle.std.specs.Prelude.{length, map, not, option_and_then, option_map, string_bytes}
 use Rattle.std.specs.List.{flat_map, list_any}
-use Rattle.std.specs.Option.{option_map_or}
-use Rattle.std.specs.declared.alloc.Global.{Global}
-use Rattle.cargo_toml.specs.Action.{Text}
-use Rattle.cargo_toml.specs.Dependencies.{DependencyMeaning, detailed, inherited, is_optional}
-use Rattle.cargo_toml.specs.Dependencies.{simple}
-use Rattle.cargo_toml.specs.InheritedDependencies.{Entries}
-use Rattle.cargo_toml.specs.InheritedPackages.{field_is_left}
-use Rattle.cargo_toml.specs.Manifests.{ManifestMeaning}
-use Rattle.cargo_toml.specs.Packages.{PackageMeaning}
-use Rattle.cargo_toml.specs.Settings.{edition_text}
-use Rattle.cargo_toml.specs.Templates.{TemplateMeaning}
-use Rattle.cargo_toml_audit.specs.Entries.{Asking, Listed, entries_of}
-use Rattle.cargo_toml_audit.specs.MemberFolders.{repeats}
-use Rattle.cargo_toml_audit.specs.Places.{is_in, place_of}
-use Rattle.cargo_toml_audit.specs.declared.audit.Code.{Code}
+use Rattle.std.specs.{Option.option_map_or, declared.alloc.Global.Global}
+use Rattle.cargo_toml.specs.{Action.Text, Dependencies.DependencyMeaning, Dependencies.detailed}
+use Rattle.cargo_toml.specs.{Dependencies.inherited, Dependencies.is_optional, Dependencies.simple}
+use Rattle.cargo_toml.specs.{InheritedDependencies.Entries, InheritedPackages.field_is_left}
+use Rattle.cargo_toml.specs.{Manifests.ManifestMeaning, Packages.PackageMeaning}
+use Rattle.cargo_toml.specs.{Settings.edition_text, Templates.TemplateMeaning}
 use Rattle.cargo_toml_audit.specs.declared.audit.Code.TheVariants.{Features, NoLints, NotInherited}
 use Rattle.cargo_toml_audit.specs.declared.audit.Code.TheVariants.{OptionalShared, OtherEdition}
 use Rattle.cargo_toml_audit.specs.declared.audit.Code.TheVariants.{OtherLicense, OtherWorkspace}
@@ -25,8 +16,9 @@ use Rattle.cargo_toml_audit.specs.declared.audit.Code.TheVariants.{Outside, Same
 use Rattle.cargo_toml_audit.specs.declared.audit.Code.TheVariants.{SeveralRequirements}
 use Rattle.cargo_toml_audit.specs.declared.audit.Code.TheVariants.{TwoWorkspaces, UnusedDependency}
 use Rattle.cargo_toml_audit.specs.declared.audit.Code.TheVariants.{WorkspaceWithin}
-use Rattle.cargo_toml_audit.specs.declared.audit.Finding.{Finding}
-use Rattle.cargo_toml_audit.specs.declared.audit.Member.{Member}
+use Rattle.cargo_toml_audit.specs.{Entries.Asking, Entries.Listed, Entries.entries_of, Places.is_in}
+use Rattle.cargo_toml_audit.specs.{Places.place_of, MemberFolders.repeats, declared.audit.Code.Code}
+use Rattle.cargo_toml_audit.specs.{declared.audit.Finding.Finding, declared.audit.Member.Member}
 
 -- what a finding tells: its code, and the place, dependency or entry that it is about. Its words
 -- are for people

@@ -3,14 +3,13 @@ use Rattle.std.specs.Prelude.{◌++◌, ◌&&◌, ◌||◌, ◌==◌, ℕ, Bool,
 use Rattle.std.specs.Prelude.{true, false, if◌then◌else◌, bytes_eq, codes, fold, length, map}
 use Rattle.std.specs.Prelude.{nat_eq, nat_le, not}
 use Rattle.std.specs.List.{list_any}
-use Rattle.std.specs.Str.{chars}
-use Rattle.cargo_toml_audit.specs.declared.members.patterns.Mode.{Mode}
 use Rattle.cargo_toml_audit.specs.declared.members.patterns.Mode.TheVariants.{Brackets, Others}
 use Rattle.cargo_toml_audit.specs.declared.members.patterns.Mode.TheVariants.{Plain, Star, Wrong}
-use Rattle.cargo_toml_audit.specs.declared.members.patterns.Reading.{Reading}
-use Rattle.cargo_toml_audit.specs.declared.members.patterns.Token.{Token}
 use Rattle.cargo_toml_audit.specs.declared.members.patterns.Token.TheVariants.{Just, Many, One}
 use Rattle.cargo_toml_audit.specs.declared.members.patterns.Token.TheVariants.{OneOf}
+use Rattle.cargo_toml_audit.specs.{declared.members.patterns.Mode.Mode}
+use Rattle.cargo_toml_audit.specs.{declared.members.patterns.Reading.Reading}
+use Rattle.cargo_toml_audit.specs.{declared.members.patterns.Token.Token}
 
 -- a part of a pattern: any text, any character, one, or one of those in brackets or of all others
 pub data Part : Type 0 where
@@ -162,3 +161,20 @@ is_sign b = (nat_eq b 42 || nat_eq b 63) || nat_eq b 91
 
 abbrev pub is_pattern : List ℕ → Bool
 is_pattern name = list_any is_sign name
+
+-- ---- the code's own steps: nothing here has to be believed
+
+-- of tests at all ends of a text, from the shortest on: whether some up to here holds
+abbrev pub scan : Bool → List Bool → List Bool
+scan some [] = []
+scan some (here ∷ rest) = (some || here) ∷ scan (some || here) rest
+
+abbrev pub shift : Part → List Bool → List ℕ → List Bool
+shift wanted [] cs = []
+shift wanted (here ∷ rest) [] = []
+shift wanted (here ∷ rest) (c ∷ cs) = (here && accepts wanted c) ∷ shift wanted rest cs
+
+-- the row with one more character of the pattern
+abbrev pub next : Bool → Part → List Bool → List ℕ → List Bool
+next true wanted reached cs = scan false reached
+next false wanted reached cs = false ∷ shift wanted reached cs

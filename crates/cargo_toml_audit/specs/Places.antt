@@ -1,16 +1,13 @@
 -- Paths of folders: a path is its bytes, and its names stand between slashes.
-use Rattle.std.specs.Prelude.{◌≡◌, ◌++◌, ◌&&◌, ◌||◌, ◌==◌, ◌-◌, Bool, true, false, List, [], ◌∷◌}
-use Rattle.std.specs.Prelude.{bytes_eq, codes, filter, fold, get_or, if◌then◌else◌, length, nat_eq}
-use Rattle.std.specs.Prelude.{not, take}
-use Rattle.std.specs.List.{ends_with, join_by, list_any, slice_split, starts_with}
+use Rattle.std.specs.Prelude.{◌++◌, ◌&&◌, ◌||◌, ◌==◌, ◌-◌, Bool, List, [], ◌∷◌, bytes_eq, codes}
+use Rattle.std.specs.Prelude.{filter, fold, get_or, if◌then◌else◌, length, nat_eq, not, take}
+use Rattle.std.specs.List.{join_by, list_any, slice_split, starts_with}
+use Rattle.std.specs.Path.{path_join}
 use Rattle.cargo_toml.specs.Action.{Text}
 
--- a path that begins or ends with a slash
+-- a path that begins with a slash
 abbrev pub is_rooted : Text → Bool
 is_rooted path = starts_with nat_eq path (codes "/")
-
-abbrev pub is_closed : Text → Bool
-is_closed path = ends_with nat_eq path (codes "/")
 
 -- a name that leads nowhere, and the one that leads to the folder around
 abbrev pub is_nothing : Text → Bool
@@ -48,25 +45,16 @@ with_names path names = or_dot (root_of path ++ join_by (λ name. name) (codes "
 abbrev pub normalized : Text → Text
 normalized path = with_names path (fold one_further [] (pieces path))
 
--- the path of what lies in a folder; the empty path is the folder in which all others are seen
-abbrev pub path_below : Text → Text → Text
-path_below folder name =
-    folder ++ ((if length folder == 0 || is_closed folder then [] else codes "/") ++ name)
-
--- a path that is written in a folder: below it, unless it begins with a slash
-abbrev pub path_from : Text → Text → Text
-path_from folder path = if is_rooted path then path else path_below folder path
-
--- the place to which such a path leads
+-- the place to which a path leads that is written in a folder
 abbrev pub place_of : Text → Text → Text
-place_of folder path = normalized (path_from folder path)
+place_of folder path = normalized (path_join folder path)
 
 abbrev pub manifest_path : Text → Text
-manifest_path folder = path_below folder (codes "Cargo.toml")
+manifest_path folder = path_join folder (codes "Cargo.toml")
 
 -- a place is another, or lies in it
 abbrev pub lies_in : Text → Text → Bool
-lies_in place outer = bytes_eq place outer || starts_with nat_eq place (path_below outer [])
+lies_in place outer = bytes_eq place outer || starts_with nat_eq place (path_join outer [])
 
 -- a path as Cargo compares it: with no `.` in it, and with each `..` as it is written
 abbrev pub compared : Text → Text
@@ -74,7 +62,7 @@ compared path = with_names path (filter (λ name. not (is_nothing name)) (pieces
 
 -- a path is one of these entries of a list in a folder, or lies in one
 abbrev pub lies_in_some : Text → Text → List Text → Bool
-lies_in_some root path entries = list_any (λ e. lies_in path (compared (path_from root e))) entries
+lies_in_some root path entries = list_any (λ e. lies_in path (compared (path_join root e))) entries
 
 -- a workspace excludes a place: its manifest lies in what is excluded, and in no entry of `members`
 -- as that is written
@@ -82,6 +70,10 @@ abbrev pub excludes : Text → List Text → List Text → Text → Bool
 excludes root excluded members place =
     lies_in_some root (manifest_path place) excluded
     && not (lies_in_some root (manifest_path place) members)
+
+-- those of these places that it doesn't exclude
+abbrev pub included : Text → List Text → List Text → List Text → List Text
+included root excluded members places = filter (λ p. not (excludes root excluded members p)) places
 
 -- a text stands in a list
 abbrev pub is_in : List Text → Text → Bool

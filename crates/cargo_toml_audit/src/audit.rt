@@ -1,35 +1,27 @@
 //! The report on a workspace: what each member is, and what is odd.
 ghost use Rattle.std.specs.Prelude.{◌≡◌, [], ◌∷◌, IfOk, OnOk, map, option_map, string_bytes};
-ghost use Rattle.cargo_toml.specs.Dependencies.{dependency_meaning};
-ghost use Rattle.cargo_toml.specs.Manifests.{held};
-ghost use Rattle.cargo_toml.specs.Reads.{map_meaning};
-ghost use Rattle.cargo_toml.specs.Templates.{template_meaning};
+ghost use Rattle.cargo_toml.specs.{Dependencies.dependency_meaning, Manifests.held};
+ghost use Rattle.cargo_toml.specs.{Reads.map_meaning, Templates.template_meaning};
 ghost use Rattle.cargo_toml_audit.specs.AuditedFiles.{Takes, held_in};
 ghost use Rattle.cargo_toml_audit.specs.Entries.{asked_in, entries_of, inherited_in, left_keys};
 ghost use Rattle.cargo_toml_audit.specs.Oddities.{differences, only_found, overall_oddities};
 
-mod differences;
-pub mod entries;
+pub mod dependencies;
 pub mod findings;
-mod inherited;
-mod refusals;
 mod report;
 mod root;
 mod summary;
-mod uses;
 
+use crate::AllocResult;
 use crate::members::{repeats, set_of};
 use cargo_toml::{Manifest, Workspace};
-use differences::{add_differences, add_shared, names};
-use entries::entries;
-use findings::find_all;
-use inherited::{add_inherited, inherited_keys};
-pub use refusals::{has_no_target, refusal_rows};
+use dependencies::{add_inherited, add_uses, entries, further, inherited_keys};
+use findings::{add_differences, add_shared, find_all, names};
+pub use findings::{has_no_target, named_by, refusal_rows};
 pub use report::{json, lines};
 pub use root::{Root, needs};
-use std::alloc::{AllocError, Global};
+use std::alloc::Global;
 pub use summary::{summarize, untold_words};
-use uses::{add_uses, further};
 
 /// What a member is. What isn't there is `None`.
 #[derive(Debug, Drop)]
@@ -219,7 +211,7 @@ impl Audit {
 
     /// Takes in a member's manifest as it is written: notes which dependencies of the workspace it
     /// inherits, and answers the keys that it leaves to the workspace.
-    pub fn add_written<M>(&mut self, manifest: &Manifest<M>) -> Result<Vec<String>, AllocError>
+    pub fn add_written<M>(&mut self, manifest: &Manifest<M>) -> AllocResult<Vec<String>>
         ensures keys { IfOk result
             (λ keys. map string_bytes keys.items ≡ left_keys (held manifest.now)) }
         ensures takes { OnOk result (Takes (record {
@@ -243,7 +235,7 @@ impl Audit {
         member: Member,
         manifest: &Manifest<M>,
         workspace: &Workspace<M>,
-    ) -> Result<(), AllocError>
+    ) -> AllocResult<()>
         ensures { OnOk result (Takes (record {
           members = member ∷ [];
           found = differences (option_map template_meaning workspace.now.«package») member;
@@ -263,7 +255,7 @@ impl Audit {
     /// Adds what shows once all members were added: dependencies of the workspace that none
     /// inherits or that are optional, names that several members have, and crates that are asked
     /// for by several requirements.
-    pub fn finish<M>(&mut self, workspace: &Workspace<M>) -> Result<(), AllocError>
+    pub fn finish<M>(&mut self, workspace: &Workspace<M>) -> AllocResult<()>
         ensures { OnOk result (Takes (only_found (overall_oddities
             (map_meaning dependency_meaning workspace.now.dependencies) (held_in self.old)))
             self.old self.new) }

@@ -1,27 +1,24 @@
 //! The report on a workspace.
 ghost use Rattle.std.specs.Prelude.{◌≡◌, ◌++◌, IfErr, IfOk, OnOk, map, string_bytes};
 ghost use Rattle.std.specs.List.{flat_map, list_any};
-ghost use Rattle.cargo_toml_audit.specs.AuditSteps.{AreListed, known_of};
+ghost use Rattle.cargo_toml_audit.specs.Steps.{AreListed, known_of};
 ghost use Rattle.cargo_toml_audit.specs.AuditedFiles.{IsAuditFault, IsAudited, IsReport, astray};
 ghost use Rattle.cargo_toml_audit.specs.AuditedFiles.{base_of, default_entries, found_beside};
-ghost use Rattle.cargo_toml_audit.specs.AuditedFiles.{found_in_lists};
-ghost use Rattle.cargo_toml_audit.specs.AuditedFiles.{is_astray};
-ghost use Rattle.cargo_toml_audit.specs.MemberFolders.{Agrees, Disk};
-ghost use Rattle.cargo_toml_audit.specs.Oddities.{oddities_of};
+ghost use Rattle.cargo_toml_audit.specs.AuditedFiles.{found_in_lists, is_astray};
+ghost use Rattle.cargo_toml_audit.specs.{MemberFolders.OnDisks, Oddities.oddities_of};
 
 mod above;
 mod place;
 mod walk;
 
+use crate::AllocResult;
 use crate::audit::findings::{find_all, find_if};
 use crate::audit::{Audit, Code, Finding, Root, json, lines};
-use crate::members::{
-    Looks, included, listed, manifest_path, places_of_entry, repeats, set_of, unseen, wrong_entries,
-};
+use crate::members::{Looking, included, manifest_path, repeats, set_of, unseen, wrong_entries};
 use above::{absolute, workspace_of};
 use cargo_toml::Error;
 use cargo_toml_tools::files::manifest_in;
-use std::alloc::{AllocError, Global};
+use std::alloc::Global;
 use std::collections::BTreeSet;
 use std::random::RandomSource;
 use std::rt::Files;
@@ -86,16 +83,16 @@ fn report_on<R: Files + Eprint + RandomSource + AllocGlobal>(
     ensures refused { IfErr result IsAuditFault }
 {
     let alloc = rt.alloc();
-    let mut looks = Looks::new(alloc);
+    let mut looking = Looking::new(rt);
     let mut audit = Audit::new(String::from_str(alloc, root.place)?);
-    let lists = read_lists(rt, &mut looks, root, &mut audit.findings)?;
+    let lists = read_lists(&mut looking, root, &mut audit.findings)?;
     let members = add_members(rt, root, lists.first, &mut audit, shows)?;
     let known = Known {
         listed: lists.listed,
         entered: lists.entered,
         members,
     };
-    find_beside(rt, &mut looks, root, (&known, asked), &mut audit.findings)?;
+    find_beside(&mut looking, root, (&known, asked), &mut audit.findings)?;
     audit.finish(root.workspace)?;
     Ok(audit)
 }
@@ -113,17 +110,17 @@ struct Lists {
 
 /// Reads where the entries of `members` lead, and finds what is odd of the lists.
 fn read_lists<R: Files + AllocGlobal>(
-    rt: &R,
-    looks: &mut Looks,
+    looking: &mut Looking<'_, R>,
     root: Root<'_>,
     findings: &mut Vec<Finding>,
-) -> Result<Lists, AllocError>
-    ensures { IfOk result (λ lists. (d : Disk) → Agrees d looks.new → Agrees d looks.old
-        × AreListed (base_of root.entry) d lists findings.old findings.new) }
+) -> AllocResult<Lists>
+    ensures { IfOk result (λ lists. OnDisks
+        (λ d. AreListed (base_of root.entry) d lists findings.old findings.new)
+        looking.old.looks looking.new.looks) }
 {
-    let alloc = rt.alloc();
-    let all = listed(rt, looks, root.place, root.workspace.members.as_slice())?;
-    let mut first = included(alloc, root.limits(), all.as_slice())?;
+    let alloc = looking.rt.alloc();
+    let all = looking.listed(root.place, root.workspace.members.as_slice())?;
+    let mut first = included(alloc, root.place, root.workspace, all.as_slice())?;
     find_in_lists(alloc, root, first.as_slice(), findings)?;
     let listed = set_of(alloc, all.as_slice())?;
     let entered = set_of(alloc, first.as_slice())?;
@@ -138,25 +135,20 @@ fn read_lists<R: Files + AllocGlobal>(
 /// Finds that the place that is asked for is no member's, default members that aren't, and what
 /// couldn't be looked at.
 fn find_beside<R: Files + AllocGlobal>(
-    rt: &R,
-    looks: &mut Looks,
+    looking: &mut Looking<'_, R>,
     root: Root<'_>,
     by: (&Known, &str),
     findings: &mut Vec<Finding>,
-) -> Result<(), AllocError>
-    ensures { OnOk result ((d : Disk) → Agrees d looks.new → Agrees d looks.old
-        × (oddities_of findings.new ≡ oddities_of findings.old ++ found_beside
-        (base_of root.entry) looks.new d (known_of by.entry.0.now) by.entry.1.now)) }
+) -> AllocResult<()>
+    ensures { OnOk result (OnDisks (λ d. oddities_of findings.new ≡ oddities_of findings.old
+        ++ found_beside (base_of root.entry) looking.new.looks d (known_of by.entry.0.now)
+        by.entry.1.now) looking.old.looks looking.new.looks) }
 {
     let (known, asked) = by;
-    find_if(
-        findings,
-        Code::Unlisted,
-        !known.members.contains(asked),
-        asked,
-    )?;
-    find_astray(rt, looks, root, known, findings)?;
-    let unseen = unseen(rt.alloc(), looks)?;
+    let is_unlisted = !known.members.contains(asked);
+    find_if(findings, Code::Unlisted, is_unlisted, asked)?;
+    find_astray(looking, root, known, findings)?;
+    let unseen = unseen(looking.rt.alloc(), &looking.looks)?;
     find_all(findings, Code::Unseen, unseen.as_slice())
 }
 
@@ -166,7 +158,7 @@ fn find_in_lists(
     root: Root<'_>,
     entered: &[String],
     findings: &mut Vec<Finding>,
-) -> Result<(), AllocError>
+) -> AllocResult<()>
     ensures { OnOk result (oddities_of findings.new ≡ oddities_of findings.old
         ++ found_in_lists (base_of root.entry) (map string_bytes entered.now)) }
 {
@@ -190,20 +182,18 @@ struct Known {
 /// Finds the entries of `default-members` that don't lead to members alone, or to what is listed
 /// and excluded.
 fn find_astray<R: Files + AllocGlobal>(
-    rt: &R,
-    looks: &mut Looks,
+    looking: &mut Looking<'_, R>,
     root: Root<'_>,
     known: &Known,
     findings: &mut Vec<Finding>,
-) -> Result<(), AllocError>
-    ensures { OnOk result ((d : Disk) → Agrees d looks.new → Agrees d looks.old
-        × (oddities_of findings.new ≡ oddities_of findings.old
+) -> AllocResult<()>
+    ensures { OnOk result (OnDisks (λ d. oddities_of findings.new ≡ oddities_of findings.old
         ++ flat_map (astray (base_of root.entry) d (known_of known.now))
-        (default_entries (base_of root.entry)))) }
+        (default_entries (base_of root.entry))) looking.old.looks looking.new.looks) }
 {
     for entry in root.workspace.default_members.as_slice() {
         let entry = entry.as_str();
-        let places = places_of_entry(rt, looks, root.place, entry)?;
+        let places = looking.places_of_entry(root.place, entry)?;
         let is_astray = any_astray(known, places.as_slice());
         find_if(findings, Code::DefaultMember, is_astray, entry)?;
     }

@@ -7,3 +7,6 @@
 pub mod audit;
 pub mod auditing;
 pub mod members;
+
+/// What a call makes, unless it runs out of memory.
+pub type AllocResult<T> = Result<T, std::alloc::AllocError>;

@@ -1,22 +1,10 @@
 //! What is found of tables of dependencies.
-<<<<<<< ours
-ghost use Rattle.std.specs.Prelude.{OnOk};
-ghost use Rattle.std.specs.List.{flat_map};
-ghost use Rattle.cargo_toml.specs.Dependencies.{dependency_meaning};
-ghost use Rattle.cargo_toml.specs.InheritedManifests.{own_tables};
-ghost use Rattle.cargo_toml.specs.Manifests.{held};
-ghost use Rattle.cargo_toml.specs.Reads.{map_meaning};
-ghost use Rattle.cargo_toml.specs.Targets.{target_meaning};
-ghost use Rattle.cargo_toml_lint.specs.Findings.{entry_findings};
-ghost use Rattle.cargo_toml_lint.specs.Findings.{table_findings, tables_findings, target_findings};
-ghost use Rattle.cargo_toml_lint.specs.Steps.{Finds};
-=======
 ghost use Rattle.std.specs.{Prelude.OnOk, List.flat_map};
-ghost use Rattle.cargo_toml.specs.{Dependencies.dependency_meaning, Manifests.held};
+ghost use Rattle.cargo_toml.specs.{Dependencies.dependency_meaning, InheritedManifests.own_tables};
+ghost use Rattle.cargo_toml.specs.Manifests.{held};
 ghost use Rattle.cargo_toml.specs.{Reads.map_meaning, Targets.target_meaning};
 ghost use Rattle.cargo_toml_lint.specs.Findings.{entry_findings, table_findings, tables_findings};
 ghost use Rattle.cargo_toml_lint.specs.{Findings.target_findings, Steps.Finds};
->>>>>>> theirs
 
 use crate::faults::request_fault;
 use crate::finding::{Code, Finding};

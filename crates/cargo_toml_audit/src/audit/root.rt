@@ -1,16 +1,15 @@
 //! A workspace, and what its manifests lead to by the paths of their dependencies.
 ghost use Rattle.std.specs.Prelude.{◌≡◌, ◌++◌, IfOk, OnOk, map, string_bytes};
 ghost use Rattle.std.specs.List.{flat_map};
-ghost use Rattle.cargo_toml.specs.Dependencies.{dependency_meaning};
-ghost use Rattle.cargo_toml.specs.Manifests.{held};
+ghost use Rattle.cargo_toml.specs.{Dependencies.dependency_meaning, Manifests.held};
 ghost use Rattle.cargo_toml_audit.specs.AuditedFiles.{base_of, need_at, need_by};
 ghost use Rattle.cargo_toml_audit.specs.Entries.{entries_of, listed_of};
 
-use super::entries::{Entry, entries};
-use super::inherited::is_left;
-use crate::members::{Limits, place_of};
+use super::dependencies::{Entry, entries, is_left};
+use crate::AllocResult;
+use crate::members::place_of;
 use cargo_toml::{Dependency, Manifest, Workspace};
-use std::alloc::{AllocError, Global};
+use std::alloc::Global;
 
 /// A workspace.
 #[derive(Clone, Copy)]
@@ -25,30 +24,14 @@ pub struct Root<'a> {
     pub workspace: &'a Workspace,
 }
 
-impl<'a> Root<'a> {
-    /// The lists that say which places are none of its members.
-    pub fn limits(self) -> Limits<'a>
-        ensures root { result.root ≡ self.entry.place }
-        ensures exclude { result.exclude.now ≡ self.entry.workspace.now.exclude.items }
-        ensures members { result.members.now ≡ self.entry.workspace.now.members.items }
-    {
-        Limits {
-            root: self.place,
-            exclude: self.workspace.exclude.as_slice(),
-            members: self.workspace.members.as_slice(),
-        }
-    }
-}
-
 /// The places to which the dependencies of a manifest lead by their paths. A path of the
 /// workspace's dependencies is seen from the workspace.
-#[tactic(auto, using(crate::proofs::Walks::mapped_next))]
 pub fn needs(
     alloc: Global,
     root: Root<'_>,
     place: &str,
     manifest: &Manifest,
-) -> Result<Vec<String>, AllocError>
+) -> AllocResult<Vec<String>>
     ensures { IfOk result (λ all. map string_bytes all.items
         ≡ flat_map (need_by (base_of root.entry) place.now) (entries_of (held manifest.now))) }
 {
@@ -65,7 +48,7 @@ fn add_needs(
     place: &str,
     entry: Entry<'_>,
     all: &mut Vec<String>,
-) -> Result<(), AllocError>
+) -> AllocResult<()>
     ensures { OnOk result (map string_bytes all.new.items ≡ map string_bytes all.old.items
         ++ need_by (base_of root.entry) place.now (listed_of entry.entry)) }
 {
@@ -80,7 +63,7 @@ fn add_needs(
 }
 
 /// Adds where the path of a dependency leads, which is written in a folder.
-fn add_need(folder: &str, dependency: &Dependency, all: &mut Vec<String>) -> Result<(), AllocError>
+fn add_need(folder: &str, dependency: &Dependency, all: &mut Vec<String>) -> AllocResult<()>
     ensures { OnOk result (map string_bytes all.new.items ≡ map string_bytes all.old.items
         ++ need_at folder.now (dependency_meaning dependency.now)) }
 {

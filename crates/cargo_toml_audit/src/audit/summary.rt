@@ -1,19 +1,17 @@
 //! What the report tells of a member that completes.
-ghost use Rattle.std.specs.Prelude.{◌≡◌, None, IfOk, IfSome, IsTrue, Some, false, map};
-ghost use Rattle.std.specs.Prelude.{option_map, string_bytes};
-ghost use Rattle.cargo_toml.specs.InheritableValues.{value_of};
+ghost use Rattle.std.specs.Prelude.{◌≡◌, None, IfOk, IfSome, IsTrue, Some, false, map, option_map};
+ghost use Rattle.std.specs.Prelude.{string_bytes};
 ghost use Rattle.cargo_toml.specs.InheritedPackages.{field_is_left, is_left_there};
-ghost use Rattle.cargo_toml.specs.Inherits.{inheritable_map};
-ghost use Rattle.cargo_toml.specs.Manifests.{held};
-ghost use Rattle.cargo_toml.specs.Packages.{held_package};
-ghost use Rattle.cargo_toml.specs.Settings.{publish_meaning};
+ghost use Rattle.cargo_toml.specs.{InheritableValues.value_of, Inherits.inheritable_map};
+ghost use Rattle.cargo_toml.specs.{Manifests.held, Packages.held_package, Settings.publish_meaning};
 ghost use Rattle.cargo_toml_audit.specs.Audited.{IsMemberOf, IsToldOf, is_untold, leaves_told};
 ghost use Rattle.cargo_toml_audit.specs.Audited.{names_text, publish_text, stated};
 
 use super::Member;
-use super::inherited::is_inherited;
+use super::dependencies::is_inherited;
+use crate::AllocResult;
 use cargo_toml::{Inheritable, Manifest, Package, Publish};
-use std::alloc::{AllocError, Global};
+use std::alloc::Global;
 
 /// What is told of a member with this manifest, which was completed. None where nothing can be.
 pub fn summarize<M>(
@@ -21,7 +19,7 @@ pub fn summarize<M>(
     folder: &str,
     manifest: &Manifest<M>,
     inherits: Vec<String>,
-) -> Result<Option<Member>, AllocError>
+) -> AllocResult<Option<Member>>
     ensures told { IfOk result (λ o. IfSome o
         (IsMemberOf folder.now (map string_bytes inherits.items) (held manifest.now))) }
     ensures untold { IfOk result (λ o. o ≡ None → IsTrue (is_untold (held manifest.now))) }
@@ -47,7 +45,7 @@ fn member_of<M>(
     folder: &str,
     package: &Package<M>,
     inherits: Vec<String>,
-) -> Result<Option<Member>, AllocError>
+) -> AllocResult<Option<Member>>
     ensures told { IfOk result (λ o. IfSome o
         (IsToldOf folder.now (map string_bytes inherits.items) (held_package «package».now))) }
     ensures untold { IfOk result
@@ -96,7 +94,7 @@ fn known<T>(value: &Inheritable<T>) -> Option<&T>
 }
 
 /// A text that may be missing, and isn't left.
-fn text(text: &Option<Inheritable<String>>) -> Result<Option<String>, AllocError>
+fn text(text: &Option<Inheritable<String>>) -> AllocResult<Option<String>>
     requires { is_left_there text.now ≡ false }
     ensures { IfOk result
         (λ copy. option_map (inheritable_map string_bytes) text.now ≡ stated copy) }
@@ -108,7 +106,7 @@ fn text(text: &Option<Inheritable<String>>) -> Result<Option<String>, AllocError
 }
 
 /// Where a package may be published.
-fn place(alloc: Global, publish: &Publish) -> Result<String, AllocError>
+fn place(alloc: Global, publish: &Publish) -> AllocResult<String>
     ensures { IfOk result
         (λ text. string_bytes text ≡ publish_text (publish_meaning publish.now)) }
 {
@@ -119,7 +117,7 @@ fn place(alloc: Global, publish: &Publish) -> Result<String, AllocError>
     }
 }
 
-fn joined(alloc: Global, names: &[String]) -> Result<String, AllocError>
+fn joined(alloc: Global, names: &[String]) -> AllocResult<String>
     ensures { IfOk result (λ text. string_bytes text ≡ names_text (map string_bytes names.now)) }
 {
     if names.is_empty() {

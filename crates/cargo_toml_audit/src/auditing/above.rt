@@ -3,10 +3,13 @@ ghost use Rattle.std.specs.Prelude.{IfErr, IfOk, IsTrue};
 ghost use Rattle.cargo_toml_tools.specs.FromFiles.{IsUnreadable};
 ghost use Rattle.cargo_toml_audit.specs.Places.{lies_in};
 
-use crate::members::{Limits, Looks, There, excludes, lies_in, look_at, manifest_path, place_of};
+use crate::AllocResult;
+use crate::audit::named_by;
+use crate::members::{Looking, There, excludes, lies_in, manifest_path, place_of};
 use cargo_toml::{Error, Manifest};
+use cargo_toml_parts::paths::ancestors;
 use cargo_toml_tools::files::manifest_in;
-use std::alloc::{AllocError, Global};
+use std::alloc::Global;
 use std::rt::Files;
 use std::{fs, io};
 
@@ -28,21 +31,6 @@ fn or_here(path: &str) -> &str {
     if path.is_empty() { "." } else { path }
 }
 
-/// A place, and all above it.
-fn ancestors(alloc: Global, place: &str) -> Result<Vec<&str>, AllocError> {
-    let mut all = Vec::new(alloc);
-    let mut left = place;
-    for _ in 0..place.len() {
-        all.push(left)?;
-        left = match left.rsplit_once('/') {
-            Some((front, _)) if !front.is_empty() => front,
-            _ => break,
-        };
-    }
-    all.push("/")?;
-    Ok(all)
-}
-
 /// Where the workspace of a place is, as Cargo looks for it.
 #[derive(Drop)]
 pub struct Found {
@@ -58,19 +46,20 @@ pub fn workspace_of<R: Files + AllocGlobal>(rt: &R, start: &str) -> Result<Optio
     ensures refused { IfErr result IsUnreadable }
 {
     let alloc = rt.alloc();
-    let mut looks = Looks::new(alloc);
+    let mut looking = Looking::new(rt);
     let mut asked: Option<String> = None;
-    for place in &ancestors(alloc, start)? {
-        let path = manifest_path(alloc, *place)?;
-        if look_at(rt, &mut looks, path.as_str())? == There::Nothing {
+    for above in ancestors(start) {
+        let place = above.as_str();
+        let path = manifest_path(alloc, place)?;
+        if looking.look_at(path.as_str())? == There::Nothing {
             continue;
         }
         let held = manifest_in(rt, path.as_str())?;
         let first = match asked {
             Some(first) => first,
-            None => String::from_str(alloc, *place)?,
+            None => String::from_str(alloc, place)?,
         };
-        if let Some(root) = led_to(alloc, &*held.manifest, *place, first.as_str())? {
+        if let Some(root) = led_to(alloc, &*held.manifest, place, first.as_str())? {
             return Ok(Some(Found { asked: first, root }));
         }
         asked = Some(first);
@@ -85,25 +74,17 @@ fn led_to(
     manifest: &Manifest,
     place: &str,
     asked: &str,
-) -> Result<Option<String>, AllocError> {
+) -> AllocResult<Option<String>> {
     if let Some(workspace) = &manifest.workspace {
-        let limits = Limits {
-            root: place,
-            exclude: workspace.exclude.as_slice(),
-            members: workspace.members.as_slice(),
-        };
-        if excludes(alloc, limits, asked)? {
+        if excludes(alloc, place, workspace, asked)? {
             return Ok(None);
         }
         return Ok(Some(String::from_str(alloc, place)?));
     }
-    let Some(package) = &manifest.package else {
-        return Ok(None);
-    };
-    let Some(path) = &package.workspace else {
-        return Ok(None);
-    };
-    Ok(Some(place_of(alloc, place, path.as_str())?))
+    match named_by(&manifest.package) {
+        Some(path) => Ok(Some(place_of(alloc, place, path)?)),
+        None => Ok(None),
+    }
 }
 
 /// Whether a place is of a workspace: it lies in the folder of that, or leads to it.

@@ -3,10 +3,10 @@
 ghost use Rattle.std.specs.Prelude.{IfErr, IfOk, OnOk, map, string_bytes};
 ghost use Rattle.std.specs.BTreeSet.{contains_text};
 ghost use Rattle.cargo_toml_audit.specs.AuditedFiles.{IsAuditFault, base_of};
-ghost use Rattle.cargo_toml_audit.specs.Walks.{Visits, Walks};
+ghost use Rattle.cargo_toml_audit.specs.Steps.{Visits, Walks};
 ghost use Rattle.cargo_toml_tools.specs.FromFiles.{IsUnreadable};
 
-use super::place::add_place;
+use super::place::At;
 use crate::audit::{Audit, Root};
 use crate::members::{excludes, note, set_of};
 use cargo_toml::Error;
@@ -56,34 +56,37 @@ pub fn add_members<R: Files + Eprint + RandomSource + AllocGlobal>(
             return Ok(walk.members);
         };
         let is_listed = listed.contains(place.as_str());
-        visit(rt, root, (place.as_str(), is_listed), &mut walk, audit)?;
+        let at = At {
+            rt,
+            root,
+            place: place.as_str(),
+            is_listed,
+        };
+        visit(&at, &mut walk, audit)?;
     }
     Err(Error::Other("there are too many places"))
 }
 
-/// Looks at a place, to which a list leads or not, unless that was done or it is excluded.
+/// Looks at a place, unless that was done or it is excluded.
 fn visit<R: Files + RandomSource + AllocGlobal>(
-    rt: &R,
-    root: Root<'_>,
-    at: (&str, bool),
+    at: &At<'_, R>,
     walk: &mut Walk,
     audit: &mut Audit,
 ) -> Result<(), Error>
-    ensures visited { OnOk result (Visits (base_of root.entry) at.entry.1 at.entry.0.now
+    ensures visited { OnOk result (Visits (base_of at.now.root) at.now.is_listed at.now.place.now
         walk.old walk.new audit.old audit.new) }
     ensures refused { IfErr result IsUnreadable }
 {
-    let alloc = rt.alloc();
-    let (place, is_listed) = at;
-    if walk.seen.contains(place) {
+    let alloc = at.rt.alloc();
+    if walk.seen.contains(at.place) {
         return Ok(());
     }
-    if excludes(alloc, root.limits(), place)? {
+    if excludes(alloc, at.root.place, at.root.workspace, at.place)? {
         return Ok(());
     }
-    let mut found = add_place(rt, root, place, is_listed, audit)?;
-    note(alloc, &mut walk.members, place, found.is_member)?;
-    note(alloc, &mut walk.seen, place, true)?;
+    let mut found = at.add_place(audit)?;
+    note(alloc, &mut walk.members, at.place, found.is_member)?;
+    note(alloc, &mut walk.seen, at.place, true)?;
     walk.waiting.append(&mut found.needs)?;
     Ok(())
 }

@@ -1,16 +1,16 @@
 //! Patterns of names, as Cargo's globs have them: `*` is any text, `?` any one character, `[ab]`,
 //! `[a-c]` and `[!a]` one of some characters. `**` is none of these: it stands for any folders.
-ghost use Rattle.std.specs.Prelude.{◌≡◌, ◌&&◌, ◌∷◌, IfOk, OnOk, false, get_or, map, nat_le};
-ghost use Rattle.std.specs.Prelude.{option_map};
+ghost use Rattle.std.specs.Prelude.{◌≡◌, ◌∷◌, IfOk, OnOk, false, get_or, map, option_map};
 ghost use Rattle.std.specs.Str.{chars};
-ghost use Rattle.cargo_toml_audit.specs.Patterns.{accepts, is_among, is_deep, is_many};
-ghost use Rattle.cargo_toml_audit.specs.Patterns.{is_pattern, is_range, is_sign, matches, part_of};
-ghost use Rattle.cargo_toml_audit.specs.Patterns.{read_all, read_in_brackets, read_more};
-ghost use Rattle.cargo_toml_audit.specs.Patterns.{read_of, read_plain};
-ghost use Rattle.cargo_toml_audit.specs.Patterns.{parts_of, whole_parts};
-ghost use Rattle.cargo_toml_audit.specs.Rows.{next, scan, shift};
+ghost use Rattle.cargo_toml_audit.specs.Patterns.{accepts, is_among, is_deep, is_many, is_pattern};
+ghost use Rattle.cargo_toml_audit.specs.Patterns.{is_sign, matches, part_of, read_all};
+ghost use Rattle.cargo_toml_audit.specs.Patterns.{read_in_brackets, read_more, read_of, read_plain};
+ghost use Rattle.cargo_toml_audit.specs.Patterns.{parts_of, whole_parts, next, scan, shift};
+ghost use Rattle.std.specs.Prelude.{◌&&◌, nat_le};
+ghost use Rattle.cargo_toml_audit.specs.Patterns.{is_range};
 
-use std::alloc::{AllocError, Global};
+use crate::AllocResult;
+use std::alloc::Global;
 use std::mem;
 
 /// A part of a pattern.
@@ -61,12 +61,7 @@ pub fn is_deep(name: &str) -> bool
 pub fn is_pattern(name: &str) -> bool
     ensures { result ≡ is_pattern name.now }
 {
-    for byte in name.as_bytes() {
-        if is_sign(*byte) {
-            return true;
-        }
-    }
-    false
+    name.as_bytes().iter().any(|byte| is_sign(*byte))
 }
 
 fn is_sign(byte: u8) -> bool
@@ -76,7 +71,7 @@ fn is_sign(byte: u8) -> bool
 }
 
 /// The parts of a pattern; none where Cargo takes it for no pattern.
-pub fn tokens_of(alloc: Global, name: &str) -> Result<Option<Vec<Token>>, AllocError>
+pub fn tokens_of(alloc: Global, name: &str) -> AllocResult<Option<Vec<Token>>>
     ensures { IfOk result (λ tokens. option_map (λ v. map part_of v.items) tokens
         ≡ parts_of (chars name.now)) }
 {
@@ -85,14 +80,14 @@ pub fn tokens_of(alloc: Global, name: &str) -> Result<Option<Vec<Token>>, AllocE
     Ok(reading.tokens_if_whole())
 }
 
-fn characters(alloc: Global, text: &str) -> Result<Vec<char>, AllocError>
+fn characters(alloc: Global, text: &str) -> AllocResult<Vec<char>>
     ensures { IfOk result (λ v. v.items ≡ chars text.now) }
 {
     let characters: Vec<char> = text.chars().collect(alloc)?;
     Ok(characters)
 }
 
-fn read(alloc: Global, characters: &[char]) -> Result<Reading, AllocError>
+fn read(alloc: Global, characters: &[char]) -> AllocResult<Reading>
     ensures { IfOk result (λ r. read_of r ≡ read_all characters.now) }
 {
     let mut reading = Reading {
@@ -117,7 +112,7 @@ impl Reading {
     }
 
     /// Reads one character more.
-    fn take(&mut self, alloc: Global, c: char) -> Result<(), AllocError>
+    fn take(&mut self, alloc: Global, c: char) -> AllocResult<()>
         ensures { OnOk result (read_of self.new ≡ read_more (read_of self.old) c) }
     {
         match self.mode {
@@ -130,7 +125,7 @@ impl Reading {
     }
 
     /// The same outside brackets, at times right behind a star.
-    fn take_plain(&mut self, c: char, is_star: bool) -> Result<(), AllocError>
+    fn take_plain(&mut self, c: char, is_star: bool) -> AllocResult<()>
         ensures { OnOk result (read_of self.new ≡ read_plain is_star (read_of self.old) c) }
     {
         match c {
@@ -156,7 +151,7 @@ impl Reading {
     }
 
     /// The same in brackets. They close with the first `]` behind their first character.
-    fn take_in_brackets(&mut self, alloc: Global, c: char, is_other: bool) -> Result<(), AllocError>
+    fn take_in_brackets(&mut self, alloc: Global, c: char, is_other: bool) -> AllocResult<()>
         ensures { OnOk result (read_of self.new ≡ read_in_brackets is_other (read_of self.old) c) }
     {
         if self.content.is_empty() {
@@ -179,7 +174,7 @@ impl Reading {
 }
 
 /// Whether the pattern matches the name as a whole. It takes time in the product of their lengths.
-pub fn matches(alloc: Global, pattern: &[Token], name: &str) -> Result<bool, AllocError>
+pub fn matches(alloc: Global, pattern: &[Token], name: &str) -> AllocResult<bool>
     ensures { IfOk result (λ b. b ≡ matches (map part_of pattern.now) (chars name.now)) }
 {
     let mut name = characters(alloc, name)?;
@@ -211,7 +206,7 @@ fn one_more(
     reached: &[bool],
     name: &[char],
     wanted: &Token,
-) -> Result<Vec<bool>, AllocError>
+) -> AllocResult<Vec<bool>>
     ensures { IfOk result (λ v. v.items
         ≡ next (is_many (part_of wanted.now)) (part_of wanted.now) reached.now name.now) }
 {
@@ -221,7 +216,7 @@ fn one_more(
     }
 }
 
-fn after_many(alloc: Global, reached: &[bool]) -> Result<Vec<bool>, AllocError>
+fn after_many(alloc: Global, reached: &[bool]) -> AllocResult<Vec<bool>>
     ensures { IfOk result (λ v. v.items ≡ scan false reached.now) }
 {
     let mut next = Vec::new(alloc);
@@ -238,7 +233,7 @@ fn after_one(
     reached: &[bool],
     name: &[char],
     wanted: &Token,
-) -> Result<Vec<bool>, AllocError>
+) -> AllocResult<Vec<bool>>
     ensures { IfOk result (λ v. v.items ≡ false ∷ shift (part_of wanted.now) reached.now name.now) }
 {
     let mut next = Vec::new(alloc);

@@ -1,11 +1,15 @@
 //! Places of folders: absolute paths with no `.` and no `..` in them.
 ghost use Rattle.std.specs.Prelude.{◌≡◌, IfOk, OnOk, map, string_bytes};
+ghost use Rattle.std.specs.Path.{path_join};
 ghost use Rattle.cargo_toml_audit.specs.Places.{compared, ends_in_name, excludes, is_nothing};
 ghost use Rattle.cargo_toml_audit.specs.Places.{is_rooted, lies_in, lies_in_some, manifest_path};
-ghost use Rattle.cargo_toml_audit.specs.Places.{normalized, one_further, or_dot, path_below};
-ghost use Rattle.cargo_toml_audit.specs.Places.{path_from, pieces, place_of, root_of, with_names};
+ghost use Rattle.cargo_toml_audit.specs.Places.{normalized, one_further, or_dot, pieces, place_of};
+ghost use Rattle.cargo_toml_audit.specs.Places.{root_of, with_names};
 
-use std::alloc::{AllocError, Global};
+use crate::AllocResult;
+use cargo_toml::Workspace;
+use cargo_toml_parts::paths::join;
+use std::alloc::Global;
 
 fn is_rooted(path: &str) -> bool
     ensures { result ≡ is_rooted path.now }
@@ -21,14 +25,14 @@ fn root_of(path: &str) -> &'static str
 }
 
 /// What stands between the slashes of a path.
-pub fn pieces<'a>(alloc: Global, path: &'a str) -> Result<Vec<&'a str>, AllocError>
+pub fn pieces<'a>(alloc: Global, path: &'a str) -> AllocResult<Vec<&'a str>>
     ensures { IfOk result (λ names. map (λ t. t.now) names.items ≡ pieces path.now) }
 {
     path.split('/').collect(alloc)
 }
 
 /// The path with no `.` in it, and with `..` at its front alone. The folder itself is `.`.
-pub fn normalized(alloc: Global, path: &str) -> Result<String, AllocError>
+pub fn normalized(alloc: Global, path: &str) -> AllocResult<String>
     ensures { IfOk result (λ text. string_bytes text ≡ normalized path.now) }
 {
     let mut names = Vec::new(alloc);
@@ -39,7 +43,7 @@ pub fn normalized(alloc: Global, path: &str) -> Result<String, AllocError>
 }
 
 /// Goes one name further.
-fn step<'a>(names: &mut Vec<&'a str>, name: &'a str) -> Result<(), AllocError>
+fn step<'a>(names: &mut Vec<&'a str>, name: &'a str) -> AllocResult<()>
     ensures { OnOk result (map (λ t. t.now) names.new.items
         ≡ one_further (map (λ t. t.now) names.old.items) name.now) }
 {
@@ -69,7 +73,7 @@ fn can_go_back(names: &[&str]) -> bool
 }
 
 /// The path as Cargo compares it: with no `.` in it, and with each `..` as it is written.
-fn compared(alloc: Global, path: &str) -> Result<String, AllocError>
+fn compared(alloc: Global, path: &str) -> AllocResult<String>
     ensures { IfOk result (λ text. string_bytes text ≡ compared path.now) }
 {
     let mut names = Vec::new(alloc);
@@ -82,7 +86,7 @@ fn compared(alloc: Global, path: &str) -> Result<String, AllocError>
 }
 
 /// The path that begins as this one and has these names, or `.` where that is nothing.
-fn with_names(alloc: Global, path: &str, names: &[&str]) -> Result<String, AllocError>
+fn with_names(alloc: Global, path: &str, names: &[&str]) -> AllocResult<String>
     ensures { IfOk result
         (λ text. string_bytes text ≡ with_names path.now (map (λ t. t.now) names.now)) }
 {
@@ -93,7 +97,7 @@ fn with_names(alloc: Global, path: &str, names: &[&str]) -> Result<String, Alloc
 }
 
 /// The path, or `.` where there is none.
-fn or_dot(alloc: Global, path: String) -> Result<String, AllocError>
+fn or_dot(alloc: Global, path: String) -> AllocResult<String>
     ensures { IfOk result (λ text. string_bytes text ≡ or_dot (string_bytes path)) }
 {
     if path.is_empty() {
@@ -102,69 +106,42 @@ fn or_dot(alloc: Global, path: String) -> Result<String, AllocError>
     Ok(path)
 }
 
-/// The path of what lies in a folder. The empty path is the folder in which all others are seen.
-pub fn path_below(alloc: Global, folder: &str, name: &str) -> Result<String, AllocError>
-    ensures { IfOk result (λ path. string_bytes path ≡ path_below folder.now name.now) }
-{
-    let mut path = String::from_str(alloc, folder)?;
-    if !folder.is_empty() && !folder.ends_with('/') {
-        path.push_str("/")?;
-    }
-    path.push_str(name)?;
-    Ok(path)
-}
-
-/// A path that is written in a folder: its own, where it is absolute, or one below the folder.
-fn path_from(alloc: Global, folder: &str, path: &str) -> Result<String, AllocError>
-    ensures { IfOk result (λ whole. string_bytes whole ≡ path_from folder.now path.now) }
-{
-    if is_rooted(path) {
-        return String::from_str(alloc, path);
-    }
-    path_below(alloc, folder, path)
-}
-
 /// The place to which a path leads that is written in a folder.
-pub fn place_of(alloc: Global, folder: &str, path: &str) -> Result<String, AllocError>
+pub fn place_of(alloc: Global, folder: &str, path: &str) -> AllocResult<String>
     ensures { IfOk result (λ place. string_bytes place ≡ place_of folder.now path.now) }
 {
-    let whole = path_from(alloc, folder, path)?;
+    let whole = join(alloc, folder, path)?;
     normalized(alloc, whole.as_str())
 }
 
 /// The path of the manifest in a folder.
-pub fn manifest_path(alloc: Global, folder: &str) -> Result<String, AllocError>
+pub fn manifest_path(alloc: Global, folder: &str) -> AllocResult<String>
     ensures { IfOk result (λ path. string_bytes path ≡ manifest_path folder.now) }
 {
-    path_below(alloc, folder, "Cargo.toml")
+    join(alloc, folder, "Cargo.toml")
 }
 
 /// Whether a place is another, or lies in it.
-pub fn lies_in(alloc: Global, place: &str, outer: &str) -> Result<bool, AllocError>
+pub fn lies_in(alloc: Global, place: &str, outer: &str) -> AllocResult<bool>
     ensures { IfOk result (λ b. b ≡ lies_in place.now outer.now) }
 {
     if place == outer {
         return Ok(true);
     }
-    let front = path_below(alloc, outer, "")?;
+    let front = join(alloc, outer, "")?;
     Ok(place.as_bytes().starts_with(front.as_str().as_bytes()))
 }
 
 /// Whether what lies at a path is this one of the entries of a list in `root`, or lies in it.
-fn lies_in_entry(alloc: Global, root: &str, path: &str, entry: &str) -> Result<bool, AllocError>
-    ensures { IfOk result (λ b. b ≡ lies_in path.now (compared (path_from root.now entry.now))) }
+fn lies_in_entry(alloc: Global, root: &str, path: &str, entry: &str) -> AllocResult<bool>
+    ensures { IfOk result (λ b. b ≡ lies_in path.now (compared (path_join root.now entry.now))) }
 {
-    let whole = path_from(alloc, root, entry)?;
+    let whole = join(alloc, root, entry)?;
     let outer = compared(alloc, whole.as_str())?;
     lies_in(alloc, path, outer.as_str())
 }
 
-fn lies_in_some(
-    alloc: Global,
-    root: &str,
-    path: &str,
-    entries: &[String],
-) -> Result<bool, AllocError>
+fn lies_in_some(alloc: Global, root: &str, path: &str, entries: &[String]) -> AllocResult<bool>
     ensures { IfOk result
         (λ b. b ≡ lies_in_some root.now path.now (map string_bytes entries.now)) }
 {
@@ -176,33 +153,23 @@ fn lies_in_some(
     Ok(false)
 }
 
-/// The lists of a workspace that say which folders aren't its members.
-#[derive(Clone, Copy)]
-pub struct Limits<'a> {
-    /// The folder of the workspace.
-    pub root: &'a str,
-    /// What it excludes.
-    pub exclude: &'a [String],
-    /// What wins over that, as it is written.
-    pub members: &'a [String],
-}
-
-/// Whether a workspace excludes what lies at a place.
-pub fn excludes(alloc: Global, limits: Limits<'_>, place: &str) -> Result<bool, AllocError>
-    ensures { IfOk result (λ b. b ≡ excludes limits.entry.root.now
-        (map string_bytes limits.entry.exclude.now) (map string_bytes limits.entry.members.now)
-        place.now) }
+/// Whether a workspace in `root` excludes what lies at a place. What `members` lists wins, as it is
+/// written.
+pub fn excludes(alloc: Global, root: &str, workspace: &Workspace, place: &str) -> AllocResult<bool>
+    ensures { IfOk result (λ b. b ≡ excludes root.now
+        (map string_bytes workspace.now.exclude.items)
+        (map string_bytes workspace.now.members.items) place.now) }
 {
     let path = manifest_path(alloc, place)?;
-    if !lies_in_some(alloc, limits.root, path.as_str(), limits.exclude)? {
+    if !lies_in_some(alloc, root, path.as_str(), workspace.exclude.as_slice())? {
         return Ok(false);
     }
-    Ok(!lies_in_some(alloc, limits.root, path.as_str(), limits.members)?)
+    Ok(!lies_in_some(alloc, root, path.as_str(), workspace.members.as_slice())?)
 }
 
 /// A place as it is seen from a folder, for people. What has no folder in common with it is told by
 /// its whole path.
-pub fn seen_from(alloc: Global, root: &str, place: &str) -> Result<String, AllocError> {
+pub fn seen_from(alloc: Global, root: &str, place: &str) -> AllocResult<String> {
     let mut up = String::new(alloc);
     let mut outer = root;
     for _ in 0..root.len() {
@@ -213,15 +180,15 @@ pub fn seen_from(alloc: Global, root: &str, place: &str) -> Result<String, Alloc
                 Ok(up)
             };
         }
-        let front = path_below(alloc, outer, "")?;
+        let front = join(alloc, outer, "")?;
         if let Some(rest) = place.strip_prefix(front.as_str()) {
-            return path_below(alloc, up.as_str(), rest);
+            return join(alloc, up.as_str(), rest);
         }
         outer = match outer.rsplit_once('/') {
             Some((parent, _)) if !parent.is_empty() => parent,
             _ => break,
         };
-        up = path_below(alloc, up.as_str(), "..")?;
+        up = join(alloc, up.as_str(), "..")?;
     }
     String::from_str(alloc, place)
 }

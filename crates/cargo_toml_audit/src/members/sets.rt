@@ -2,19 +2,14 @@
 ghost use Rattle.std.specs.Prelude.{◌≡◌, ◌++◌, ◌&&◌, ◌||◌, [], ◌∷◌, ℕ, IfOk, List, OnOk, bytes_eq};
 ghost use Rattle.std.specs.Prelude.{if◌then◌else◌, map, string_bytes};
 ghost use Rattle.std.specs.BTreeSet.{contains_text};
-ghost use Rattle.cargo_toml_audit.specs.MemberFolders.{repeats};
-ghost use Rattle.cargo_toml_audit.specs.Places.{is_in};
+ghost use Rattle.cargo_toml_audit.specs.{MemberFolders.repeats, Places.is_in};
 
-use std::alloc::{AllocError, Global};
+use crate::AllocResult;
+use std::alloc::Global;
 use std::collections::BTreeSet;
 
 /// Puts a text into a set, where it is one.
-pub fn note(
-    alloc: Global,
-    set: &mut BTreeSet<String>,
-    text: &str,
-    is_one: bool,
-) -> Result<(), AllocError>
+pub fn note(alloc: Global, set: &mut BTreeSet<String>, text: &str, is_one: bool) -> AllocResult<()>
     ensures { OnOk result ((t : List ℕ) → contains_text set.new t
         ≡ (contains_text set.old t || (is_one && bytes_eq text.now t))) }
 {
@@ -26,7 +21,7 @@ pub fn note(
 }
 
 /// The texts as a set.
-pub fn set_of(alloc: Global, texts: &[String]) -> Result<BTreeSet<String>, AllocError>
+pub fn set_of(alloc: Global, texts: &[String]) -> AllocResult<BTreeSet<String>>
     ensures { IfOk result
         (λ set. (t : List ℕ) → contains_text set t ≡ is_in (map string_bytes texts.now) t) }
 {
@@ -38,7 +33,7 @@ pub fn set_of(alloc: Global, texts: &[String]) -> Result<BTreeSet<String>, Alloc
 }
 
 /// The texts that stand in a list once more, each time.
-pub fn repeats(alloc: Global, texts: &[String]) -> Result<Vec<String>, AllocError>
+pub fn repeats(alloc: Global, texts: &[String]) -> AllocResult<Vec<String>>
     ensures { IfOk result
         (λ all. map string_bytes all.items ≡ repeats (map string_bytes texts.now)) }
 {
@@ -52,7 +47,7 @@ pub fn repeats(alloc: Global, texts: &[String]) -> Result<Vec<String>, AllocErro
 }
 
 /// Adds a text, where that holds.
-fn push_if(all: &mut Vec<String>, text: &String, holds: bool) -> Result<(), AllocError>
+fn push_if(all: &mut Vec<String>, text: &String, holds: bool) -> AllocResult<()>
     ensures { OnOk result (map string_bytes all.new.items
         ≡ map string_bytes all.old.items ++ (if holds then string_bytes text.now ∷ [] else [])) }
 {

@@ -2,22 +2,23 @@
 //!
 //! What the system answers is kept, and it is asked once of each path. So a clause speaks of any
 //! disk that answers so.
-ghost use Rattle.std.specs.Prelude.{◌≡◌, ◌++◌, ◌&&◌, ◌∷◌, [], IfOk, OnOk, if◌then◌else◌, map};
-ghost use Rattle.std.specs.Prelude.{not, string_bytes};
-ghost use Rattle.std.specs.BTreeMap.{IsEmpty};
+ghost use Rattle.std.specs.Prelude.{◌≡◌, ◌&&◌, IfOk, map, not, string_bytes};
+ghost use Rattle.std.specs.{BTreeMap.IsEmpty, List.flat_map};
 ghost use Rattle.cargo_toml.specs.RealFiles.{is_absent};
-ghost use Rattle.cargo_toml_audit.specs.MemberFolders.{Adds, Tells, all_below, begins_at, below};
+ghost use Rattle.cargo_toml_audit.specs.MemberFolders.{Tells, all_below, begins_at, below};
 ghost use Rattle.cargo_toml_audit.specs.MemberFolders.{by_found, by_link, ended, further};
-ghost use Rattle.cargo_toml_audit.specs.MemberFolders.{further_in};
-ghost use Rattle.cargo_toml_audit.specs.MemberFolders.{is_plain, is_there, led, led_to, matched};
-ghost use Rattle.cargo_toml_audit.specs.MemberFolders.{named_so, own_if, path_if, place_if};
-ghost use Rattle.cargo_toml_audit.specs.MemberFolders.{places_of};
-ghost use Rattle.cargo_toml_audit.specs.MemberFolders.{skips, subfolders, with_dots};
+ghost use Rattle.cargo_toml_audit.specs.MemberFolders.{further_in, is_plain, is_there, led, led_to};
+ghost use Rattle.cargo_toml_audit.specs.MemberFolders.{matched, named_so, own_if, path_if};
+ghost use Rattle.cargo_toml_audit.specs.MemberFolders.{place_if, places_if_right, places_of, skips};
+ghost use Rattle.cargo_toml_audit.specs.MemberFolders.{subfolders, with_dots};
 ghost use Rattle.cargo_toml_audit.specs.Patterns.{begins_with_dot, part_of};
 
+use super::is_wrong;
 use super::patterns::{Token, is_deep, is_pattern, matches, tokens_of};
-use super::places::{normalized, path_below, pieces, place_of};
-use std::alloc::{AllocError, Global};
+use super::places::{normalized, pieces, place_of};
+use crate::AllocResult;
+use cargo_toml_parts::paths::join;
+use std::alloc::Global;
 use std::collections::BTreeMap;
 use std::rt::Files;
 use std::{fs, io};
@@ -51,36 +52,269 @@ pub struct Looks {
     pub names: BTreeMap<String, Listing>,
 }
 
-impl Looks {
+/// What the system answers through a runtime. It is asked once of each path.
+#[derive(Drop)]
+pub struct Looking<'a, R> {
+    /// The runtime.
+    pub rt: &'a R,
+    /// What was answered.
+    pub looks: Looks,
+}
+
+impl<'a, R: Files + AllocGlobal> Looking<'a, R> {
     /// Nothing was asked yet.
-    pub fn new(alloc: Global) -> Looks
-        ensures there { IsEmpty result.there }
-        ensures names { IsEmpty result.names }
+    pub fn new(rt: &'a R) -> Looking<'a, R>
+        ensures there { IsEmpty result.looks.there }
+        ensures names { IsEmpty result.looks.names }
     {
-        Looks {
-            there: BTreeMap::new(alloc),
-            names: BTreeMap::new(alloc),
+        let looks = Looks {
+            there: BTreeMap::new(rt.alloc()),
+            names: BTreeMap::new(rt.alloc()),
+        };
+        Looking { rt, looks }
+    }
+
+    /// What lies at a path.
+    pub fn look_at(&mut self, path: &str) -> AllocResult<There>
+        ensures { IfOk result (λ t. Tells (λ d. d.there path.now) self.old.looks self.new.looks t) }
+    {
+        if let Some(there) = self.looks.there.get(path) {
+            return Ok(*there);
         }
+        let there = asked(self.rt, path);
+        self.looks
+            .there
+            .insert(String::from_str(self.rt.alloc(), path)?, there)?;
+        Ok(there)
+    }
+
+    /// The names of what lies in a folder, as far as it can be read.
+    fn names_in(&mut self, folder: &str) -> AllocResult<Vec<String>>
+        ensures { IfOk result (λ names. Tells (λ d. d.names folder.now)
+            self.old.looks self.new.looks (map string_bytes names.items)) }
+    {
+        if let Some(listing) = self.looks.names.get(folder) {
+            return copied(self.rt.alloc(), listing.names.as_slice());
+        }
+        let listing = listed_in(self.rt, folder)?;
+        let names = copied(self.rt.alloc(), listing.names.as_slice())?;
+        self.looks
+            .names
+            .insert(String::from_str(self.rt.alloc(), folder)?, listing)?;
+        Ok(names)
+    }
+
+    /// The places that the entries of a list in `root` lead to, one entry after the other. One that
+    /// Cargo can't read leads nowhere.
+    pub fn listed(&mut self, root: &str, entries: &[String]) -> AllocResult<Vec<String>>
+        ensures { IfOk result (λ places. Tells
+            (λ d. flat_map (places_if_right d root.now) (map string_bytes entries.now))
+            self.old.looks self.new.looks (map string_bytes places.items)) }
+    {
+        let mut all = Vec::new(self.rt.alloc());
+        for entry in entries {
+            let mut places = self.places_of_entry(root, entry.as_str())?;
+            all.append(&mut places)?;
+        }
+        Ok(all)
+    }
+
+    /// The places that an entry of a list in `root` leads to, unless Cargo can't read it.
+    pub fn places_of_entry(&mut self, root: &str, entry: &str) -> AllocResult<Vec<String>>
+        ensures { IfOk result (λ places. Tells (λ d. places_if_right d root.now entry.now)
+            self.old.looks self.new.looks (map string_bytes places.items)) }
+    {
+        if is_wrong(self.rt.alloc(), entry)? {
+            return Ok(Vec::new(self.rt.alloc()));
+        }
+        self.places_of(root, entry)
+    }
+
+    /// The places that an entry of a list in `root` leads to: folders that its names stand for.
+    /// Where nothing lies there, it stands for itself.
+    fn places_of(&mut self, root: &str, entry: &str) -> AllocResult<Vec<String>>
+        ensures { IfOk result (λ places. Tells (λ d. places_of d root.now entry.now)
+            self.old.looks self.new.looks (map string_bytes places.items)) }
+    {
+        let found = self.led_to(root, entry)?;
+        let mut places = own_if(self.rt.alloc(), found.is_empty(), root, entry)?;
+        for path in found.as_slice() {
+            let mut place = self.place_if(path.as_str())?;
+            places.append(&mut place)?;
+        }
+        Ok(places)
+    }
+
+    /// The place of a path, where a folder lies there.
+    fn place_if(&mut self, path: &str) -> AllocResult<Vec<String>>
+        ensures { IfOk result (λ places. Tells (λ d. place_if d path.now)
+            self.old.looks self.new.looks (map string_bytes places.items)) }
+    {
+        let mut places = Vec::new(self.rt.alloc());
+        if self.look_at(path)? != There::Folder {
+            return Ok(places);
+        }
+        places.push(normalized(self.rt.alloc(), path)?)?;
+        Ok(places)
+    }
+
+    /// What lies where the names of an entry lead.
+    fn led_to(&mut self, root: &str, entry: &str) -> AllocResult<Vec<String>>
+        ensures { IfOk result (λ paths. Tells (λ d. led_to d root.now entry.now)
+            self.old.looks self.new.looks (map string_bytes paths.items)) }
+    {
+        let names = pieces(self.rt.alloc(), entry)?;
+        let start = begins_at(root, entry);
+        self.led((start, false), names.as_slice())
+    }
+
+    /// What names lead to from a path, at times right behind `**`.
+    fn led(&mut self, from: (&str, bool), names: &[&str]) -> AllocResult<Vec<String>>
+        ensures { IfOk result (λ paths. Tells
+            (λ d. led d from.entry.1 (map (λ t. t.now) names.now) from.entry.0.now)
+            self.old.looks self.new.looks (map string_bytes paths.items)) }
+    {
+        let Some((name, others)) = names.split_first() else {
+            return self.ended(from);
+        };
+        if skips(*name, from.1) {
+            return self.led((from.0, true), others);
+        }
+        let next = self.further(from, *name)?;
+        let mut all = Vec::new(self.rt.alloc());
+        for path in next.as_slice() {
+            let mut paths = self.led((path.as_str(), false), others)?;
+            all.append(&mut paths)?;
+        }
+        Ok(all)
+    }
+
+    /// Where names end: the path itself, or behind `**` each folder below it.
+    fn ended(&mut self, from: (&str, bool)) -> AllocResult<Vec<String>>
+        ensures { IfOk result (λ paths. Tells (λ d. ended d from.entry.1 from.entry.0.now)
+            self.old.looks self.new.looks (map string_bytes paths.items)) }
+    {
+        let mut all = Vec::new(self.rt.alloc());
+        if !from.1 {
+            all.push(String::from_str(self.rt.alloc(), from.0)?)?;
+            return Ok(all);
+        }
+        let folders = self.subfolders(from.0)?;
+        for folder in folders.as_slice() {
+            let mut paths = self.all_below(folder.as_str())?;
+            all.append(&mut paths)?;
+        }
+        Ok(all)
+    }
+
+    /// What a name leads to from a path: right behind `**`, from that and from each folder below
+    /// it.
+    fn further(&mut self, from: (&str, bool), name: &str) -> AllocResult<Vec<String>>
+        ensures { IfOk result (λ all. Tells (λ d. further d from.entry.1 name.now from.entry.0.now)
+            self.old.looks self.new.looks (map string_bytes all.items)) }
+    {
+        if !from.1 {
+            return self.further_in(from, name);
+        }
+        let folders = self.all_below(from.0)?;
+        let mut all = Vec::new(self.rt.alloc());
+        for folder in folders.as_slice() {
+            let mut paths = self.further_in((folder.as_str(), true), name)?;
+            all.append(&mut paths)?;
+        }
+        Ok(all)
+    }
+
+    /// What a name leads to in a folder, at times right behind `**`.
+    fn further_in(&mut self, from: (&str, bool), name: &str) -> AllocResult<Vec<String>>
+        ensures { IfOk result (λ all. Tells
+            (λ d. further_in d from.entry.1 name.now from.entry.0.now)
+            self.old.looks self.new.looks (map string_bytes all.items)) }
+    {
+        if is_plain(name, from.1) {
+            let path = join(self.rt.alloc(), from.0, name)?;
+            return self.path_if(path, false);
+        }
+        let Some(pattern) = tokens_of(self.rt.alloc(), name)? else {
+            return Ok(Vec::new(self.rt.alloc()));
+        };
+        self.matched(from, pattern.as_slice())
+    }
+
+    /// A path where something lies, or where a folder lies.
+    fn path_if(&mut self, path: String, is_folder: bool) -> AllocResult<Vec<String>>
+        ensures { IfOk result (λ all. Tells (λ d. path_if d is_folder (string_bytes path))
+            self.old.looks self.new.looks (map string_bytes all.items)) }
+    {
+        let mut all = Vec::new(self.rt.alloc());
+        if !is_there(self.look_at(path.as_str())?, is_folder) {
+            return Ok(all);
+        }
+        all.push(path)?;
+        Ok(all)
+    }
+
+    /// What lies in a folder and has a name that the pattern matches.
+    fn matched(&mut self, from: (&str, bool), pattern: &[Token]) -> AllocResult<Vec<String>>
+        ensures { IfOk result (λ all. Tells
+            (λ d. matched d from.entry.1 (map part_of pattern.now) from.entry.0.now)
+            self.old.looks self.new.looks (map string_bytes all.items)) }
+    {
+        if self.look_at(from.0)? != There::Folder {
+            return Ok(Vec::new(self.rt.alloc()));
+        }
+        let names = self.names_in(from.0)?;
+        let names = with_dots(self.rt.alloc(), names, wants_dots(pattern, from.1))?;
+        named_so(self.rt.alloc(), from.0, pattern, names.as_slice())
+    }
+
+    /// A folder and all below it.
+    fn all_below(&mut self, folder: &str) -> AllocResult<Vec<String>>
+        ensures { IfOk result (λ all. Tells (λ d. all_below d folder.now)
+            self.old.looks self.new.looks (map string_bytes all.items)) }
+    {
+        self.below(folder, MAX_DEPTH)
+    }
+
+    /// A folder and all below it, so many levels of them.
+    fn below(&mut self, folder: &str, levels: usize) -> AllocResult<Vec<String>>
+        ensures { IfOk result (λ all. Tells (λ d. below d levels folder.now)
+            self.old.looks self.new.looks (map string_bytes all.items)) }
+    {
+        let mut all = Vec::new(self.rt.alloc());
+        if levels == 0 {
+            return Ok(all);
+        }
+        all.push(String::from_str(self.rt.alloc(), folder)?)?;
+        let folders = self.subfolders(folder)?;
+        for next in folders.as_slice() {
+            let mut paths = self.below(next.as_str(), levels - 1)?;
+            all.append(&mut paths)?;
+        }
+        Ok(all)
+    }
+
+    /// The folders that lie right in one.
+    fn subfolders(&mut self, folder: &str) -> AllocResult<Vec<String>>
+        ensures { IfOk result (λ all. Tells (λ d. subfolders d folder.now)
+            self.old.looks self.new.looks (map string_bytes all.items)) }
+    {
+        let mut all = Vec::new(self.rt.alloc());
+        if self.look_at(folder)? != There::Folder {
+            return Ok(all);
+        }
+        let names = self.names_in(folder)?;
+        for name in names.as_slice() {
+            let path = join(self.rt.alloc(), folder, name.as_str())?;
+            let mut paths = self.path_if(path, true)?;
+            all.append(&mut paths)?;
+        }
+        Ok(all)
     }
 }
 
-/// What lies at a path.
-pub fn look_at<R: Files + AllocGlobal>(
-    rt: &R,
-    looks: &mut Looks,
-    path: &str,
-) -> Result<There, AllocError>
-    ensures { IfOk result (λ t. Tells (λ d. d.there path.now) looks.old looks.new t) }
-{
-    if let Some(there) = looks.there.get(path) {
-        return Ok(*there);
-    }
-    let there = asked(rt, path);
-    looks
-        .there
-        .insert(String::from_str(rt.alloc(), path)?, there)?;
-    Ok(there)
-}
+/// How many folders deep `**` looks. The system takes no path that goes deeper.
+const MAX_DEPTH: usize = 2048;
 
 fn asked<R: Files>(rt: &R, path: &str) -> There {
     match fs::metadata(rt, path) {
@@ -112,34 +346,15 @@ fn of_link(kind: io::ErrorKind, link: io::Result<fs::Metadata>) -> There
     }
 }
 
-fn is_absent(kind: io::ErrorKind) -> bool
+/// Whether nothing lies at a path that fails so: a name is missing, or it leads through a file.
+pub fn is_absent(kind: io::ErrorKind) -> bool
     ensures { result ≡ is_absent kind }
 {
     matches!(kind, io::ErrorKind::NotFound | io::ErrorKind::NotADirectory)
 }
 
-/// The names of what lies in a folder, as far as it can be read.
-fn names_in<R: Files + AllocGlobal>(
-    rt: &R,
-    looks: &mut Looks,
-    folder: &str,
-) -> Result<Vec<String>, AllocError>
-    ensures { IfOk result (λ names. Tells (λ d. d.names folder.now)
-        looks.old looks.new (map string_bytes names.items)) }
-{
-    if let Some(listing) = looks.names.get(folder) {
-        return copied(rt.alloc(), listing.names.as_slice());
-    }
-    let listing = listed_in(rt, folder)?;
-    let names = copied(rt.alloc(), listing.names.as_slice())?;
-    looks
-        .names
-        .insert(String::from_str(rt.alloc(), folder)?, listing)?;
-    Ok(names)
-}
-
 /// Reads the names of what lies in a folder. A name that is no UTF-8 is passed over.
-fn listed_in<R: Files + AllocGlobal>(rt: &R, folder: &str) -> Result<Listing, AllocError> {
+fn listed_in<R: Files + AllocGlobal>(rt: &R, folder: &str) -> AllocResult<Listing> {
     let mut names = Vec::new(rt.alloc());
     let mut is_whole = true;
     let Ok(entries) = fs::read_dir(&rt, folder) else {
@@ -158,7 +373,7 @@ fn listed_in<R: Files + AllocGlobal>(rt: &R, folder: &str) -> Result<Listing, Al
     Ok(Listing { names, is_whole })
 }
 
-fn copied(alloc: Global, texts: &[String]) -> Result<Vec<String>, AllocError>
+fn copied(alloc: Global, texts: &[String]) -> AllocResult<Vec<String>>
     ensures { IfOk result (λ v. map string_bytes v.items ≡ map string_bytes texts.now) }
 {
     let mut all = Vec::new(alloc);
@@ -168,27 +383,8 @@ fn copied(alloc: Global, texts: &[String]) -> Result<Vec<String>, AllocError>
     Ok(all)
 }
 
-/// The places that an entry of a list in `root` leads to: folders that its names stand for. Where
-/// nothing lies there, it stands for itself.
-pub fn places_of<R: Files + AllocGlobal>(
-    rt: &R,
-    looks: &mut Looks,
-    root: &str,
-    entry: &str,
-) -> Result<Vec<String>, AllocError>
-    ensures { IfOk result (λ places. Tells (λ d. places_of d root.now entry.now)
-        looks.old looks.new (map string_bytes places.items)) }
-{
-    let found = led_to(rt, looks, root, entry)?;
-    let mut places = own_if(rt.alloc(), found.is_empty(), root, entry)?;
-    for path in found.as_slice() {
-        add_place(rt, looks, path.as_str(), &mut places)?;
-    }
-    Ok(places)
-}
-
 /// The place of an entry that stands for itself.
-fn own_if(alloc: Global, holds: bool, root: &str, entry: &str) -> Result<Vec<String>, AllocError>
+fn own_if(alloc: Global, holds: bool, root: &str, entry: &str) -> AllocResult<Vec<String>>
     ensures { IfOk result
         (λ places. map string_bytes places.items ≡ own_if holds root.now entry.now) }
 {
@@ -199,70 +395,11 @@ fn own_if(alloc: Global, holds: bool, root: &str, entry: &str) -> Result<Vec<Str
     Ok(places)
 }
 
-/// Adds the place of a path, where a folder lies there.
-fn add_place<R: Files + AllocGlobal>(
-    rt: &R,
-    looks: &mut Looks,
-    path: &str,
-    places: &mut Vec<String>,
-) -> Result<(), AllocError>
-    ensures { OnOk result (Adds (λ d. place_if d path.now)
-        looks.old looks.new places.old.items places.new.items) }
-{
-    if look_at(rt, looks, path)? != There::Folder {
-        return Ok(());
-    }
-    places.push(normalized(rt.alloc(), path)?)?;
-    Ok(())
-}
-
-/// What lies where the names of an entry lead.
-fn led_to<R: Files + AllocGlobal>(
-    rt: &R,
-    looks: &mut Looks,
-    root: &str,
-    entry: &str,
-) -> Result<Vec<String>, AllocError>
-    ensures { IfOk result (λ paths. Tells (λ d. led_to d root.now entry.now)
-        looks.old looks.new (map string_bytes paths.items)) }
-{
-    let names = pieces(rt.alloc(), entry)?;
-    let start = begins_at(root, entry);
-    let mut all = Vec::new(rt.alloc());
-    add_led(rt, looks, (start, false), names.as_slice(), &mut all)?;
-    Ok(all)
-}
-
 /// Where an entry begins: in the root, or where all paths begin.
 fn begins_at<'a>(root: &'a str, entry: &str) -> &'a str
     ensures { result.now ≡ begins_at root.now entry.now }
 {
     if entry.starts_with('/') { "/" } else { root }
-}
-
-/// Adds what names lead to from a path, at times right behind `**`.
-fn add_led<R: Files + AllocGlobal>(
-    rt: &R,
-    looks: &mut Looks,
-    from: (&str, bool),
-    names: &[&str],
-    all: &mut Vec<String>,
-) -> Result<(), AllocError>
-    ensures { OnOk result (Adds
-        (λ d. led d from.entry.1 (map (λ t. t.now) names.now) from.entry.0.now)
-        looks.old looks.new all.old.items all.new.items) }
-{
-    let Some((name, others)) = names.split_first() else {
-        return add_end(rt, looks, from, all);
-    };
-    if skips(*name, from.1) {
-        return add_led(rt, looks, (from.0, true), others, all);
-    }
-    let next = further(rt, looks, from, *name)?;
-    for path in next.as_slice() {
-        add_led(rt, looks, (path.as_str(), false), others, all)?;
-    }
-    Ok(())
 }
 
 /// Whether a name is `**`, or the empty one behind a slash right behind that.
@@ -272,93 +409,11 @@ fn skips(name: &str, is_behind: bool) -> bool
     is_deep(name) || (is_behind && name.is_empty())
 }
 
-/// Adds where names end: at the path itself, or behind `**` at each folder below it.
-fn add_end<R: Files + AllocGlobal>(
-    rt: &R,
-    looks: &mut Looks,
-    from: (&str, bool),
-    all: &mut Vec<String>,
-) -> Result<(), AllocError>
-    ensures { OnOk result (Adds (λ d. ended d from.entry.1 from.entry.0.now)
-        looks.old looks.new all.old.items all.new.items) }
-{
-    if !from.1 {
-        all.push(String::from_str(rt.alloc(), from.0)?)?;
-        return Ok(());
-    }
-    let folders = subfolders(rt, looks, from.0)?;
-    for folder in folders.as_slice() {
-        add_all_below(rt, looks, folder.as_str(), all)?;
-    }
-    Ok(())
-}
-
-/// What a name leads to from a path: right behind `**`, from that and from each folder below it.
-fn further<R: Files + AllocGlobal>(
-    rt: &R,
-    looks: &mut Looks,
-    from: (&str, bool),
-    name: &str,
-) -> Result<Vec<String>, AllocError>
-    ensures { IfOk result (λ all. Tells (λ d. further d from.entry.1 name.now from.entry.0.now)
-        looks.old looks.new (map string_bytes all.items)) }
-{
-    let mut all = Vec::new(rt.alloc());
-    if !from.1 {
-        add_further(rt, looks, from, name, &mut all)?;
-        return Ok(all);
-    }
-    let mut folders = Vec::new(rt.alloc());
-    add_all_below(rt, looks, from.0, &mut folders)?;
-    for folder in folders.as_slice() {
-        add_further(rt, looks, (folder.as_str(), true), name, &mut all)?;
-    }
-    Ok(all)
-}
-
-/// Adds what a name leads to in a folder, at times right behind `**`.
-fn add_further<R: Files + AllocGlobal>(
-    rt: &R,
-    looks: &mut Looks,
-    from: (&str, bool),
-    name: &str,
-    all: &mut Vec<String>,
-) -> Result<(), AllocError>
-    ensures { OnOk result (Adds (λ d. further_in d from.entry.1 name.now from.entry.0.now)
-        looks.old looks.new all.old.items all.new.items) }
-{
-    if is_plain(name, from.1) {
-        return add_if(rt, looks, path_below(rt.alloc(), from.0, name)?, false, all);
-    }
-    let Some(pattern) = tokens_of(rt.alloc(), name)? else {
-        return Ok(());
-    };
-    add_matched(rt, looks, from, pattern.as_slice(), all)
-}
-
 /// Whether a name stands for itself.
 fn is_plain(name: &str, is_behind: bool) -> bool
     ensures { result ≡ is_plain is_behind name.now }
 {
     !is_behind && !is_pattern(name)
-}
-
-/// Adds a path where something lies, or where a folder lies.
-fn add_if<R: Files + AllocGlobal>(
-    rt: &R,
-    looks: &mut Looks,
-    path: String,
-    is_folder: bool,
-    all: &mut Vec<String>,
-) -> Result<(), AllocError>
-    ensures { OnOk result (Adds (λ d. path_if d is_folder (string_bytes path))
-        looks.old looks.new all.old.items all.new.items) }
-{
-    if !is_there(look_at(rt, looks, path.as_str())?, is_folder) {
-        return Ok(());
-    }
-    all.push(path)?;
-    Ok(())
 }
 
 fn is_there(there: There, is_folder: bool) -> bool
@@ -371,28 +426,8 @@ fn is_there(there: There, is_folder: bool) -> bool
     }
 }
 
-/// Adds what lies in a folder and has a name that the pattern matches.
-fn add_matched<R: Files + AllocGlobal>(
-    rt: &R,
-    looks: &mut Looks,
-    from: (&str, bool),
-    pattern: &[Token],
-    all: &mut Vec<String>,
-) -> Result<(), AllocError>
-    ensures { OnOk result (Adds
-        (λ d. matched d from.entry.1 (map part_of pattern.now) from.entry.0.now)
-        looks.old looks.new all.old.items all.new.items) }
-{
-    if look_at(rt, looks, from.0)? != There::Folder {
-        return Ok(());
-    }
-    let names = names_in(rt, looks, from.0)?;
-    let names = with_dots(rt.alloc(), names, wants_dots(pattern, from.1))?;
-    add_named(rt.alloc(), from.0, pattern, names.as_slice(), all)
-}
-
 /// The names, with `.` and `..` where these are wanted.
-fn with_dots(alloc: Global, names: Vec<String>, wants_dots: bool) -> Result<Vec<String>, AllocError>
+fn with_dots(alloc: Global, names: Vec<String>, wants_dots: bool) -> AllocResult<Vec<String>>
     ensures { IfOk result
         (λ all. map string_bytes all.items ≡ with_dots wants_dots (map string_bytes names.items)) }
 {
@@ -412,81 +447,22 @@ fn wants_dots(pattern: &[Token], is_behind: bool) -> bool
     !is_behind && matches!(pattern, [Token::Just('.'), ..])
 }
 
-/// Adds the paths of those names in a folder that the pattern matches.
-fn add_named(
+/// The paths of those names in a folder that the pattern matches.
+fn named_so(
     alloc: Global,
     folder: &str,
     pattern: &[Token],
     names: &[String],
-    all: &mut Vec<String>,
-) -> Result<(), AllocError>
-    ensures { OnOk result (map string_bytes all.new.items ≡ map string_bytes all.old.items
-        ++ named_so folder.now (map part_of pattern.now) (map string_bytes names.now)) }
+) -> AllocResult<Vec<String>>
+    ensures { IfOk result (λ all. map string_bytes all.items
+        ≡ named_so folder.now (map part_of pattern.now) (map string_bytes names.now)) }
 {
+    let mut all = Vec::new(alloc);
     for name in names {
         let name = name.as_str();
         if matches(alloc, pattern, name)? {
-            all.push(path_below(alloc, folder, name)?)?;
+            all.push(join(alloc, folder, name)?)?;
         }
-    }
-    Ok(())
-}
-
-/// Adds a folder and all below it.
-fn add_all_below<R: Files + AllocGlobal>(
-    rt: &R,
-    looks: &mut Looks,
-    folder: &str,
-    all: &mut Vec<String>,
-) -> Result<(), AllocError>
-    ensures { OnOk result (Adds (λ d. all_below d folder.now)
-        looks.old looks.new all.old.items all.new.items) }
-{
-    add_below(rt, looks, folder, MAX_DEPTH, all)
-}
-
-/// How many folders deep `**` looks. The system takes no path that goes deeper.
-const MAX_DEPTH: usize = 2048;
-
-/// Adds a folder and all below it, so many levels of them.
-fn add_below<R: Files + AllocGlobal>(
-    rt: &R,
-    looks: &mut Looks,
-    folder: &str,
-    levels: usize,
-    all: &mut Vec<String>,
-) -> Result<(), AllocError>
-    ensures { OnOk result (Adds (λ d. below d levels folder.now)
-        looks.old looks.new all.old.items all.new.items) }
-{
-    if levels == 0 {
-        return Ok(());
-    }
-    all.push(String::from_str(rt.alloc(), folder)?)?;
-    let folders = subfolders(rt, looks, folder)?;
-    for next in folders.as_slice() {
-        add_below(rt, looks, next.as_str(), levels - 1, all)?;
-    }
-    Ok(())
-}
-
-/// The folders that lie right in one.
-fn subfolders<R: Files + AllocGlobal>(
-    rt: &R,
-    looks: &mut Looks,
-    folder: &str,
-) -> Result<Vec<String>, AllocError>
-    ensures { IfOk result (λ all. Tells (λ d. subfolders d folder.now)
-        looks.old looks.new (map string_bytes all.items)) }
-{
-    let mut all = Vec::new(rt.alloc());
-    if look_at(rt, looks, folder)? != There::Folder {
-        return Ok(all);
-    }
-    let names = names_in(rt, looks, folder)?;
-    for name in names.as_slice() {
-        let path = path_below(rt.alloc(), folder, name.as_str())?;
-        add_if(rt, looks, path, true, &mut all)?;
     }
     Ok(all)
 }

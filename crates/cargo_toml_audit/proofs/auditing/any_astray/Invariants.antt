@@ -1,7 +1,4 @@
-use Rattle.std.proofs.Common.{◌≡◌, drop, map, string_bytes}
-use Rattle.std.specs.List.{list_any}
-use Rattle.cargo_toml_audit.specs.AuditSteps.{known_of}
-use Rattle.cargo_toml_audit.specs.AuditedFiles.{is_astray}
+use Rattle.cargo_toml_audit.proofs.Reports.{◌≡◌, drop, is_astray, known_of, list_any, map, string_bytes}
 use Rattle.cargo_toml_audit.proofs.auditing.any_astray.Given as goal
 
 abbrev pub invariant-loop-place : goal.invariant-loop-place

@@ -1,5 +1,4 @@
-use Rattle.std.proofs.Common.{inl}
-use Rattle.std.proofs.lemmas.Result.{err_from_is_err_and}
+use Rattle.cargo_toml_audit.proofs.Reports.{err_from_is_err_and, inl}
 use Rattle.cargo_toml_audit.proofs.auditing.audit.Goals as goal
 
 pub returns-in_err-start-clause-refused : goal.returns-in_err-start-clause-refused

@@ -1,11 +1,4 @@
-use Rattle.std.proofs.Common.{◌≡◌, ◌++◌, ◌∷◌, ◌∙◌, [], List, ap, map, not, string_bytes}
-use Rattle.std.proofs.lemmas.List.{map-append}
-use Rattle.std.specs.List.{flat_map}
-use Rattle.std.specs.Prelude.{filter}
-use Rattle.cargo_toml_audit.specs.AuditedFiles.{base_of, entered_places, found_in_lists, listed_places}
-use Rattle.cargo_toml_audit.specs.MemberFolders.{places_if_right}
-use Rattle.cargo_toml_audit.specs.Oddities.{oddities_of}
-use Rattle.cargo_toml_audit.specs.Places.{excludes, is_in}
+use Rattle.cargo_toml_audit.proofs.Reports.{[], ◌++◌, ◌∙◌, ◌∷◌, ◌≡◌, ap, base_of, entered_places, filter, flat_map, found_in_lists, is_excluded, is_in, listed_places, map, map-append, not, oddities_of, places_if_right, string_bytes}
 use Rattle.cargo_toml_audit.proofs.auditing.read_lists.Goals as goal
 
 pub returns : goal.returns
@@ -16,8 +9,7 @@ returns g c = λ d agrees.
     all.1 ∙ ap (λ es. flat_map (places_if_right d base.place) (map string_bytes es)) c.as_slice.ensures.value in
     let taken = ap (map string_bytes) c.as_slice-2.ensures.value ∙ listed in
     let entered : map string_bytes c.in_ok-first.first.items ≡ entered_places base d =
-    c.in_ok-first.ensures
-    ∙ (λ i. filter (λ p. not (excludes (c.limits.ensures.root i).now (map string_bytes (c.limits.ensures.exclude i)) (map string_bytes (c.limits.ensures.members i)) p)) (taken i)) in (
+    c.in_ok-first.ensures ∙ ap (filter (λ p. not (is_excluded base p))) taken in (
       all.0,
       record {
         first = ap (map string_bytes) c.in_ok-push.ensures.items ∙ map-append string_bytes c.in_ok-first.first.items _ ∙ (λ i. entered i ++ c.in_ok-from_str.ensures.ok i ∷ []);

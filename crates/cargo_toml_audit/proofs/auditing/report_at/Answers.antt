@@ -1,9 +1,4 @@
-use Rattle.std.proofs.Common.{◌≡◌, ◌∙◌, Some, ap, inl, subst, sym}
-use Rattle.std.proofs.lemmas.Result.{err_from_is_err_and}
-use Rattle.toml.specs.declared.value.Value.{Value}
-use Rattle.cargo_toml.specs.Action.{Text}
-use Rattle.cargo_toml.specs.Manifest.{Manifest}
-use Rattle.cargo_toml_tools.specs.FromFiles.{IsManifestIn}
+use Rattle.cargo_toml_audit.proofs.Reports.{◌∙◌, IsManifestIn, Manifest, Text, Value, err_from_is_err_and, inl, subst, sym}
 use Rattle.cargo_toml_audit.proofs.auditing.report_at.Goals as goal
 
 pub returns-in_err-held-clause-refused : goal.returns-in_err-held-clause-refused

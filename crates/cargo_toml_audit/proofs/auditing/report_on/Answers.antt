@@ -1,19 +1,4 @@
-use Rattle.std.proofs.Common.{◌≡◌, ◌++◌, ◌∙◌, [], List, Bool, ap, append-nil, append_assoc, map, string_bytes, subst}
-use Rattle.std.specs.BTreeSet.{contains_text}
-use Rattle.std.specs.Prelude.{Vec}
-use Rattle.std.specs.declared.alloc.Global.{Global}
-use Rattle.cargo_toml.specs.Action.{Text}
-use Rattle.cargo_toml.specs.Dependencies.{dependency_meaning}
-use Rattle.cargo_toml.specs.Reads.{map_meaning}
-use Rattle.cargo_toml_audit.specs.AuditSteps.{AreListed}
-use Rattle.cargo_toml_audit.specs.AuditedFiles.{AreRead, Base, IsReport, Takes, base_of, found_beside, gain_of_all, held_in}
-use Rattle.cargo_toml_audit.specs.MemberFolders.{disk_of}
-use Rattle.cargo_toml_audit.specs.Oddities.{Gain, oddities_of, only_found, overall_oddities}
-use Rattle.cargo_toml_audit.specs.Walks.{Walks}
-use Rattle.cargo_toml_audit.specs.declared.audit.Audit.{Audit}
-use Rattle.cargo_toml_audit.specs.declared.audit.Finding.{Finding}
-use Rattle.cargo_toml_audit.specs.declared.auditing.Lists.{Lists}
-use Rattle.cargo_toml_audit.specs.declared.members.walk.Looks.{Looks}
+use Rattle.cargo_toml_audit.proofs.Reports.{[], ◌++◌, ◌∙◌, ◌≡◌, AreListed, AreRead, Audit, Base, Bool, Finding, Gain, Global, IsReport, List, Lists, Looks, Takes, Text, Vec, Walks, ap, append-nil, append_assoc, base_of, contains_text, dependency_meaning, disk_of, found_beside, gain_of_all, held_in, map, map_meaning, oddities_of, only_found, overall_oddities, string_bytes, subst}
 use Rattle.cargo_toml_audit.proofs.Walked.{disk_agrees}
 use Rattle.cargo_toml_audit.proofs.auditing.report_on.Goals as goal
 
@@ -53,7 +38,7 @@ reported base asked looks lists members begun walked ended listed beside empty a
 
 pub returns-clause-report : goal.returns-clause-report
 returns-clause-report g c =
-    let looks = c.find_beside.new.looks in
+    let looks = c.find_beside.new.looking.looks in
     let beside = c.in_ok-find_beside.ensures (disk_of looks) (disk_agrees looks) in
     reported (base_of c.args.root) c.args.asked.now looks c.in_ok-lists.lists _ c.new-audit.result c.add_members.new.audit c.finish.new.self
     c.read_lists.new.findings c.find_beside.new.findings c.new-audit.ensures.empty (c.in_ok-lists.ensures (disk_of looks) beside.0).1

@@ -1,6 +1,4 @@
-use Rattle.std.proofs.Common.{◌≡◌, drop, map}
-use Rattle.std.specs.List.{list_any}
-use Rattle.cargo_toml_audit.specs.MemberFolders.{is_wrong, is_wrong_name}
+use Rattle.cargo_toml_audit.proofs.Paths.{◌≡◌, drop, is_wrong, is_wrong_name, list_any, map}
 use Rattle.cargo_toml_audit.proofs.members.is_wrong.Given as goal
 
 abbrev pub invariant-loop-name : goal.invariant-loop-name

@@ -1,6 +1,4 @@
-use Rattle.std.proofs.Common.{◌≡◌, ◌++◌, drop, map, string_bytes}
-use Rattle.std.specs.Prelude.{filter}
-use Rattle.cargo_toml_audit.specs.MemberFolders.{is_wrong}
+use Rattle.cargo_toml_audit.proofs.Paths.{◌++◌, ◌≡◌, drop, filter, is_wrong, map, string_bytes}
 use Rattle.cargo_toml_audit.proofs.members.wrong_entries.Given as goal
 
 abbrev pub invariant-loop-entry : goal.invariant-loop-entry

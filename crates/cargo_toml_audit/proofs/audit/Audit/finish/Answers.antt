@@ -1,16 +1,4 @@
-use Rattle.std.proofs.Common.{◌≡◌, ◌++◌, ◌∙◌, ap, append_assoc, false, map, string_bytes}
-use Rattle.std.proofs.lemmas.List.{map-append}
-use Rattle.std.specs.BTreeSet.{contains_text}
-use Rattle.std.specs.List.{flat_map}
-use Rattle.cargo_toml.specs.Action.{Text}
-use Rattle.cargo_toml.specs.Dependencies.{dependency_meaning}
-use Rattle.cargo_toml.specs.Reads.{map_meaning}
-use Rattle.cargo_toml_audit.specs.AuditedFiles.{held_in}
-use Rattle.cargo_toml_audit.specs.Entries.{asking_of}
-use Rattle.cargo_toml_audit.specs.MemberFolders.{repeats}
-use Rattle.cargo_toml_audit.specs.Oddities.{found_each, further_from, oddities_of, oddity_of, overall_oddities, shared_oddities}
-use Rattle.cargo_toml_audit.specs.Places.{is_in}
-use Rattle.cargo_toml_audit.specs.declared.audit.Code.TheVariants.{SameName}
+use Rattle.cargo_toml_audit.proofs.Reports.{◌++◌, ◌∙◌, ◌≡◌, SameName, Text, ap, append_assoc, asking_of, contains_text, dependency_meaning, false, flat_map, found_each, further_from, held_in, is_in, map, map-append, map_meaning, oddities_of, oddity_of, overall_oddities, repeats, shared_oddities, string_bytes}
 use Rattle.cargo_toml_audit.proofs.Taking.{takes_found}
 use Rattle.cargo_toml_audit.proofs.audit.Audit.finish.Goals as goal
 

@@ -1,8 +1,7 @@
-use Rattle.std.proofs.Common.{◌≡◌, map, string_bytes, take}
-use Rattle.std.specs.List.{flat_map}
-use Rattle.cargo_toml_audit.specs.AuditedFiles.{base_of, need_by}
-use Rattle.cargo_toml_audit.specs.Entries.{listed_of}
+use Rattle.cargo_toml_audit.proofs.Reports.{◌++◌, ◌≡◌, base_of, drop, flat_map, listed_of, map, need_by, string_bytes}
 use Rattle.cargo_toml_audit.proofs.audit.root.needs.Given as goal
 
 abbrev pub invariant-loop-entry : goal.invariant-loop-entry
-invariant-loop-entry l = map string_bytes l.all.items ≡ flat_map (need_by (base_of l.root) l.place) (map listed_of (take l.entry-index l.entry-items))
+invariant-loop-entry l =
+    map string_bytes l.all.items ++ flat_map (need_by (base_of l.root) l.place) (map listed_of (drop l.entry-index l.entry-items))
+    ≡ flat_map (need_by (base_of l.root) l.place) (map listed_of l.entry-items)

@@ -1,15 +1,10 @@
-use Rattle.std.proofs.Common.{◌≡◌, ◌++◌, ◌∙◌, ◌==◌, String, Global, List, [], ◌∷◌, ap, length, map, refl, string_bytes, sym}
-use Rattle.std.proofs.lemmas.Bool.{false≢true}
-use Rattle.std.proofs.lemmas.Result.{IfOk-weaker}
-use Rattle.std.specs.List.{flat_map, join_by}
-use Rattle.std.specs.Prelude.{codes}
-use Rattle.cargo_toml_audit.specs.Audited.{names_text}
-use Rattle.cargo_toml_audit.proofs.Walks.{flat_mapped}
+use Rattle.cargo_toml_audit.proofs.Reports.{[], ◌==◌, ◌∙◌, ◌∷◌, ◌≡◌, Global, IfOk-weaker, List, String, ap, codes, false≢true, join_by, length, map, names_text, refl, string_bytes, sym}
+use Rattle.cargo_toml_audit.proofs.Joined.{join_mapped}
 use Rattle.cargo_toml_audit.proofs.audit.summary.joined.Goals as goal
 
 names_joined : (xs : List (String Global)) → (xs ≡ [] → ⊥) → join_by string_bytes (codes ", ") xs ≡ names_text (map string_bytes xs)
 names_joined [] some = absurd (some refl)
-names_joined (x ∷ xs) some = ap (λ t. string_bytes x ++ t) (flat_mapped (λ t. codes ", " ++ t) string_bytes xs)
+names_joined (x ∷ xs) some = join_mapped string_bytes (codes ", ") (x ∷ xs)
 
 pub returns : goal.returns
 returns c = IfOk-weaker c.join.result _ _

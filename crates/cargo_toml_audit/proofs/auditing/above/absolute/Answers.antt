@@ -1,6 +1,4 @@
-use Rattle.std.proofs.Common.{inl, inr}
-use Rattle.std.proofs.lemmas.Result.{err_from_is_err_and}
-use Rattle.cargo_toml_discovery.proofs.Faults.{from_input}
+use Rattle.cargo_toml_audit.proofs.Reports.{err_from_is_err_and, from_input, inl, inr}
 use Rattle.cargo_toml_audit.proofs.auditing.above.absolute.Goals as goal
 
 pub returns-in_err-metadata : goal.returns-in_err-metadata

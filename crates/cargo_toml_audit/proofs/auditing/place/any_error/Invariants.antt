@@ -1,5 +1,4 @@
-use Rattle.std.proofs.Common.{◌≡◌, drop}
-use Rattle.cargo_toml_audit.specs.AuditedFiles.{has_error}
+use Rattle.cargo_toml_audit.proofs.Reports.{◌≡◌, drop, has_error}
 use Rattle.cargo_toml_audit.proofs.auditing.place.any_error.Given as goal
 
 abbrev pub invariant-loop-found : goal.invariant-loop-found

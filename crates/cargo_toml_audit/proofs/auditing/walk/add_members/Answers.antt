@@ -1,14 +1,4 @@
-use Rattle.std.proofs.Common.{◌++◌, ◌∙◌, Option, String, Global, List, ap, inl, inr, map, refl, string_bytes}
-use Rattle.std.proofs.lemmas.Result.{err_from_is_err_and}
-use Rattle.std.specs.BTreeMap.{is_at}
-use Rattle.std.specs.BTreeSet.{contains_text}
-use Rattle.std.specs.Cmp.Lexicographic.{slice_cmp}
-use Rattle.std.specs.List.{list_any}
-use Rattle.std.specs.Ordering.{nat_cmp}
-use Rattle.std.specs.Prelude.{option_to_list}
-use Rattle.cargo_toml_discovery.proofs.Faults.{from_input}
-use Rattle.cargo_toml_audit.specs.AuditedFiles.{base_of}
-use Rattle.cargo_toml_audit.specs.Places.{is_in}
+use Rattle.cargo_toml_audit.proofs.Reports.{◌++◌, ◌∙◌, Global, List, Option, String, ap, base_of, contains_text, err_from_is_err_and, from_input, inl, inr, is_at, is_in, list_any, map, nat_cmp, option_to_list, refl, slice_cmp, string_bytes}
 use Rattle.cargo_toml_audit.proofs.Walking.{none_left, walking_begun, walking_ends, walking_on}
 use Rattle.cargo_toml_audit.proofs.auditing.walk.add_members.Goals as goal
 

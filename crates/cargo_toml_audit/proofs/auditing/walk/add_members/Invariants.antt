@@ -1,5 +1,4 @@
-use Rattle.std.proofs.Common.{map, string_bytes}
-use Rattle.cargo_toml_audit.specs.AuditedFiles.{base_of}
+use Rattle.cargo_toml_audit.proofs.Reports.{base_of, map, string_bytes}
 use Rattle.cargo_toml_audit.proofs.Walking.{Walking}
 use Rattle.cargo_toml_audit.proofs.auditing.walk.add_members.Given as goal
 

@@ -1,4 +1,4 @@
-use Rattle.std.proofs.Common.{length}
+use Rattle.cargo_toml_audit.proofs.Paths.{length}
 use Rattle.cargo_toml_audit.proofs.members.patterns.+is_among.Given as goal
 
 abbrev pub decreases-is_among : goal.decreases-is_among

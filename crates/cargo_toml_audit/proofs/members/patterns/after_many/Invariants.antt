@@ -1,5 +1,4 @@
-use Rattle.std.proofs.Common.{◌≡◌, ◌++◌, drop, false}
-use Rattle.cargo_toml_audit.specs.Rows.{scan}
+use Rattle.cargo_toml_audit.proofs.Paths.{◌++◌, ◌≡◌, drop, false, scan}
 use Rattle.cargo_toml_audit.proofs.members.patterns.after_many.Given as goal
 
 abbrev pub invariant-loop-here : goal.invariant-loop-here

@@ -3,7 +3,7 @@ use Rattle.std.proofs.lemmas.Slice.Zip.{Zip-more, either_empty_from_Zip}
 use Rattle.std.specs.Iterator.Adapters.{zip_first, zip_second}
 use Rattle.std.specs.Slice.Iter.{iter_rest}
 use Rattle.cargo_toml_audit.specs.Patterns.{accepts, part_of}
-use Rattle.cargo_toml_audit.specs.Rows.{shift}
+use Rattle.cargo_toml_audit.specs.Patterns.{shift}
 use Rattle.cargo_toml_audit.proofs.Matched.{shift_step, shift_end}
 use Rattle.cargo_toml_audit.proofs.members.patterns.after_one.Goals as goal
 use Rattle.cargo_toml_audit.proofs.members.patterns.after_one.Goals.{then-here, else-here}

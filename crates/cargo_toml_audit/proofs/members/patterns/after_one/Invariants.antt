@@ -2,7 +2,7 @@ use Rattle.std.proofs.Common.{◌≡◌, ◌∷◌, ◌++◌, false}
 use Rattle.std.specs.Iterator.Adapters.{zip_first, zip_second}
 use Rattle.std.specs.Slice.Iter.{iter_rest}
 use Rattle.cargo_toml_audit.specs.Patterns.{part_of}
-use Rattle.cargo_toml_audit.specs.Rows.{shift}
+use Rattle.cargo_toml_audit.specs.Patterns.{shift}
 use Rattle.cargo_toml_audit.proofs.members.patterns.after_one.Given as goal
 
 abbrev pub invariant-loop-here : goal.invariant-loop-here

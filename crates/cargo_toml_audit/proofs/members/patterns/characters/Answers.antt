@@ -1,5 +1,4 @@
-use Rattle.std.proofs.Common.{rules}
-use Rattle.std.proofs.lemmas.Str.{chars_from_encodes}
+use Rattle.cargo_toml_audit.proofs.Paths.{chars_from_encodes, rules}
 use Rattle.cargo_toml_audit.proofs.members.patterns.characters.Goals as goal
 
 pub returns : goal.returns

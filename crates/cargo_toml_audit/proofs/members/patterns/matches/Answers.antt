@@ -1,11 +1,5 @@
-use Rattle.std.proofs.Common.{◌≡◌, ◌-◌, ◌∷◌, ◌∙◌, List, [], ap, arith, drop, get_or, length, map, reverse, sym, true, false}
-use Rattle.std.proofs.lemmas.List.{drop_all, reverse-reverse}
-use Rattle.std.specs.Option.{unwrap_or}
-use Rattle.std.specs.Str.{chars}
-use Rattle.cargo_toml_audit.specs.Patterns.{Part, is_many, matches, part_of}
-use Rattle.cargo_toml_audit.specs.Rows.{next, row}
-use Rattle.cargo_toml_audit.specs.declared.members.patterns.Token.{Token}
-use Rattle.cargo_toml_audit.proofs.Matched.{back_next, first_row, last_row, next_row}
+use Rattle.cargo_toml_audit.proofs.Paths.{[], ◌-◌, ◌∙◌, ◌∷◌, ◌≡◌, List, Part, Token, ap, arith, chars, drop, drop_all, false, get_or, is_many, length, map, matches, next, part_of, reverse, reverse-reverse, sym, true}
+use Rattle.cargo_toml_audit.proofs.Matched.{back_next, first_row, last_row, next_row, row}
 use Rattle.cargo_toml_audit.proofs.members.patterns.matches.Goals as goal
 
 pub loop-taken-init : goal.loop-taken-init

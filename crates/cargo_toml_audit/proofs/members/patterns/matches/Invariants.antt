@@ -1,6 +1,5 @@
-use Rattle.std.proofs.Common.{◌≡◌, ◌-◌, [], drop, length, map}
-use Rattle.cargo_toml_audit.specs.Patterns.{matches, part_of}
-use Rattle.cargo_toml_audit.specs.Rows.{row}
+use Rattle.cargo_toml_audit.proofs.Paths.{[], ◌-◌, ◌≡◌, drop, length, map, matches, part_of}
+use Rattle.cargo_toml_audit.proofs.Matched.{row}
 use Rattle.cargo_toml_audit.proofs.members.patterns.matches.Given as goal
 
 abbrev pub invariant-loop-taken : goal.invariant-loop-taken

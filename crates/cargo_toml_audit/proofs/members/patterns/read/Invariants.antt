@@ -1,6 +1,5 @@
-use Rattle.std.proofs.Common.{◌≡◌, take}
-use Rattle.cargo_toml_audit.specs.Patterns.{read_all, read_of}
+use Rattle.cargo_toml_audit.proofs.Paths.{◌≡◌, drop, fold, read_all, read_more, read_of}
 use Rattle.cargo_toml_audit.proofs.members.patterns.read.Given as goal
 
 abbrev pub invariant-loop-c : goal.invariant-loop-c
-invariant-loop-c l = read_of l.reading ≡ read_all (take l.c-index l.characters)
+invariant-loop-c l = fold read_more (read_of l.reading) (drop l.c-index l.characters) ≡ read_all l.characters

@@ -1,5 +1,4 @@
-use Rattle.std.proofs.Common.{◌∙◌, ap}
-use Rattle.cargo_toml_audit.specs.Patterns.{read_all, whole_parts}
+use Rattle.cargo_toml_audit.proofs.Paths.{◌∙◌, ap, read_all, whole_parts}
 use Rattle.cargo_toml_audit.proofs.members.patterns.tokens_of.Goals as goal
 
 pub returns : goal.returns

@@ -1,6 +1,4 @@
-use Rattle.std.proofs.Common.{◌≡◌, ◌++◌, drop, map, not}
-use Rattle.std.specs.Prelude.{filter}
-use Rattle.cargo_toml_audit.specs.Places.{is_nothing, pieces}
+use Rattle.cargo_toml_audit.proofs.Paths.{◌++◌, ◌≡◌, drop, filter, is_nothing, map, not, pieces}
 use Rattle.cargo_toml_audit.proofs.members.places.compared.Given as goal
 
 abbrev pub invariant-loop-name : goal.invariant-loop-name

@@ -1,5 +1,4 @@
-use Rattle.std.proofs.Common.{◌≡◌, drop, map, string_bytes}
-use Rattle.cargo_toml_audit.specs.Places.{lies_in_some}
+use Rattle.cargo_toml_audit.proofs.Paths.{◌≡◌, drop, lies_in_some, map, string_bytes}
 use Rattle.cargo_toml_audit.proofs.members.places.lies_in_some.Given as goal
 
 abbrev pub invariant-loop-entry : goal.invariant-loop-entry

@@ -1,6 +1,4 @@
-use Rattle.std.proofs.Common.{◌≡◌, [], drop, map}
-use Rattle.std.specs.Prelude.{fold}
-use Rattle.cargo_toml_audit.specs.Places.{one_further, pieces}
+use Rattle.cargo_toml_audit.proofs.Paths.{[], ◌≡◌, drop, fold, map, one_further, pieces}
 use Rattle.cargo_toml_audit.proofs.members.places.normalized.Given as goal
 
 abbrev pub invariant-loop-name : goal.invariant-loop-name

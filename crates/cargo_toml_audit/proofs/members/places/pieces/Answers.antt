@@ -1,6 +1,4 @@
-use Rattle.std.proofs.Common.{lit<}
-use Rattle.std.proofs.lemmas.Iterator.Consumers.{map_from_collect}
-use Rattle.std.proofs.lemmas.Iterator.Splits.{YieldsList-from_str_split}
+use Rattle.cargo_toml_audit.proofs.Paths.{YieldsList-from_str_split, lit<, map_from_collect}
 use Rattle.cargo_toml_audit.proofs.members.places.pieces.Goals as goal
 
 pub returns : goal.returns

@@ -1,5 +1,4 @@
-use Rattle.std.proofs.Common.{arith}
-use Rattle.std.proofs.lemmas.Grind.{common_steps}
+use Rattle.cargo_toml_audit.proofs.Paths.{arith, common_steps}
 use Rattle.cargo_toml_audit.proofs.Joined.{join_mapped}
 use Rattle.cargo_toml_audit.proofs.members.places.with_names.Goals as goal
 

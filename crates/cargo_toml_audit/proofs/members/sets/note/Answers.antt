@@ -1,8 +1,4 @@
-use Rattle.std.proofs.Common.{◌||◌, ◌&&◌, ◌∙◌, ap, string_bytes, sym, true}
-use Rattle.std.proofs.Math.Bool.{or-false}
-use Rattle.std.proofs.lemmas.Map.Text.{btree_set_updates_text}
-use Rattle.std.specs.BTreeSet.{contains_text}
-use Rattle.std.specs.Prelude.{bytes_eq}
+use Rattle.cargo_toml_audit.proofs.Paths.{◌&&◌, ◌||◌, ◌∙◌, ap, btree_set_updates_text, bytes_eq, contains_text, or-false, string_bytes, sym, true}
 use Rattle.cargo_toml_audit.proofs.Sets.{cond_or}
 use Rattle.cargo_toml_audit.proofs.members.sets.note.Goals as goal
 

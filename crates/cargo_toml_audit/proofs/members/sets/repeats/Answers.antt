@@ -1,8 +1,4 @@
-use Rattle.std.proofs.Common.{◌+◌, ◌||◌, ◌++◌, ◌∷◌, [], ◌∙◌, ap, ap₂, append_assoc, drop, if◌then◌else◌, map, string_bytes, sym, take}
-use Rattle.std.specs.BTreeSet.{contains_text}
-use Rattle.std.specs.Prelude.{bytes_eq}
-use Rattle.cargo_toml_audit.specs.MemberFolders.{repeats_of}
-use Rattle.cargo_toml_audit.specs.Places.{is_in}
+use Rattle.cargo_toml_audit.proofs.Paths.{[], if◌then◌else◌, ◌++◌, ◌+◌, ◌||◌, ◌∙◌, ◌∷◌, ap, append_assoc, ap₂, bytes_eq, contains_text, drop, is_in, map, repeats_of, string_bytes, sym, take}
 use Rattle.cargo_toml_audit.proofs.Sets.{in_next, repeats_next}
 use Rattle.cargo_toml_audit.proofs.members.sets.repeats.Goals as goal
 

@@ -1,8 +1,4 @@
-use Rattle.std.proofs.Common.{◌≡◌, ◌++◌, drop, map, string_bytes, take}
-use Rattle.std.specs.BTreeSet.{contains_text}
-use Rattle.cargo_toml.specs.Action.{Text}
-use Rattle.cargo_toml_audit.specs.MemberFolders.{repeats, repeats_of}
-use Rattle.cargo_toml_audit.specs.Places.{is_in}
+use Rattle.cargo_toml_audit.proofs.Paths.{◌++◌, ◌≡◌, Text, contains_text, drop, is_in, map, repeats, repeats_of, string_bytes, take}
 use Rattle.cargo_toml_audit.proofs.members.sets.repeats.Given as goal
 
 abbrev pub invariant-loop-text : goal.invariant-loop-text

@@ -1,5 +1,4 @@
-use Rattle.std.proofs.Common.{◌||◌, ◌∙◌, ap₂, string_bytes, sym}
-use Rattle.std.specs.Prelude.{bytes_eq}
+use Rattle.cargo_toml_audit.proofs.Paths.{◌||◌, ◌∙◌, ap₂, bytes_eq, string_bytes, sym}
 use Rattle.cargo_toml_audit.proofs.Sets.{in_next}
 use Rattle.cargo_toml_audit.proofs.members.sets.set_of.Goals as goal
 

@@ -1,7 +1,4 @@
-use Rattle.std.proofs.Common.{◌≡◌, map, string_bytes, take}
-use Rattle.std.specs.BTreeSet.{contains_text}
-use Rattle.cargo_toml.specs.Action.{Text}
-use Rattle.cargo_toml_audit.specs.Places.{is_in}
+use Rattle.cargo_toml_audit.proofs.Paths.{◌≡◌, Text, contains_text, is_in, map, string_bytes, take}
 use Rattle.cargo_toml_audit.proofs.members.sets.set_of.Given as goal
 
 abbrev pub invariant-loop-text : goal.invariant-loop-text

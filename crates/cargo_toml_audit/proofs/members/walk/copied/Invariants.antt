@@ -1,4 +1,4 @@
-use Rattle.std.proofs.Common.{◌≡◌, ◌++◌, drop, map, string_bytes}
+use Rattle.cargo_toml_audit.proofs.Paths.{◌++◌, ◌≡◌, drop, map, string_bytes}
 use Rattle.cargo_toml_audit.proofs.members.walk.copied.Given as goal
 
 abbrev pub invariant-loop-text : goal.invariant-loop-text

@@ -1,19 +1,14 @@
 -- What is told of a part whose own parts have something at fault, and how lists are seen.
 use Rattle.std.proofs.Common.{◌≡◌, ◌++◌, ◌<◌, Bool, true, false, if◌then◌else◌, List, [], ◌∷◌, length, map, ap, arith, refl, sym, ◌∙◌}
-use Rattle.std.specs.Borrow.{Bor}
 use Rattle.std.specs.List.{flat_map}
-use Rattle.std.proofs.lemmas.List.{append-nil}
 use Rattle.cargo_toml.specs.Action.{Text}
-use Rattle.cargo_toml_tools.specs.IndexRows.{with_rows}
+use Rattle.cargo_toml_tools.specs.IndexEntries.{with_rows}
 use Rattle.cargo_toml_tools.proofs.Placed.{with_both}
 use Rattle.serde_json.specs.Data as json
 use Rattle.serde_json.specs.View as json_view
-use Rattle.toml.specs.View.{items_view, view}
-use Rattle.toml.specs.declared.value.Value.{Value}
-use Rattle.cargo_toml_check.specs.Alone.{Part}
-use Rattle.cargo_toml_check.specs.Blamed.{or_own, path_of}
-use Rattle.cargo_toml_check.specs.Shown.{json_items, json_of}
-use Rattle.cargo_toml_check.specs.declared.search.Fault.{Fault}
+use Rattle.toml.specs.{View.items_view, View.view, declared.value.Value.Value}
+use Rattle.cargo_toml_check.specs.{Alone.Part, Blamed.or_own, Blamed.path_of, Shown.json_items}
+use Rattle.cargo_toml_check.specs.{Shown.json_of, declared.search.Fault.Fault}
 
 pub told_inner : (read : Bool) (p : List Part) (inner before : List (List Part)) (fs : List Fault) → read ≡ false → map path_of fs ≡ inner → 0 < length fs
     → before ++ map path_of fs ≡ before ++ (if read then [] else or_own p inner)
@@ -34,7 +29,3 @@ module _ {A : Type 0} (row : A → List (Text × json.Data)) where
 
   pub rows_all : (left : List A) (last whole : json.Members) → left ≡ [] → with_rows (flat_map row left) last ≡ whole → last ≡ whole
   rows_all left last whole none before = ap (λ l. with_rows (flat_map row l) last) (sym none) ∙ before
-
--- texts that are put one after another
-pub texts_all : (left : List (Bor Text)) (done : List json.Data) (whole : List json.Data) → left ≡ [] → done ++ map (λ t. json.string t.now) left ≡ whole → done ≡ whole
-texts_all left done whole none before = sym (append-nil done) ∙ ap (λ l. done ++ map (λ t. json.string t.now) l) (sym none) ∙ before

@@ -1,11 +1,9 @@
 -- What is made of a completed manifest, or refused, by a reference to it.
 use Rattle.std.proofs.Common.{◌≡◌, Global, String, inr, string_bytes, subst, sym}
-use Rattle.std.specs.Prelude.{IfErr, IfOk, Result}
 use Rattle.std.proofs.lemmas.Result.{IfErr-weaker, IfOk-weaker}
+use Rattle.std.specs.Prelude.{IfErr, IfOk, Result}
 use Rattle.toml.specs.declared.value.Value.{Value}
-use Rattle.cargo_toml.specs.Action.{Text}
-use Rattle.cargo_toml.specs.Error.{Error}
-use Rattle.cargo_toml.specs.Manifest.{Manifest}
+use Rattle.cargo_toml.specs.{Action.Text, Error.Error, Manifest.Manifest}
 use Rattle.cargo_toml_check.specs.FromFiles.{HoldsOfCompleted, IsRefusedFor}
 use Rattle.cargo_toml_tools.specs.FromFiles.{IsCompletedIn}
 

@@ -1,9 +1,7 @@
 -- Parts of a manifest, and the manifest in which a part stands alone.
 use Rattle.std.specs.Prelude.{ℕ, List, [], ◌∷◌, Option, Some, None, codes, unwrap_or}
-use Rattle.toml.specs.Data.{Data, Members, array, item, member, no_items, no_members, string}
-use Rattle.toml.specs.Data.{table}
-use Rattle.cargo_toml.specs.Settings.{named}
-use Rattle.cargo_toml.specs.Writes.{put_member}
+use Rattle.toml.specs.Data.{Data, Members, array, item, member, no_items, no_members, string, table}
+use Rattle.cargo_toml.specs.{Settings.named, Writes.put_member}
 use Rattle.cargo_toml_check.specs.declared.alone.Around.{Around}
 use Rattle.cargo_toml_check.specs.declared.alone.Around.TheVariants as around
 use Rattle.cargo_toml_check.specs.declared.alone.Step.{Step}
@@ -27,9 +25,7 @@ next around.Workspace k =
     unwrap_or (named ((codes "lints", around.Lints) ∷ []) k) around.Other
 next around.Lints k = around.Tool
 next around.Tool k = around.Lint
-next around.Package k = around.Other
-next around.Lint k = around.Other
-next around.Other k = around.Other
+next _ k = around.Other
 
 -- what has to stand in the table beside any part: the name of a package, and the level of a lint
 abbrev pub beside : Around → Members

@@ -5,13 +5,8 @@ use Rattle.std.specs.declared.hash.RandomState.{RandomState}
 use Rattle.serde_json.specs.Data as json
 use Rattle.serde_json.specs.Written.{IsInOrder}
 use Rattle.toml.specs.declared.value.Value.{Value}
-use Rattle.cargo_toml.specs.Action.{Text}
-use Rattle.cargo_toml.specs.Error.{Error}
-use Rattle.cargo_toml.specs.Limits.{MAX_ITEMS}
-use Rattle.cargo_toml.specs.Manifest.{Manifest}
-use Rattle.cargo_toml.specs.Manifests.{held}
-use Rattle.cargo_toml.specs.Parsed.{IsParsed}
-use Rattle.cargo_toml.specs.Views.{answer_of}
+use Rattle.cargo_toml.specs.{Action.Text, Error.Error, Limits.MAX_ITEMS, Manifest.Manifest}
+use Rattle.cargo_toml.specs.{Manifests.held, Parsed.IsParsed, Views.answer_of}
 use Rattle.cargo_toml_features.specs.declared.features.Features.{Features}
 use Rattle.cargo_toml_check.specs.Listed.{IsListing, is_cut}
 use Rattle.cargo_toml_tools.specs.FromFiles.{IsCompletedIn, IsUncompleted}

@@ -1,10 +1,9 @@
 -- Which findings count.
 use Rattle.std.specs.Prelude.{Bool, true, List}
 use Rattle.std.specs.List.{list_any}
-use Rattle.cargo_toml_lint.specs.Findings.{code_level}
-use Rattle.cargo_toml_lint.specs.declared.finding.Finding.{Finding}
-use Rattle.cargo_toml_lint.specs.declared.finding.Level.{Level}
 use Rattle.cargo_toml_lint.specs.declared.finding.Level.TheVariants.{Error, Hint, Warning}
+use Rattle.cargo_toml_lint.specs.{Findings.code_level, declared.finding.Finding.Finding}
+use Rattle.cargo_toml_lint.specs.{declared.finding.Level.Level}
 
 -- errors and warnings, and hints where they are denied
 abbrev pub counts : Bool → Level → Bool

@@ -1,23 +1,15 @@
 -- Resolved features as JSON.
 use Rattle.std.specs.Prelude.{◌≡◌, ◌||◌, ℕ, Bool, List, [], ◌∷◌, codes, is_some, length, map}
 use Rattle.std.specs.Prelude.{nat_lt}
-use Rattle.std.specs.Option.{option_copied, option_map_or}
-use Rattle.std.specs.Borrow.{Bor}
-use Rattle.std.specs.BTreeMap.{BTreeMap}
-use Rattle.std.specs.BTreeSet.{BTreeSet}
-use Rattle.std.specs.HashMap.{HashMap}
-use Rattle.std.specs.List.{flat_map, list_any}
+use Rattle.std.specs.{Option.option_copied, Option.option_map_or, Borrow.Bor, BTreeMap.BTreeMap}
+use Rattle.std.specs.{BTreeSet.BTreeSet, HashMap.HashMap, List.flat_map, List.list_any}
 use Rattle.serde_json.specs.Data.{Data, boolean, no_members, object}
-use Rattle.cargo_toml.specs.Action.{Text}
-use Rattle.cargo_toml.specs.Feature.{Feature}
-use Rattle.cargo_toml.specs.InheritedDependencies.{Entries}
-use Rattle.cargo_toml.specs.Limits.{MAX_ITEMS}
-use Rattle.cargo_toml.specs.Manifests.{ManifestMeaning}
-use Rattle.cargo_toml.specs.Targets.{TargetMeaning}
-use Rattle.cargo_toml.specs.Views.{set_has, value_at}
-use Rattle.cargo_toml_features.specs.declared.features.DepAction.{DepAction}
-use Rattle.cargo_toml_features.specs.declared.features.Features.{Features}
-use Rattle.cargo_toml_tools.specs.IndexRows.{text_array, text_or_null, with_rows}
+use Rattle.cargo_toml.specs.{Action.Text, Feature.Feature, InheritedDependencies.Entries}
+use Rattle.cargo_toml.specs.{Limits.MAX_ITEMS, Manifests.ManifestMeaning, Targets.TargetMeaning}
+use Rattle.cargo_toml.specs.{Views.set_has, Views.value_at}
+use Rattle.cargo_toml_features.specs.{declared.features.DepAction.DepAction}
+use Rattle.cargo_toml_features.specs.{declared.features.Features.Features}
+use Rattle.cargo_toml_tools.specs.IndexEntries.{text_array, text_or_null, with_rows}
 
 abbrev pub texts_json : List (Bor Text) → Data
 texts_json ts = text_array (map (λ t. t.now) ts)
@@ -74,17 +66,15 @@ are_cut_targets ts = list_any (λ t. is_cut_target t.1) ts
 abbrev pub has_long : List (Text × List Text) → Bool
 has_long fs = list_any (λ f. is_over (length f.1)) fs
 
-abbrev pub is_cut_list : List (Text × List Text) → Bool
-is_cut_list fs = is_over (length fs) || has_long fs
-
 -- the manifest has more features, more texts of one, or more keys of a table of dependencies, than
 -- count
 abbrev pub is_cut : {M : Type 0} → ManifestMeaning M → Bool
 is_cut m =
-    is_cut_list m.features
+    is_over (length m.features)
+    || (has_long m.features
     || (is_cut_table m.dependencies
     || (is_cut_table m.build_dependencies
-    || (is_cut_table m.dev_dependencies || are_cut_targets m.target)))
+    || (is_cut_table m.dev_dependencies || are_cut_targets m.target))))
 
 -- the features that are left, those that were removed, and whether there are more than count
 pub record IsListing {S H : Type 0} (cut : Bool) (resolved : Features S H) (all : Data)

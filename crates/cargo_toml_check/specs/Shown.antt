@@ -2,18 +2,13 @@
 use Rattle.std.specs.Prelude.{◌≡◌, ◌⊎◌, ℕ, List, Some, codes, false}
 use Rattle.toml_datetime.specs.Text.{datetime_text}
 use Rattle.serde_json.specs.Data as json
-use Rattle.serde_json.specs.Find.{of_integer}
-use Rattle.serde_json.specs.Written.{IsInOrder}
+use Rattle.serde_json.specs.{Find.of_integer, Written.IsInOrder}
 use Rattle.toml.specs.Data.{Data, Items, Members, array, boolean, datetime, float, integer, item}
 use Rattle.toml.specs.Data.{member, no_items, no_members, string, table}
 use Rattle.toml.specs.Text.{IsDocumentText}
-use Rattle.cargo_toml.specs.Error.{Error, Memory}
-use Rattle.cargo_toml.specs.Faults.{IsOther}
-use Rattle.cargo_toml.specs.Manifests.{ManifestMeaning}
-use Rattle.cargo_toml.specs.Reread.{IsTold, reread}
-use Rattle.cargo_toml.specs.Writes.{Refuses}
-use Rattle.cargo_toml.specs.WrittenManifests.{manifest_way}
-use Rattle.cargo_toml.specs.Ways.{free_way}
+use Rattle.cargo_toml.specs.{Error.Error, Error.Memory, Faults.IsOther, Manifests.ManifestMeaning}
+use Rattle.cargo_toml.specs.{Reread.IsTold, Reread.reread, Writes.Refuses}
+use Rattle.cargo_toml.specs.{WrittenManifests.manifest_way, Ways.free_way}
 use Rattle.cargo_toml_check.specs.Blamed.{reads}
 
 -- a tree as a value of JSON: a date is its text. A manifest's tree holds no float

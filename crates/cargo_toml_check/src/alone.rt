@@ -104,31 +104,19 @@ fn next(around: Around, key: &str) -> Around
     ensures { result ≡ next around key.now }
 {
     match around {
-        Around::Manifest => in_manifest(key),
-        Around::Workspace => in_workspace(key),
+        Around::Manifest => match key {
+            "package" => Around::Package,
+            "workspace" => Around::Workspace,
+            "lints" => Around::Lints,
+            _ => Around::Other,
+        },
+        Around::Workspace => match key {
+            "lints" => Around::Lints,
+            _ => Around::Other,
+        },
         Around::Lints => Around::Tool,
         Around::Tool => Around::Lint,
         Around::Package | Around::Lint | Around::Other => Around::Other,
-    }
-}
-
-fn in_manifest(key: &str) -> Around
-    ensures { result ≡ next Around.Manifest key.now }
-{
-    match key {
-        "package" => Around::Package,
-        "workspace" => Around::Workspace,
-        "lints" => Around::Lints,
-        _ => Around::Other,
-    }
-}
-
-fn in_workspace(key: &str) -> Around
-    ensures { result ≡ next Around.Workspace key.now }
-{
-    match key {
-        "lints" => Around::Lints,
-        _ => Around::Other,
     }
 }
 
@@ -159,8 +147,5 @@ fn put(table: &mut Table, alloc: Global, key: &str, value: Value) -> Result<(), 
     ensures { OnOk result (table_view table.new
         ≡ put_member key.now (view value) (table_view table.old)) }
 {
-    match write::put(table, alloc, key, value) {
-        Ok(()) => Ok(()),
-        Err(_) => Err(AllocError),
-    }
+    write::put(table, alloc, key, value).map_err(|_| AllocError)
 }

@@ -1,14 +1,13 @@
 //! What is at fault in a manifest, and where.
 ghost use Rattle.std.specs.Prelude.{◌≡◌, ◌↔◌, [], IfOk, IsSome, length};
 ghost use Rattle.toml.specs.Parse.{parse_document};
-ghost use Rattle.cargo_toml.specs.Manifests.{manifest_reads};
-ghost use Rattle.cargo_toml.specs.Texts.{any_tree, document_reads};
+ghost use Rattle.cargo_toml.specs.{Manifests.manifest_reads, Texts.any_tree, Texts.document_reads};
 ghost use Rattle.cargo_toml_check.specs.FromFiles.{IsChecked};
 
 use crate::places::{Place, path_text, place_in, places};
 use crate::search::{Fault, faults};
 use cargo_toml::Error;
-use cargo_toml_tools::escape::{Format, fault_line, push_escaped};
+use cargo_toml_tools::escape::{Escaped, Format, fault_line};
 use cargo_toml_tools::files::completed_of;
 use std::alloc::{AllocError, Global};
 use std::collections::BTreeSet;
@@ -95,29 +94,25 @@ fn told_lines(alloc: Global, file: &str, all: &[Told]) -> Result<String, AllocEr
     for told in all {
         push_place(&mut lines, file, told.place)?;
         if !told.key.is_empty() {
-            lines.push_str(told.key.as_str())?;
-            lines.push_str(": ")?;
+            write!(lines, "{}: ", told.key)?;
         }
-        push_escaped(&mut lines, told.words.as_str().trim_end(), Format::Line)?;
-        lines.push_str("\n")?;
+        let words = Escaped(told.words.as_str().trim_end(), Format::Line);
+        writeln!(lines, "{words}")?;
     }
     Ok(lines)
 }
 
 /// Writes what a line begins with: a file, and a place in it.
 pub fn push_place(line: &mut String, file: &str, place: Place) -> Result<(), AllocError> {
-    push_escaped(line, file, Format::Line)?;
-    write!(line, ":{}:{}: ", place.0, place.1)
+    let file = Escaped(file, Format::Line);
+    write!(line, "{file}:{}:{}: ", place.0, place.1)
 }
 
 /// Where a text isn't TOML.
 fn not_toml(alloc: Global, text: &str, fault: &toml::de::Error) -> Result<Vec<Told>, AllocError>
     ensures { IfOk result (λ v. length v.items ≡ 1) }
 {
-    let start = match fault.span() {
-        Some(span) => span.start,
-        None => 0,
-    };
+    let start = fault.span().map_or(0, |span| span.start);
     let told = Told {
         place: place_in(text, start),
         key: String::new(alloc),

@@ -1,24 +1,20 @@
 //! Resolved features as JSON.
 ghost use Rattle.std.specs.Prelude.{◌≡◌, IfOk, OnOk};
 ghost use Rattle.serde_json.specs.View.{members_view, view};
-ghost use Rattle.cargo_toml.specs.Dependencies.{dependency_meaning};
-ghost use Rattle.cargo_toml.specs.Manifests.{held};
-ghost use Rattle.cargo_toml.specs.Reads.{map_meaning};
-ghost use Rattle.cargo_toml.specs.Targets.{target_meaning};
-ghost use Rattle.cargo_toml_tools.specs.Checked.{lists_meaning};
+ghost use Rattle.cargo_toml.specs.{Dependencies.dependency_meaning, Manifests.held};
+ghost use Rattle.cargo_toml.specs.{Reads.map_meaning, Targets.target_meaning};
+ghost use Rattle.cargo_toml_tools.specs.{Sections.lists_meaning, IndexEntries.with_rows};
 ghost use Rattle.cargo_toml_check.specs.Listed.{AreMembers, IsListing, action_json, actions_json};
-ghost use Rattle.cargo_toml_check.specs.Listed.{are_cut_targets, has_long};
-ghost use Rattle.cargo_toml_check.specs.Listed.{feature_json, is_cut, is_cut_list, is_cut_table};
-ghost use Rattle.cargo_toml_check.specs.Listed.{is_cut_target, is_over};
-ghost use Rattle.cargo_toml_check.specs.Listed.{row_at, stands_for_json, texts_json};
-ghost use Rattle.cargo_toml_tools.specs.IndexRows.{with_rows};
+ghost use Rattle.cargo_toml_check.specs.Listed.{are_cut_targets, has_long, feature_json, is_cut};
+ghost use Rattle.cargo_toml_check.specs.Listed.{is_cut_table, is_cut_target, is_over, row_at};
+ghost use Rattle.cargo_toml_check.specs.Listed.{stands_for_json, texts_json};
 
 use cargo_toml::features::{DepAction, Feature, Features};
 use cargo_toml::{DepsSet, FeatureSet, Manifest, Target, TargetDepsSet};
 use cargo_toml_features::admit::MAX_ITEMS;
 use cargo_toml_features::texts::keys_in_order;
-use cargo_toml_tools::json::put_text;
-use serde_json::{Map, Value, push, put};
+use cargo_toml_tools::json::{array, put_text};
+use serde_json::{Map, Value, put};
 use std::alloc::{AllocError, Global};
 use std::collections::{BTreeMap, BTreeSet, HashMap};
 use std::hash::BuildHasher;
@@ -45,8 +41,7 @@ pub fn features_json<M, S: BuildHasher>(
 /// What has a value of JSON.
 trait ToJson {
     ghost use Rattle.std.specs.Prelude.{◌≡◌, IfOk};
-    ghost use Rattle.serde_json.specs.Data.{Data};
-    ghost use Rattle.serde_json.specs.View.{view};
+    ghost use Rattle.serde_json.specs.{Data.Data, View.view};
 
     // the value that it has
     ghost json: { Self → Data };
@@ -101,7 +96,7 @@ impl ToJson for Feature<'_> {
         let names = set_json(alloc, &self.enables_features)?;
         let dependencies = actions_json(alloc, &self.enables_deps)?;
         let enabled_by = set_json(alloc, &self.enabled_by)?;
-        let binaries = list_json(alloc, self.required_by_bins.as_slice())?;
+        let binaries = array(alloc, self.required_by_bins.as_slice())?;
         let mut members = Map::new(alloc);
         put(&mut members, alloc, "listed", Value::from(self.explicit))?;
         put(&mut members, alloc, "public", Value::from(self.public))?;
@@ -145,21 +140,8 @@ fn action_json(alloc: Global, action: &DepAction<'_>) -> Result<Value, AllocErro
 fn set_json(alloc: Global, texts: &BTreeSet<&str>) -> Result<Value, AllocError>
     ensures { IfOk result (λ v. view v ≡ texts_json texts.now.keys) }
 {
-    let mut items = Vec::new(alloc);
-    for text in texts {
-        push(&mut items, Value::try_from_str(alloc, *text)?)?;
-    }
-    Ok(Value::from(items))
-}
-
-fn list_json(alloc: Global, texts: &[&str]) -> Result<Value, AllocError>
-    ensures { IfOk result (λ v. view v ≡ texts_json texts.now) }
-{
-    let mut items = Vec::new(alloc);
-    for text in texts {
-        push(&mut items, Value::try_from_str(alloc, *text)?)?;
-    }
-    Ok(Value::from(items))
+    let texts: Vec<&str> = texts.iter().copied().collect(alloc)?;
+    array(alloc, texts.as_slice())
 }
 
 /// Whether a manifest has more features, more texts of one, or more keys of a table of dependencies
@@ -167,17 +149,12 @@ fn list_json(alloc: Global, texts: &[&str]) -> Result<Value, AllocError>
 fn is_cut<M>(manifest: &Manifest<M>) -> bool
     ensures { result ≡ is_cut (held manifest.now) }
 {
-    is_cut_list(&manifest.features)
+    is_over(manifest.features.len())
+        || has_long(&manifest.features)
         || is_cut_table(&manifest.dependencies)
         || is_cut_table(&manifest.build_dependencies)
         || is_cut_table(&manifest.dev_dependencies)
         || are_cut_targets(&manifest.target)
-}
-
-fn is_cut_list(features: &FeatureSet) -> bool
-    ensures { result ≡ is_cut_list (lists_meaning features.now) }
-{
-    is_over(features.len()) || has_long(features)
 }
 
 fn has_long(features: &FeatureSet) -> bool

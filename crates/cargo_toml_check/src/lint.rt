@@ -3,18 +3,19 @@ ghost use Rattle.std.specs.Prelude.{◌≡◌, IfErr};
 ghost use Rattle.cargo_toml_tools.specs.FromFiles.{IsOfInput};
 ghost use Rattle.cargo_toml_check.specs.Judged.{counts, is_odd};
 
-use crate::check::{Told, faults_in, push_place};
+use crate::check::{faults_in, push_place};
 use crate::places::{Place, places, push_item, push_key};
-use cargo_toml::{DepsSet, Error, Manifest, Product, Value};
+use cargo_toml::{DepsSet, Error, Manifest, Product, Target, Value};
 use cargo_toml_bench::HeldManifest;
 use cargo_toml_lint::{Finding, Level};
 use cargo_toml_tools::Judging;
-use cargo_toml_tools::escape::{Format, push_escaped};
+use cargo_toml_tools::escape::{Escaped, Format};
 use cargo_toml_tools::files::findings_of;
 use cargo_toml_tools::json::put_text;
 use serde_json::{Map, Value as Json, put};
 use std::alloc::{AllocError, Global};
 use std::collections::{BTreeMap, BTreeSet};
+use std::fmt::Write;
 use std::random::RandomSource;
 
 /// A finding as a line has it.
@@ -60,11 +61,21 @@ fn readable<R: RandomSource + AllocGlobal>(
     let alloc = rt.alloc();
     let all = findings_of(rt, manifest)?;
     let kept = kept(alloc, manifest, judging.allowed.as_slice(), all.as_slice())?;
-    let odd = is_odd(kept.as_slice(), judging.denies_hints);
-    Ok((
-        lines(alloc, file, text, manifest, kept.as_slice(), judging.json)?,
-        odd,
-    ))
+    let places = places_of(alloc, text, manifest, kept.as_slice())?;
+    let mut lines = String::new(alloc);
+    for (finding, place) in kept.iter().zip(places.iter()) {
+        let line = Line {
+            file,
+            place: *place,
+            level: finding.code.level().name(),
+            code: finding.code.name(),
+            feature: finding.feature,
+            text: finding.text,
+            words: finding.code.words(),
+        };
+        push_line(alloc, &mut lines, line, judging.json)?;
+    }
+    Ok((lines, is_odd(kept.as_slice(), judging.denies_hints)))
 }
 
 /// The findings that neither these texts nor the manifest itself pass over.
@@ -106,49 +117,39 @@ fn counts(level: Level, denies_hints: bool) -> bool
 /// What the manifest itself wants to have passed over.
 fn allowed_by<'m>(alloc: Global, manifest: &'m Manifest) -> Result<Vec<&'m str>, AllocError> {
     let mut allowed = Vec::new(alloc);
-    let Some(package) = &manifest.package else {
-        return Ok(allowed);
-    };
-    let Some(Value::Table(metadata)) = &package.metadata else {
-        return Ok(allowed);
-    };
-    let Some(Value::Table(tools)) = metadata.get("cargo-toml-tools") else {
-        return Ok(allowed);
-    };
-    let Some(Value::Array(items)) = tools.get("allow") else {
-        return Ok(allowed);
-    };
-    for item in items {
-        if let Value::String(text) = item {
-            allowed.push(text.as_str())?;
+    if let Some(Value::Array(items)) = own_allow(manifest) {
+        for item in items {
+            if let Value::String(text) = item {
+                allowed.push(text.as_str())?;
+            }
         }
     }
     Ok(allowed)
 }
 
+fn own_allow(manifest: &Manifest) -> Option<&Value> {
+    let metadata = manifest.package.as_ref()?.metadata.as_ref()?;
+    metadata.get("cargo-toml-tools")?.get("allow")
+}
+
 /// Whether one of the texts is the finding's code, or `CODE=FEATURE` of it.
 fn is_allowed(allowed: &[&str], finding: &Finding<'_>) -> bool {
     for text in allowed {
-        if *text == finding.code.name() {
+        let (code, feature) = text.split_once('=').unwrap_or((*text, finding.feature));
+        if code == finding.code.name() && feature == finding.feature {
             return true;
-        }
-        if let Some((code, feature)) = text.split_once('=') {
-            if code == finding.code.name() && feature == finding.feature {
-                return true;
-            }
         }
     }
     false
 }
 
-fn lines(
+/// The places of these findings: of each the first of its keys that has one.
+fn places_of(
     alloc: Global,
-    file: &str,
     text: &str,
     manifest: &Manifest,
     findings: &[Finding<'_>],
-    json: bool,
-) -> Result<String, AllocError> {
+) -> Result<Vec<Place>, AllocError> {
     let mut keys = Vec::new(alloc);
     let mut wanted = BTreeSet::new(alloc);
     for finding in findings {
@@ -159,20 +160,11 @@ fn lines(
         keys.push(paths)?;
     }
     let found = places(alloc, text, &wanted)?;
-    let mut lines = String::new(alloc);
-    for (finding, paths) in findings.iter().zip(keys.iter()) {
-        let line = Line {
-            file,
-            place: first_of(&found, paths.as_slice()),
-            level: finding.code.level().name(),
-            code: finding.code.name(),
-            feature: finding.feature,
-            text: finding.text,
-            words: finding.code.words(),
-        };
-        push_line(alloc, &mut lines, line, json)?;
+    let mut all = Vec::new(alloc);
+    for paths in &keys {
+        all.push(first_of(&found, paths.as_slice()))?;
     }
-    Ok(lines)
+    Ok(all)
 }
 
 /// The first of these paths that has a place.
@@ -192,38 +184,98 @@ fn paths_of(
     manifest: &Manifest,
     finding: &Finding<'_>,
 ) -> Result<Vec<String>, AllocError> {
-    let mut paths = Vec::new(alloc);
-    let path = below(alloc, "features", finding.feature)?;
-    if let Some(texts) = manifest.features.get(finding.feature) {
-        let list = below(alloc, path.as_str(), "enables")?;
-        push_text(&mut paths, path.as_str(), texts.as_slice(), finding.text)?;
-        push_text(&mut paths, list.as_str(), texts.as_slice(), finding.text)?;
-    }
-    paths.push(path)?;
-    let tables = [
-        &manifest.dependencies,
-        &manifest.build_dependencies,
-        &manifest.dev_dependencies,
-    ];
-    push_dependencies(&mut paths, alloc, "", tables, finding)?;
+    let mut paths = Paths {
+        alloc,
+        finding: *finding,
+        all: Vec::new(alloc),
+    };
+    paths.add_feature(manifest)?;
+    paths.add_dependency("", "dependencies", &manifest.dependencies)?;
+    paths.add_dependency("", "build-dependencies", &manifest.build_dependencies)?;
+    paths.add_dependency("", "dev-dependencies", &manifest.dev_dependencies)?;
     for (name, target) in &manifest.target {
-        let above = below(alloc, "target", name.as_str())?;
-        let tables = [
-            &target.dependencies,
-            &target.build_dependencies,
-            &target.dev_dependencies,
-        ];
-        push_dependencies(&mut paths, alloc, above.as_str(), tables, finding)?;
+        paths.add_target(name.as_str(), target)?;
     }
-    for (kind, products) in &[
-        ("bin", &manifest.bin),
-        ("example", &manifest.example),
-        ("test", &manifest.test),
-        ("bench", &manifest.bench),
-    ] {
-        push_products(&mut paths, alloc, *kind, products.as_slice(), finding)?;
+    paths.add_products("bin", manifest.bin.as_slice())?;
+    paths.add_products("example", manifest.example.as_slice())?;
+    paths.add_products("test", manifest.test.as_slice())?;
+    paths.add_products("bench", manifest.bench.as_slice())?;
+    Ok(paths.all)
+}
+
+#[derive(Drop)]
+struct Paths<'f> {
+    alloc: Global,
+    finding: Finding<'f>,
+    all: Vec<String>,
+}
+
+impl Paths<'_> {
+    fn add_feature(&mut self, manifest: &Manifest) -> Result<(), AllocError> {
+        let feature = self.finding.feature;
+        let path = below(self.alloc, "features", feature)?;
+        if let Some(texts) = manifest.features.get(feature) {
+            self.add_text(path.clone()?, texts.as_slice())?;
+            return self.add(path, "enables", texts.as_slice());
+        }
+        self.all.push(path)?;
+        Ok(())
     }
-    Ok(paths)
+
+    fn add_target(&mut self, name: &str, target: &Target) -> Result<(), AllocError> {
+        let path = below(self.alloc, "target", name)?;
+        let place = path.as_str();
+        self.add_dependency(place, "dependencies", &target.dependencies)?;
+        self.add_dependency(place, "build-dependencies", &target.build_dependencies)?;
+        self.add_dependency(place, "dev-dependencies", &target.dev_dependencies)
+    }
+
+    fn add_dependency(
+        &mut self,
+        above: &str,
+        kind: &str,
+        table: &DepsSet,
+    ) -> Result<(), AllocError> {
+        let feature = self.finding.feature;
+        if let Some(dependency) = table.get(feature) {
+            let table = below(self.alloc, above, kind)?;
+            let path = below(self.alloc, table.as_str(), feature)?;
+            self.add(path, "features", dependency.req_features())?;
+        }
+        Ok(())
+    }
+
+    fn add_products(&mut self, kind: &str, products: &[Product]) -> Result<(), AllocError> {
+        for (index, product) in products.iter().enumerate() {
+            if product.name.as_deref() == Some(self.finding.feature) {
+                let mut path = below(self.alloc, "", kind)?;
+                push_item(&mut path, index)?;
+                self.add(
+                    path,
+                    "required-features",
+                    product.required_features.as_slice(),
+                )?;
+            }
+        }
+        Ok(())
+    }
+
+    /// Adds that of the text in the list of this key, if it is there, and the path itself.
+    fn add(&mut self, path: String, list: &str, texts: &[String]) -> Result<(), AllocError> {
+        self.add_text(below(self.alloc, path.as_str(), list)?, texts)?;
+        self.all.push(path)?;
+        Ok(())
+    }
+
+    fn add_text(&mut self, list: String, texts: &[String]) -> Result<(), AllocError> {
+        let text = self.finding.text;
+        if let Some(index) = texts.iter().position(|other| other.as_str() == text) {
+            let mut path = list;
+            push_item(&mut path, index)?;
+            self.all.push(path)?;
+        }
+        Ok(())
+    }
 }
 
 /// The path of a key below another.
@@ -233,84 +285,21 @@ fn below(alloc: Global, above: &str, key: &str) -> Result<String, AllocError> {
     Ok(path)
 }
 
-/// Adds the path of a text of a list, if it is there.
-fn push_text(
-    paths: &mut Vec<String>,
-    list: &str,
-    texts: &[String],
-    text: &str,
-) -> Result<(), AllocError> {
-    if let Some(index) = texts.iter().position(|other| other.as_str() == text) {
-        let mut path = String::from_str(*paths.allocator(), list)?;
-        push_item(&mut path, index)?;
-        paths.push(path)?;
-    }
-    Ok(())
-}
-
-/// Adds the paths of a dependency, and of the text in its list, in each of these tables.
-fn push_dependencies(
-    paths: &mut Vec<String>,
-    alloc: Global,
-    above: &str,
-    tables: [&DepsSet; 3],
-    finding: &Finding<'_>,
-) -> Result<(), AllocError> {
-    let names = ["dependencies", "build-dependencies", "dev-dependencies"];
-    for (name, table) in names.iter().zip(tables.iter()) {
-        if let Some(dependency) = table.get(finding.feature) {
-            let path = below(alloc, below(alloc, above, *name)?.as_str(), finding.feature)?;
-            let list = below(alloc, path.as_str(), "features")?;
-            push_text(
-                paths,
-                list.as_str(),
-                dependency.req_features(),
-                finding.text,
-            )?;
-            paths.push(path)?;
-        }
-    }
-    Ok(())
-}
-
-fn push_products(
-    paths: &mut Vec<String>,
-    alloc: Global,
-    kind: &str,
-    products: &[Product],
-    finding: &Finding<'_>,
-) -> Result<(), AllocError> {
-    for (index, product) in products.iter().enumerate() {
-        if product.name.as_deref() == Some(finding.feature) {
-            let mut path = below(alloc, "", kind)?;
-            push_item(&mut path, index)?;
-            let list = below(alloc, path.as_str(), "required-features")?;
-            let texts = product.required_features.as_slice();
-            push_text(paths, list.as_str(), texts, finding.text)?;
-            paths.push(path)?;
-        }
-    }
-    Ok(())
-}
-
 fn unreadable(alloc: Global, file: &str, text: &str, json: bool) -> Result<String, AllocError> {
     let mut lines = String::new(alloc);
     for told in &faults_in(alloc, text)? {
-        push_line(alloc, &mut lines, line_of(file, told), json)?;
+        let line = Line {
+            file,
+            place: told.place,
+            level: "error",
+            code: "unreadable",
+            feature: told.key.as_str(),
+            text: "",
+            words: told.words.as_str(),
+        };
+        push_line(alloc, &mut lines, line, json)?;
     }
     Ok(lines)
-}
-
-fn line_of<'a>(file: &'a str, told: &'a Told) -> Line<'a> {
-    Line {
-        file,
-        place: told.place,
-        level: "error",
-        code: "unreadable",
-        feature: told.key.as_str(),
-        text: "",
-        words: told.words.as_str(),
-    }
 }
 
 /// Writes a line `FILE:LINE:COLUMN: LEVEL | CODE | FEATURE | TEXT | words`, or the same as JSON.
@@ -327,8 +316,7 @@ fn push_line(
     push_place(lines, line.file, line.place)?;
     lines.push_str(line.level)?;
     for cell in &[line.code, line.feature, line.text, line.words.trim_end()] {
-        lines.push_str(" | ")?;
-        push_escaped(lines, *cell, Format::Line)?;
+        write!(lines, " | {}", Escaped(*cell, Format::Line))?;
     }
     lines.push_str("\n")
 }

@@ -78,6 +78,15 @@ pub(crate) fn push_item(text: &mut String, index: usize) -> Result<(), AllocErro
     write!(text, "[{index}]")
 }
 
+/// What is behind the plain value that a text begins with.
+fn after_plain(alloc: Global, text: &str) -> &str {
+    if starts_string(text) {
+        quoted(alloc, text).map_or(text, |(_, rest)| rest)
+    } else {
+        unquoted(alloc, text).map_or(text, |(_, rest)| rest)
+    }
+}
+
 /// An array or an inline table that isn't closed yet.
 #[derive(Drop)]
 struct Open {
@@ -227,51 +236,34 @@ impl<'t> Walk<'t> {
     /// The next part of an array or an inline table.
     fn part(&mut self, open: Open) -> Result<(), AllocError> {
         let mut path = open.path.clone()?;
-        match open.index {
-            Some(index) => {
-                push_item(&mut path, index)?;
-                self.note(&path, self.at)?;
-                self.open.push(Open {
-                    path: open.path,
-                    index: Some(index.saturating_add(1)),
-                })?;
-            }
-            None => {
-                self.open.push(open)?;
-                path = self.key(path, false)?;
-                self.skip(1);
-                self.go_to(skip_ws(self.rest()));
-            }
-        }
+        let Some(index) = open.index else {
+            self.open.push(open)?;
+            path = self.key(path, false)?;
+            self.skip(1);
+            self.go_to(skip_ws(self.rest()));
+            return self.begin(path);
+        };
+        push_item(&mut path, index)?;
+        self.note(&path, self.at)?;
+        self.open.push(Open {
+            path: open.path,
+            index: Some(index.saturating_add(1)),
+        })?;
         self.begin(path)
     }
 
     /// A whole plain value, or the beginning of an array or of an inline table.
     fn begin(&mut self, path: String) -> Result<(), AllocError> {
-        let rest = self.rest();
-        match self.byte() {
-            b'[' => {
-                self.skip(1);
-                self.open.push(Open {
-                    path,
-                    index: Some(0),
-                })?;
-            }
-            b'{' => {
-                self.skip(1);
-                self.open.push(Open { path, index: None })?;
-            }
-            _ if starts_string(rest) => {
-                if let Ok((_, rest)) = quoted(self.alloc, rest) {
-                    self.go_to(rest);
-                }
-            }
+        let index = match self.byte() {
+            b'[' => Some(0),
+            b'{' => None,
             _ => {
-                if let Ok((_, rest)) = unquoted(self.alloc, rest) {
-                    self.go_to(rest);
-                }
+                self.go_to(after_plain(self.alloc, self.rest()));
+                return Ok(());
             }
-        }
+        };
+        self.skip(1);
+        self.open.push(Open { path, index })?;
         Ok(())
     }
 

@@ -50,7 +50,8 @@ fn blame<'t>(
     let Some(fault) = refusal(alloc, path.as_slice(), part)? else {
         return Ok(());
     };
-    let mut inner = inner_faults(alloc, path, part)?;
+    let mut inner = Vec::new(alloc);
+    blame_parts(alloc, path, part, &mut inner)?;
     if inner.is_empty() {
         let path = Vec::from_slice(alloc, path.as_slice())?;
         found.push(Fault { path, fault })?;
@@ -60,27 +61,7 @@ fn blame<'t>(
     Ok(())
 }
 
-/// What is at fault in the parts of the part at this path, if it reads emptied.
-#[cycle(blame)]
-fn inner_faults<'t>(
-    alloc: Global,
-    path: &mut Vec<Step<'t>>,
-    part: &'t Value,
-) -> Result<Vec<Fault<'t>>, AllocError>
-    ensures stays { OnOk result (path.new.items ≡ path.old.items) }
-    ensures found { IfOk result (λ v. map path_of v.items
-        ≡ inner_paths (map part_of path.old.items) (view part.now)
-        (blamed_parts (map part_of path.old.items) (view part.now))) }
-{
-    let mut found = Vec::new(alloc);
-    if !reads_emptied(alloc, path.as_slice(), part)? {
-        return Ok(found);
-    }
-    blame_parts(alloc, path, part, &mut found)?;
-    Ok(found)
-}
-
-/// Adds what is at fault in the parts of the part at this path.
+/// Adds what is at fault in the parts of the part at this path, if it reads emptied.
 #[cycle(blame)]
 fn blame_parts<'t>(
     alloc: Global,
@@ -90,8 +71,12 @@ fn blame_parts<'t>(
 ) -> Result<(), AllocError>
     ensures stays { OnOk result (path.new.items ≡ path.old.items) }
     ensures found { OnOk result (map path_of found.new.items ≡ map path_of found.old.items
-        ++ blamed_parts (map part_of path.old.items) (view part.now)) }
+        ++ inner_paths (map part_of path.old.items) (view part.now)
+        (blamed_parts (map part_of path.old.items) (view part.now))) }
 {
+    if !reads_emptied(alloc, path.as_slice(), part)? {
+        return Ok(());
+    }
     match part {
         Value::Array(items) => blame_items(alloc, path, items, found),
         Value::Table(members) => blame_members(alloc, path, members, found),

@@ -2,13 +2,12 @@
 ghost use Rattle.std.specs.Prelude.{◌≡◌, IfErr, IfOk, Some, string_bytes};
 ghost use Rattle.serde_json.specs.Data.{array, no_members, object};
 ghost use Rattle.serde_json.specs.View.{view as json_view};
-ghost use Rattle.toml.specs.Data.{table};
 ghost use Rattle.toml.specs.View.{view, array_view, table_view};
-ghost use Rattle.cargo_toml.specs.Manifests.{manifest_meaning};
-ghost use Rattle.cargo_toml.specs.Reread.{IsTold, reread};
+ghost use Rattle.toml.specs.Data.{table};
+ghost use Rattle.cargo_toml.specs.{Manifests.manifest_meaning, Reread.IsTold, Reread.reread};
+ghost use Rattle.cargo_toml_check.specs.Shown.{IsShown, IsShownAsJson, IsUnshown, json_items};
+ghost use Rattle.cargo_toml_check.specs.Shown.{json_of, with_json};
 ghost use Rattle.cargo_toml_check.specs.Blamed.{reads};
-ghost use Rattle.cargo_toml_check.specs.Shown.{IsShown, IsShownAsJson, IsUnshown};
-ghost use Rattle.cargo_toml_check.specs.Shown.{json_items, json_of, with_json};
 
 use cargo_toml::{Error, Manifest, ToValue};
 use cargo_toml_write::write::package::value_metadata;

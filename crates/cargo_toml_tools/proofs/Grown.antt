@@ -1,27 +1,7 @@
 -- Lists that grow by a piece for each element.
-use Rattle.std.proofs.Common.{arith, ◌≡◌, ◌+◌, ◌++◌, ◌∙◌, ◌<◌, ℕ, List, [], ◌∷◌, add-one, drop, drop-cons, get_or, length, map, refl, sym, ap, append_assoc}
-use Rattle.std.{proofs.lemmas.List.append-nil, proofs.lemmas.List.Concat.flat_map-append, specs.List.flat_map}
-
--- what is left to be added behind what was
-module _ {A B : Type 0} (f : A → List B) where
-  pub flat_step : (x : A) (left rest : List A) (items more whole : List B) → left ≡ x ∷ rest → more ≡ items ++ f x → items ++ flat_map f left ≡ whole → more ++ flat_map f rest ≡ whole
-  flat_step x left rest items more whole is adds before =
-      ap (λ t. t ++ flat_map f rest) adds ∙ append_assoc items (f x) (flat_map f rest) ∙ ap (λ t. items ++ flat_map f t) (sym is) ∙ before
-
-  pub flat_end : (left : List A) (items whole : List B) → left ≡ [] → items ++ flat_map f left ≡ whole → items ≡ whole
-  flat_end left items whole none before = sym (append-nil items) ∙ ap (λ t. items ++ flat_map f t) (sym none) ∙ before
-
-pub flat_flat : {A B C : Type 0} (f : B → List C) (g : A → List B) (xs : List A) → flat_map f (flat_map g xs) ≡ flat_map (λ x. flat_map f (g x)) xs
-flat_flat f g [] = refl
-flat_flat f g (x ∷ xs) = flat_map-append f (g x) (flat_map g xs) ∙ ap (λ t. flat_map f (g x) ++ t) (flat_flat f g xs)
-
--- three elements, one behind the other
-pub three_more : {A : Type 0} (a b c d : List A) (x y z : A) → b ≡ a ++ x ∷ [] → c ≡ b ++ y ∷ [] → d ≡ c ++ z ∷ [] → d ≡ a ++ (x ∷ y ∷ z ∷ [])
-three_more a b c d x y z first second third = grind (arith, append_assoc)
-
-pub map_twice : {A B C : Type 0} (g : B → C) (f : A → B) (xs : List A) → map g (map f xs) ≡ map (λ x. g (f x)) xs
-map_twice g f [] = refl
-map_twice g f (x ∷ xs) = ap (λ t. g (f x) ∷ t) (map_twice g f xs)
+use Rattle.std.proofs.Common.{arith, ◌≡◌, ◌+◌, ◌++◌, ◌∙◌, ◌<◌, ℕ, List, [], ◌∷◌, None, Option, Some, add-one, drop, drop-cons, get_or, length, map, refl, sym, ap, append_assoc}
+use Rattle.std.proofs.lemmas.{List.map-append, List.Concat.flat_map-append, Map.Iter.rest_all, Map.Iter.rest_more}
+use Rattle.std.specs.{List.flat_map, Map.Iter.TakesFirst}
 
 -- what is left begins with the next
 pub drop_next : {A : Type 0} (xs : List A) (i : ℕ) (d : A) → i < length xs → drop i xs ≡ get_or xs i d ∷ drop (i + 1) xs
@@ -30,3 +10,35 @@ drop_next xs i d h = rw (add-one, drop-cons xs i d)
 -- the same, where an element is the next
 pub left_next : {A B : Type 0} (f : A → B) (xs : List A) (i : ℕ) (x : A) → i < length xs → x ≡ get_or xs i x → map f (drop i xs) ≡ f x ∷ map f (drop (i + 1) xs)
 left_next f xs i x within is = ap (map f) (drop_next xs i x within ∙ ap (λ t. t ∷ drop (i + 1) xs) (sym is))
+
+-- what is left of a map
+pub rest_next : {A X Y Z : Type 0} (f : Y → List Z) (g : X → Y) (shows : A → X) (s t : List X) (r : Option A) (x : A) → r ≡ Some x → TakesFirst shows s r t
+    → flat_map f (map g s) ≡ f (g (shows x)) ++ flat_map f (map g t)
+rest_next f g shows s t r x is step = ap (λ xs. flat_map f (map g xs)) (rest_more shows s t r x is step)
+
+pub rest_none : {A X Y Z : Type 0} (f : Y → List Z) (g : X → Y) (shows : A → X) (s t : List X) (r : Option A) → r ≡ None → TakesFirst shows s r t
+    → flat_map f (map g s) ≡ []
+rest_none f g shows s t r is step = ap (λ xs. flat_map f (map g xs)) (rest_all shows s t r is step)
+
+-- what is left of a list
+pub mapped_left : {X Y Z : Type 0} (f : Y → List Z) (g : X → Y) (xs : List X) (i : ℕ) (x : X) → i < length xs → x ≡ get_or xs i x
+    → flat_map f (map g (drop i xs)) ≡ f (g x) ++ flat_map f (map g (drop (i + 1) xs))
+mapped_left f g xs i x within is = ap (flat_map f) (left_next g xs i x within is)
+
+pub flat_flat : {A B C : Type 0} (f : B → List C) (g : A → List B) (xs : List A) → flat_map f (flat_map g xs) ≡ flat_map (λ x. flat_map f (g x)) xs
+flat_flat f g [] = refl
+flat_flat f g (x ∷ xs) = flat_map-append f (g x) (flat_map g xs) ∙ ap (λ t. flat_map f (g x) ++ t) (flat_flat f g xs)
+
+-- three elements, one behind the other, and what stands for each
+pub three_more : {A B : Type 0} (f : A → B) (a b c d : List A) (x y z : A) (p q r : B) → b ≡ a ++ x ∷ [] → c ≡ b ++ y ∷ [] → d ≡ c ++ z ∷ [] → f x ≡ p → f y ≡ q → f z ≡ r
+    → map f d ≡ map f a ++ (p ∷ q ∷ r ∷ [])
+three_more f a b c d x y z p q r first second third fourth fifth sixth = grind (arith, append_assoc, map-append)
+
+pub map_twice : {A B C : Type 0} (g : B → C) (f : A → B) (xs : List A) → map g (map f xs) ≡ map (λ x. g (f x)) xs
+map_twice g f [] = refl
+map_twice g f (x ∷ xs) = ap (λ t. g (f x) ∷ t) (map_twice g f xs)
+
+-- of one loop in another, and of the tables of a manifest
+pub ruleset nested = (mapped_left, rest_next, rest_none)
+
+pub ruleset tables = (rest_next, rest_none, three_more)

@@ -3,7 +3,7 @@ use Rattle.std.proofs.Common.{arith, ◌≡◌, ◌++◌, ◌∙◌, Bool, true,
 use Rattle.std.{proofs.lemmas.List.map-append, specs.Prelude.codes, specs.List.list_any}
 use Rattle.serde_json.specs.{Data.Data, Data.Members, Data.number, Data.put, Data.unsigned, View.view, declared.value.Value.Value}
 use Rattle.cargo_toml.specs.Action.{Text}
-use Rattle.cargo_toml_tools.specs.{IndexRows.with_rows, IndexLines.feature_rows, IndexLines.is_extended, IndexLines.lists_object}
+use Rattle.cargo_toml_tools.specs.{IndexEntries.with_rows, IndexEntries.feature_rows, IndexEntries.is_extended, IndexEntries.lists_object}
 
 pub with_both : (xs ys : List (Text × Data)) (ms : Members) → with_rows (xs ++ ys) ms ≡ with_rows ys (with_rows xs ms)
 with_both [] ys ms = refl
@@ -29,11 +29,7 @@ in_five r s t u v a b c d e f first second third fourth fifth =
 pub put_same : (key : Text) (d e : Data) (a b : Members) → b ≡ put key d a → d ≡ e → b ≡ put key e a
 put_same key d e a b puts same = puts ∙ ap (λ x. put key x a) same
 
--- the features, without those of the second version or with them
-pub first_version : (fs : List (Text × List Text)) (a b : Members) (x : Data) → b ≡ put (codes "features") x a → x ≡ lists_object false fs
-    → list_any (λ (f : Text × List Text). is_extended f.1) fs ≡ false → b ≡ with_rows (feature_rows fs) a
-first_version fs a b x puts is none = grind (arith, put_same)
-
+-- the features, with those of the second version
 pub second_version : (fs : List (Text × List Text)) (a b c d : Members) (x y z : Data) → b ≡ put (codes "features") x a → x ≡ lists_object false fs
     → list_any (λ (f : Text × List Text). is_extended f.1) fs ≡ true → c ≡ put (codes "features2") y b → y ≡ lists_object true fs
     → d ≡ put (codes "v") z c → z ≡ number (unsigned 2) → d ≡ with_rows (feature_rows fs) a

@@ -1,10 +1,8 @@
 -- What the words of the command line ask for, and how a run ends.
 use Rattle.std.specs.Prelude.{◌≡◌, ℕ, IfSome, None, vec_len, ⊤}
-use Rattle.cargo_toml_tools.specs.declared.outcome.Outcome.{Outcome}
-use Rattle.cargo_toml_tools.specs.declared.outcome.Outcome.TheVariants.{Done, Odd}
-use Rattle.cargo_toml_tools.specs.declared.outcome.Outcome.TheVariants.{Refused, NoCommand}
-use Rattle.cargo_toml_tools.specs.declared.words.Request.{Request}
-use Rattle.cargo_toml_tools.specs.declared.words.Request.TheVariants.{Index}
+use Rattle.cargo_toml_tools.specs.declared.words.Outcome.TheVariants.{Done, Odd, Refused, NoCommand}
+use Rattle.cargo_toml_tools.specs.{declared.words.Outcome.Outcome, declared.words.Request.Request}
+use Rattle.cargo_toml_tools.specs.{declared.words.Request.TheVariants.Index}
 
 -- the status of the program
 abbrev pub exit_status : Outcome → ℕ

@@ -1,16 +1,17 @@
--- Manifests in files, and why a file gives none. What a file holds, nothing says.
-use Rattle.std.specs.Prelude.{◌≡◌, ◌⊎◌, None, Err, IsUtf8}
-use Rattle.toml.specs.View.{view}
-use Rattle.toml.specs.declared.value.Value.{Value}
-use Rattle.cargo_toml.specs.Action.{Text}
-use Rattle.cargo_toml.specs.Completed.{IsCompleted}
-use Rattle.cargo_toml.specs.Disk.{IsInput}
-use Rattle.cargo_toml.specs.Error.{Error, Memory}
-use Rattle.cargo_toml.specs.Manifest.{Manifest}
-use Rattle.cargo_toml.specs.Manifests.{ManifestRefuses, manifest_meaning, manifest_reads}
-use Rattle.cargo_toml.specs.RealFiles.{IsTextFault, ReadsAs, any_root}
-use Rattle.cargo_toml.specs.RealFiles.{real_folders, real_roots}
+-- Manifests in files, what is documented of a text, and why a file gives none. What a file holds,
+-- nothing says.
+use Rattle.std.specs.Prelude.{◌≡◌, ◌⊎◌, None, Err, IsUtf8, List, true}
+use Rattle.std.specs.{declared.hash.DefaultHasher.DefaultHasher}
+use Rattle.std.specs.{declared.hash.RandomState.RandomState}
+use Rattle.toml.specs.{View.view, declared.value.Value.Value}
+use Rattle.cargo_toml.specs.Manifests.{ManifestRefuses, manifest_meaning, manifest_reads, held}
+use Rattle.cargo_toml.specs.RealFiles.{IsTextFault, ReadsAs, any_root, real_folders, real_roots}
 use Rattle.cargo_toml.specs.Texts.{AnyRefuses, IsFromText, any_tree}
+use Rattle.cargo_toml.specs.{Action.Text, Completed.IsCompleted, Disk.IsInput, Error.Error}
+use Rattle.cargo_toml.specs.{Error.Memory, Manifest.Manifest, Limits.MAX_ITEMS, Parsed.IsParsed}
+use Rattle.cargo_toml.specs.{Views.answer_of}
+use Rattle.cargo_toml_features.specs.declared.features.Features.{Features}
+use Rattle.cargo_toml_tools.specs.{Documented.AreRowsOf, declared.document.listing.Row.Row}
 
 -- the text, which a file may hold, reads as this manifest
 pub record IsManifestIn (text : Text) (m : Manifest Value) : Type 0 where
@@ -44,3 +45,22 @@ abbrev pub IsUncompleted : Text → Text → Error → Type 0
 IsUncompleted path text =
     IsTextFault path text (manifest_meaning view) (manifest_reads any_tree)
     (ManifestRefuses any_tree AnyRefuses)
+
+-- the rows are those of this manifest's features, resolved with none removed
+pub record AreRowsIn (m : Manifest Value) (rows : List Row) : Type 0 where
+  pub features : Features RandomState DefaultHasher
+  pub whole : IsParsed MAX_ITEMS (held m) (λ _. true) (answer_of features)
+  pub exact : AreRowsOf (held m) features.features rows
+
+-- the text reads as a manifest, and just the rows of that were taken
+pub record IsDocumented {T : Type 0} (took : T → List Row → T → Type 0) (text : Text) (old new : T)
+    : Type 0 where
+  pub manifest : Manifest Value
+  pub read : IsManifestIn text manifest
+  pub rows : List Row
+  pub exact : AreRowsIn manifest rows
+  pub taken : took old rows new
+
+-- why nothing is documented of a text
+abbrev pub IsUndocumented : Text → Error → Type 0
+IsUndocumented text e = IsOfInput e ⊎ RefusesText text e

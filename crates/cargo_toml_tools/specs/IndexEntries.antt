@@ -1,17 +1,51 @@
--- The entries that the line of an index has of a crate's dependencies.
-use Rattle.std.specs.Prelude.{◌++◌, ◌||◌, Bool, true, false, if◌then◌else◌, List, [], ◌∷◌, Option}
-use Rattle.std.specs.Prelude.{Some, None, codes, option_and_then, unwrap_or}
-use Rattle.std.specs.List.{flat_map}
-use Rattle.semver.specs.Parse.{Held}
-use Rattle.serde_json.specs.Data.{Data, boolean, no_members, object, string}
-use Rattle.toml.specs.Data.{Members, as_bool}
+-- What the line of an index is: what it holds of a package, the entries of its dependencies, and
+-- what it holds of its features.
+use Rattle.std.specs.Prelude.{List, [], ◌∷◌, Option, Some, None, false, codes, map, option_and_then}
+use Rattle.std.specs.Prelude.{option_map, ◌++◌, ◌||◌, Bool, true, if◌then◌else◌, unwrap_or, not}
+use Rattle.std.specs.Prelude.{filter}
+use Rattle.std.specs.{List.flat_map, List.list_any, Option.option_map_or}
+use Rattle.semver.specs.{Identifiers.parts_text, Parse.Held}
+use Rattle.serde_json.specs.Data.{Data, Members, array, boolean, null, put, string, no_members}
+use Rattle.serde_json.specs.Data.{object, number, unsigned}
+use Rattle.serde_json.specs.View.{items_of}
+use Rattle.toml.specs.Data.{Members as TomlMembers, as_bool}
+use Rattle.cargo_toml.specs.Action.{Text, Item, item_of}
 use Rattle.cargo_toml.specs.Dependencies.{DependencyMeaning, simple, inherited, detailed}
 use Rattle.cargo_toml.specs.Dependencies.{is_optional, package_of}
 use Rattle.cargo_toml.specs.Kind.TheVariants.{Build, Dev, Normal}
-use Rattle.cargo_toml.specs.{Action.Text, Kind.Kind, Requirements.requirement_text}
+use Rattle.cargo_toml.specs.{InheritableValues.value_of, Packages.PackageMeaning, Kind.Kind}
+use Rattle.cargo_toml.specs.{Requirements.requirement_text, Action.Item.Name, Action.Item.On}
+use Rattle.cargo_toml.specs.{InheritedDependencies.Entries, InheritedDependencies.entry_at}
+use Rattle.cargo_toml.specs.{Manifests.ManifestMeaning}
 use Rattle.cargo_toml_tools.specs.Indexed.{DependencyTable, Wanted, elsewhere, lacks_version}
-use Rattle.cargo_toml_tools.specs.Indexed.{source_of, written_flag}
-use Rattle.cargo_toml_tools.specs.IndexRows.{rows_if, text_array, text_or_null, with_rows}
+use Rattle.cargo_toml_tools.specs.Indexed.{source_of, written_flag, dependency_tables, written}
+
+-- an object with each of these members put in its place, in byte order of their names
+abbrev pub with_rows : List (Text × Data) → Members → Members
+with_rows [] ms = ms
+with_rows (row ∷ rows) ms = with_rows rows (put row.0 row.1 ms)
+
+abbrev pub text_or_null : Option Text → Data
+text_or_null None = null
+text_or_null (Some text) = string text
+
+-- a list of texts
+abbrev pub text_array : List Text → Data
+text_array ts = array (items_of (map string ts))
+
+-- what is of the package alone
+abbrev pub rows_of_package : {M : Type 0} → PackageMeaning M → List (Text × Data)
+rows_of_package p =
+    (codes "name", string p.name)
+    ∷ (codes "vers", text_or_null (option_map parts_text (value_of p.version)))
+    ∷ (codes "yanked", boolean false)
+    ∷ (codes "links", text_or_null p.links)
+    ∷ (codes "rust_version", text_or_null (option_and_then value_of p.rust_version)) ∷ []
+
+-- a text under a key, where there is one
+abbrev pub rows_if : Text → Option Text → List (Text × Data)
+rows_if key None = []
+rows_if key (Some text) = (key, string text) ∷ []
 
 -- the requirement on the version, if there is one, and how it is written
 abbrev pub required_version : DependencyMeaning → Option (List Held)
@@ -30,7 +64,7 @@ asked_features (inherited i) = i.features
 asked_features (detailed d) = d.features
 
 -- where the rest is left to a workspace that says otherwise, what is written of it counts
-abbrev pub has_default : Option Members → Text → DependencyMeaning → Bool
+abbrev pub has_default : Option TomlMembers → Text → DependencyMeaning → Bool
 has_default table key (simple r) = true
 has_default table key (inherited i) = true
 has_default table key (detailed d) =
@@ -66,3 +100,68 @@ index_entries w t e =
 
 abbrev pub table_entries : Wanted → DependencyTable → List Data
 table_entries w t = flat_map (index_entries w t) t.entries
+
+-- ---- what stays of the lists
+
+-- the table has a dependency of this key that isn't left out
+abbrev pub keeps : Entries → Text → Bool
+keeps es key = option_map_or (λ d. not (lacks_version d)) (entry_at key es) false
+
+abbrev pub stays : List DependencyTable → Text → Bool
+stays ts key = list_any (λ t. keeps t.entries key) ts
+
+-- a text stays, unless it acts on a dependency that the line hasn't
+abbrev pub item_stays : List DependencyTable → Item → Bool
+item_stays ts (Name x) = true
+item_stays ts (On key a) = stays ts key
+
+abbrev pub is_kept : List DependencyTable → Text → Bool
+is_kept ts text = item_stays ts (item_of text)
+
+abbrev pub kept_lists : List DependencyTable → List (Text × List Text) → List (Text × List Text)
+kept_lists ts fs = map (λ f. (f.0, filter (is_kept ts) f.1)) fs
+
+-- ---- how they are written
+
+-- an action of the second version of the index: it has a `dep:` in front, or a `?` before its `/`
+abbrev pub is_newer : Item → Bool
+is_newer (Name x) = false
+is_newer (On key a) = a.is_dep_only || a.is_conditional
+
+-- a list with such an action
+abbrev pub is_extended : List Text → Bool
+is_extended list = list_any (λ text. is_newer (item_of text)) list
+
+-- in `features2` the lists that are extended; in `features` the others, and an empty one for each
+-- of these, so that what names such a feature can be read by who knows the first version alone
+abbrev pub list_rows : Bool → Text × List Text → List (Text × Data)
+list_rows true f = if is_extended f.1 then (f.0, text_array f.1) ∷ [] else []
+list_rows false f = (f.0, text_array (if is_extended f.1 then [] else f.1)) ∷ []
+
+abbrev pub lists_object : Bool → List (Text × List Text) → Data
+lists_object extended fs = object (with_rows (flat_map (list_rows extended) fs) no_members)
+
+-- what is there where some list is extended: those lists, and the second version
+abbrev pub second_rows : List (Text × List Text) → List (Text × Data)
+second_rows fs =
+    if list_any (λ f. is_extended f.1) fs
+    then (codes "features2", lists_object true fs) ∷ (codes "v", number (unsigned 2)) ∷ [] else []
+
+abbrev pub feature_rows : List (Text × List Text) → List (Text × Data)
+feature_rows fs = (codes "features", lists_object false fs) ∷ second_rows fs
+
+-- ---- the line
+
+-- an object of what is of the package alone, of its dependencies, its features and a checksum, with
+-- each member once
+abbrev pub line_data : {M : Type 0} → Wanted → List DependencyTable → List (Text × List Text)
+    → PackageMeaning M → Data
+line_data w ts features p = object (with_rows
+    (rows_of_package p
+    ++ ((codes "deps", array (items_of (flat_map (table_entries w) ts)))
+    ∷ (feature_rows (kept_lists ts features) ++ rows_if (codes "cksum") w.checksum))) no_members)
+
+-- that of a manifest, which was read from the text
+abbrev pub index_data : {M : Type 0} → Wanted → Text → ManifestMeaning M → Option Data
+index_data w text m =
+    option_map (line_data w (dependency_tables (written text) m) m.features) m.«package»

@@ -6,14 +6,13 @@ use Rattle.std.specs.{List.flat_map, List.list_any, Option.option_map_or, Option
 use Rattle.toml.specs.Data.{Data, Members, as_bool, as_table, get_member, no_members}
 use Rattle.toml.specs.Parse.{parse_document}
 use Rattle.cargo_toml.specs.Dependencies.{DependencyMeaning, simple, inherited, detailed}
-use Rattle.cargo_toml.specs.Inheritable.TheVariants.{Inherited, Set}
-use Rattle.cargo_toml.specs.InheritedDependencies.{Entries, is_left}
 use Rattle.cargo_toml.specs.Kind.TheVariants.{Build, Dev, Normal}
-use Rattle.cargo_toml.specs.Manifests.{ManifestMeaning, is_zero}
 use Rattle.cargo_toml.specs.Settings.{Registries, among, everywhere}
-use Rattle.cargo_toml.specs.{Action.Text, Inheritable.Inheritable, InheritedPackages.is_left_there}
-use Rattle.cargo_toml.specs.{Kind.Kind, Packages.PackageMeaning, Targets.TargetMeaning}
-use Rattle.cargo_toml.specs.{Versions.Parts}
+use Rattle.cargo_toml.specs.{Inheritable.TheVariants.Inherited, Inheritable.TheVariants.Set}
+use Rattle.cargo_toml.specs.{InheritedDependencies.Entries, InheritedDependencies.is_left}
+use Rattle.cargo_toml.specs.{Manifests.ManifestMeaning, Manifests.is_zero, Action.Text}
+use Rattle.cargo_toml.specs.{Inheritable.Inheritable, InheritedPackages.is_left_there, Kind.Kind}
+use Rattle.cargo_toml.specs.{Packages.PackageMeaning, Targets.TargetMeaning, Versions.Parts}
 use Rattle.cargo_toml_lint.specs.declared.finding.Level.TheVariants.{Error, Hint, Warning}
 use Rattle.cargo_toml_lint.specs.{Findings.code_level, declared.finding.Finding.Finding}
 use Rattle.cargo_toml_lint.specs.{declared.finding.Level.Level}

@@ -1,29 +1,20 @@
 -- What `index` answers of a text of a file.
 use Rattle.std.specs.Prelude.{◌≡◌, ◌⊎◌, ◌++◌, [], ◌∷◌, List, None, Option, Result, Some, ⊤}
 use Rattle.std.specs.Prelude.{codes, option_and_then}
-use Rattle.std.specs.BTreeMap.{BTreeMap, get_by}
-use Rattle.std.specs.Borrow.{Bor}
-use Rattle.std.specs.Cmp.Lexicographic.{slice_cmp}
-use Rattle.std.specs.Option.{option_copied, option_or}
-use Rattle.std.specs.Ordering.{nat_cmp}
-use Rattle.std.specs.declared.fmt.Error.{Error as FmtError}
-use Rattle.std.specs.declared.fmt.Formatter.{Formatter}
+use Rattle.std.specs.{BTreeMap.BTreeMap, BTreeMap.get_by, Borrow.Bor, Cmp.Lexicographic.slice_cmp}
+use Rattle.std.specs.{Option.option_copied, Option.option_or, Ordering.nat_cmp}
+use Rattle.std.specs.declared.fmt.{Error.Error as FmtError, Formatter.Formatter}
 use Rattle.semver.specs.Identifiers.{parts_text}
-use Rattle.serde_json.specs.Data.{Data}
-use Rattle.serde_json.specs.Written.{IsInOrder}
+use Rattle.serde_json.specs.{Data.Data, Written.IsInOrder}
 use Rattle.toml.specs.declared.value.Value.{Value}
-use Rattle.cargo_toml.specs.Action.{Text}
-use Rattle.cargo_toml.specs.Manifest.{Manifest}
-use Rattle.cargo_toml.specs.InheritableValues.{value_of}
-use Rattle.cargo_toml.specs.Manifests.{ManifestMeaning, held}
+use Rattle.cargo_toml.specs.{Action.Text, InheritableValues.value_of, Manifest.Manifest}
+use Rattle.cargo_toml.specs.{Manifests.held, Manifests.ManifestMeaning}
 use Rattle.cargo_toml_parts.specs.OwnWords.{HasOwnWords, WritesSome}
 use Rattle.cargo_toml_lint.specs.declared.finding.Finding.{Finding}
 use Rattle.cargo_toml_tools.specs.FromFiles.{IsCompletedIn, IsOfInput, IsUncompleted}
-use Rattle.cargo_toml_tools.specs.IndexLines.{index_data}
-use Rattle.cargo_toml_tools.specs.Indexed.{Wanted, refusal_of}
-use Rattle.cargo_toml_tools.specs.Linted.{AreFindingsOf}
-use Rattle.cargo_toml_tools.specs.Sections.{told}
-use Rattle.cargo_toml_tools.specs.declared.files.indexing.Fault.{Fault}
+use Rattle.cargo_toml_tools.specs.{IndexEntries.index_data, Indexed.Wanted, Indexed.refusal_of}
+use Rattle.cargo_toml_tools.specs.{Linted.AreFindingsOf, Sections.told}
+use Rattle.cargo_toml_tools.specs.{declared.files.indexing.Fault.Fault}
 use Rattle.cargo_toml_tools.specs.declared.files.indexing.Fault.TheVariants as fault
 use Rattle.cargo_toml_tools.specs.declared.index.IndexError.{IndexError}
 use Rattle.cargo_toml_tools.specs.declared.index.IndexError.TheVariants.{Memory}

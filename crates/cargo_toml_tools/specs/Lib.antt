@@ -1,16 +1,12 @@
 -- what an index takes, and what is amiss, documented or odd; what the words ask for, and the
 -- statuses: a user has to believe these
 pub mod Indexed
-pub mod IndexRows
 pub mod IndexEntries
-pub mod IndexLines
 pub mod Linted
 pub mod Documented
 pub mod Asked
 -- what the tools answer of files, and why they refuse
 pub mod FromFiles
-pub mod DocumentedFiles
 pub mod IndexedFiles
 -- the code's own steps, in contracts of inner functions alone: nothing here has to be believed
-pub mod Checked
 pub mod Sections

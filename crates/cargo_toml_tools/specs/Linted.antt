@@ -1,11 +1,8 @@
 -- What `lint` finds of a manifest.
 use Rattle.std.specs.Prelude.{◌↔◌, List}
-use Rattle.cargo_toml.specs.Action.{Text}
-use Rattle.cargo_toml.specs.Limits.{MAX_ITEMS}
-use Rattle.cargo_toml.specs.Manifests.{ManifestMeaning}
-use Rattle.cargo_toml_lint.specs.Findings.{HoldsOf, IsFound}
-use Rattle.cargo_toml_lint.specs.declared.finding.Code.{Code}
-use Rattle.cargo_toml_lint.specs.declared.finding.Finding.{Finding}
+use Rattle.cargo_toml.specs.{Action.Text, Limits.MAX_ITEMS, Manifests.ManifestMeaning}
+use Rattle.cargo_toml_lint.specs.{Findings.HoldsOf, Findings.IsFound, declared.finding.Code.Code}
+use Rattle.cargo_toml_lint.specs.{declared.finding.Finding.Finding}
 
 -- the findings are those of this manifest: each where its code holds of its feature and its text,
 -- and no others

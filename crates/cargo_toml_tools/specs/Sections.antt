@@ -1,8 +1,9 @@
 -- What the code's own types of `index` stand for.
-use Rattle.std.specs.Prelude.{Option, Some, None, List, map, option_map, string_bytes}
-use Rattle.std.specs.{Borrow.Bor, Option.option_copied}
+use Rattle.std.specs.Prelude.{Option, Some, None, List, String, Vec, map, option_map, string_bytes}
+use Rattle.std.specs.{BTreeMap.BTreeMap, Borrow.Bor, Option.option_copied}
+use Rattle.std.specs.declared.alloc.Global.{Global}
 use Rattle.toml.specs.View.{table_view}
-use Rattle.cargo_toml.specs.Action.{Text}
+use Rattle.cargo_toml.specs.{Action.Text, Reads.map_meaning}
 use Rattle.cargo_toml_package.specs.Replacing.{entries_meaning}
 use Rattle.cargo_toml_tools.specs.declared.index.IndexError.{IndexError}
 use Rattle.cargo_toml_tools.specs.declared.index.IndexError.TheVariants.{Memory, Refused}
@@ -10,6 +11,10 @@ use Rattle.cargo_toml_tools.specs.declared.index.Options.{Options}
 use Rattle.cargo_toml_tools.specs.declared.index.refusals.Fault.{Fault}
 use Rattle.cargo_toml_tools.specs.declared.index.sections.Section.{Section}
 use Rattle.cargo_toml_tools.specs.Indexed.{DependencyTable, Refusal, Wanted}
+
+abbrev pub lists_meaning : BTreeMap (String Global) (Vec (String Global) Global)
+    → List (Text × List Text)
+lists_meaning fs = map_meaning (λ v. map string_bytes v.items) fs
 
 abbrev pub table_of : Section → DependencyTable
 table_of s = record {

@@ -6,13 +6,14 @@ mod dot;
 mod listing;
 mod reached;
 
-use crate::escape::{Format, comma_before, push_code, push_escaped};
+use crate::escape::{Code, Escaped, Format, comma_before};
 use cargo_toml::features::DepAction;
 pub use dot::graph;
 pub use listing::{Row, TakesRows, rows};
 pub use reached::Reached;
 use std::alloc::{AllocError, Global};
 use std::collections::BTreeMap;
+use std::fmt::Write;
 
 /// A page in Markdown on the features that users may ask for: each with its text, whether it is on
 /// by default, and what it turns on, by any number of steps. Optional dependencies that serve as
@@ -40,8 +41,7 @@ impl TakesRows for Page {
     fn take(&mut self, name: Option<&str>, rows: &[Row<'_>]) -> Result<(), AllocError> {
         self.text.push_str("# Features")?;
         if let Some(name) = name {
-            self.text.push_str(" of ")?;
-            push_code(&mut self.text, name)?;
+            write!(self.text, " of {}", Code(name))?;
         }
         self.text.push_str("\n")?;
         push_table(&mut self.text, rows, true)?;
@@ -79,17 +79,14 @@ fn table_head(has_texts: bool) -> &'static str {
 }
 
 fn push_row(page: &mut String, row: &Row<'_>, has_texts: bool) -> Result<(), AllocError> {
-    page.push_str("| ")?;
-    push_code(page, row.name)?;
-    page.push_str(" | ")?;
+    write!(page, "| {} | ", Code(row.name))?;
     if has_texts {
-        push_escaped(page, row.doc.unwrap_or(""), Format::Markdown)?;
-        page.push_str(" | ")?;
+        let text = Escaped(row.doc.unwrap_or(""), Format::Markdown);
+        write!(page, "{text} | ")?;
     }
     page.push_str(if row.is_default { "yes | " } else { "no | " })?;
     for (i, name) in row.turns_on.features.iter().enumerate() {
-        page.push_str(comma_before(i))?;
-        push_code(page, *name)?;
+        write!(page, "{}{}", comma_before(i), Code(*name))?;
     }
     page.push_str(" | ")?;
     push_actions(page, &row.turns_on.actions)?;
@@ -107,11 +104,12 @@ fn push_actions(
         page.push_str(comma_before(i))?;
         let mark = if action.is_conditional { "?" } else { "" };
         if action.dep_features.is_empty() {
-            push_code(page, format!(in alloc; "{key}{mark}")?.as_str())?;
+            let whole = format!(in alloc; "{key}{mark}")?;
+            write!(page, "{}", Code(whole.as_str()))?;
         }
         for (j, feature) in action.dep_features.iter().enumerate() {
-            page.push_str(comma_before(j))?;
-            push_code(page, format!(in alloc; "{key}{mark}/{feature}")?.as_str())?;
+            let asked = format!(in alloc; "{key}{mark}/{feature}")?;
+            write!(page, "{}{}", comma_before(j), Code(asked.as_str()))?;
         }
     }
     Ok(())

@@ -3,6 +3,7 @@
 //! No name can end the line that it stands in, or close what stands around it.
 
 use std::alloc::{AllocError, Global};
+use std::fmt;
 use std::fmt::Write;
 
 /// What a text is written into.
@@ -16,26 +17,36 @@ pub enum Format {
     Dot,
 }
 
-/// Writes a text so that it stands for itself in this format, and on one line.
-pub fn push_escaped(text: &mut String, words: &str, format: Format) -> Result<(), AllocError> {
-    for c in words.chars() {
-        push_char(text, c, format)?;
+/// A text in a format, in which it stands for itself, and on one line.
+#[derive(Clone, Copy)]
+pub struct Escaped<'a>(pub &'a str, pub Format);
+
+/// A name in Markdown, as code. It is put between backticks where it has nothing else that could
+/// have a meaning there.
+#[derive(Clone, Copy)]
+pub struct Code<'a>(pub &'a str);
+
+impl fmt::Display for Escaped<'_> {
+    fn fmt<W: fmt::Write>(&self, f: &mut fmt::Formatter<W>) -> fmt::Result {
+        for c in self.0.chars() {
+            write_char(f, c, self.1)?;
+        }
+        Ok(())
     }
-    Ok(())
 }
 
-/// Writes a name into Markdown as code. It is put between backticks where it has nothing else that
-/// could have a meaning there.
-pub fn push_code(text: &mut String, name: &str) -> Result<(), AllocError> {
-    if is_code(name) {
-        text.push_str("`")?;
-        text.push_str(name)?;
-        text.push_str("`")
-    } else {
-        text.push_str("<code>")?;
-        push_escaped(text, name, Format::Markdown)?;
-        text.push_str("</code>")
+impl fmt::Display for Code<'_> {
+    fn fmt<W: fmt::Write>(&self, f: &mut fmt::Formatter<W>) -> fmt::Result {
+        if is_code(self.0) {
+            return write!(f, "`{}`", self.0);
+        }
+        write!(f, "<code>{}</code>", Escaped(self.0, Format::Markdown))
     }
+}
+
+/// Adds a text in this format to a line.
+pub fn push_escaped(text: &mut String, words: &str, format: Format) -> Result<(), AllocError> {
+    write!(text, "{}", Escaped(words, format))
 }
 
 /// What stands before the item at this place of a list: a comma, but not before the first.
@@ -45,27 +56,24 @@ pub fn comma_before(place: usize) -> &'static str {
 
 /// The line that tells why a file is refused.
 pub fn fault_line(alloc: Global, file: &str, words: &str) -> Result<String, AllocError> {
-    let mut line = String::from_str(alloc, "error: ")?;
-    push_escaped(&mut line, file, Format::Line)?;
-    line.push_str(": ")?;
-    push_escaped(&mut line, words.trim_end(), Format::Line)?;
-    line.push_str("\n")?;
-    Ok(line)
+    let file = Escaped(file, Format::Line);
+    let words = Escaped(words.trim_end(), Format::Line);
+    format!(in alloc; "error: {file}: {words}\n")
 }
 
 /// Writes a character by its number where that is needed, into a line as Rust does, and elsewhere
 /// as HTML does.
-fn push_char(text: &mut String, c: char, format: Format) -> Result<(), AllocError> {
+fn write_char<W: fmt::Write>(f: &mut fmt::Formatter<W>, c: char, format: Format) -> fmt::Result {
     let number = u32::from(c);
     match (format, c) {
-        (Format::Line, _) if is_control(c) => write!(text, "\\u{{{number:x}}}"),
-        (Format::Dot, _) if is_control(c) => write!(text, "&#{number};"),
-        (Format::Markdown, _) if !is_plain_in_markdown(c) => write!(text, "&#{number};"),
-        (Format::Line | Format::Dot, '\\') => text.push_str("\\\\"),
-        (Format::Line, '|') => text.push_str("\\|"),
-        (Format::Dot, '"') => text.push_str("\\\""),
-        (Format::Dot, '&') => text.push_str("&amp;"),
-        _ => text.push(c),
+        (Format::Line, _) if is_control(c) => write!(f, "\\u{{{number:x}}}"),
+        (Format::Dot, _) if is_control(c) => write!(f, "&#{number};"),
+        (Format::Markdown, _) if !is_plain_in_markdown(c) => write!(f, "&#{number};"),
+        (Format::Line | Format::Dot, '\\') => f.write_str("\\\\"),
+        (Format::Line, '|') => f.write_str("\\|"),
+        (Format::Dot, '"') => f.write_str("\\\""),
+        (Format::Dot, '&') => f.write_str("&amp;"),
+        _ => f.write_char(c),
     }
 }
 

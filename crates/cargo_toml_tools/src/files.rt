@@ -2,10 +2,8 @@
 
 mod documenting;
 mod indexing;
-mod linting;
 mod reading;
 
 pub use documenting::{document, document_text, resolved};
 pub use indexing::{Fault, Indexed, index_of};
-pub use linting::findings_of;
-pub use reading::{completed_of, manifest_in, text_in};
+pub use reading::{completed_of, findings_of, manifest_in, text_in};

@@ -9,10 +9,10 @@ ghost use Rattle.cargo_toml.specs.{InheritableValues.value_of, Inherits.inherita
 ghost use Rattle.cargo_toml.specs.{Manifests.held, Packages.held_package};
 ghost use Rattle.cargo_toml_tools.specs.declared.index.IndexError.TheVariants.{Memory};
 ghost use Rattle.cargo_toml_tools.specs.Indexed.{refusal_of, written};
-ghost use Rattle.cargo_toml_tools.specs.IndexLines.{index_data, line_data};
-ghost use Rattle.cargo_toml_tools.specs.IndexRows.{rows_of_package, with_rows};
-ghost use Rattle.cargo_toml_tools.specs.Checked.{lists_meaning};
-ghost use Rattle.cargo_toml_tools.specs.Sections.{refused, table_of, told, wanted_of};
+ghost use Rattle.cargo_toml_tools.specs.IndexEntries.{index_data, line_data};
+ghost use Rattle.cargo_toml_tools.specs.IndexEntries.{rows_of_package, with_rows};
+ghost use Rattle.cargo_toml_tools.specs.Sections.{lists_meaning, refused, table_of, told};
+ghost use Rattle.cargo_toml_tools.specs.Sections.{wanted_of};
 
 mod entry;
 mod features;
@@ -58,8 +58,6 @@ pub enum IndexError {
 }
 
 impl From<AllocError> for IndexError {
-    ghost use Rattle.cargo_toml_tools.specs.declared.index.IndexError.TheVariants.{Memory};
-
     ghost from_gives = { λ _ e. e ≡ Memory };
 
     fn from(_fault: AllocError) -> IndexError {

@@ -1,9 +1,9 @@
 //! Values of JSON that several tools make.
-ghost use Rattle.std.specs.Prelude.{◌≡◌, OnOk, map, string_bytes};
+ghost use Rattle.std.specs.Prelude.{◌≡◌, IfOk, OnOk, map, string_bytes};
 ghost use Rattle.std.specs.Option.{option_copied};
 ghost use Rattle.serde_json.specs.Data.{put as with_member};
-ghost use Rattle.serde_json.specs.View.{members_view};
-ghost use Rattle.cargo_toml_tools.specs.IndexRows.{rows_if, text_array, text_or_null, with_rows};
+ghost use Rattle.serde_json.specs.View.{members_view, view};
+ghost use Rattle.cargo_toml_tools.specs.IndexEntries.{rows_if, text_array, text_or_null, with_rows};
 
 use serde_json::{Map, Value, push, put};
 use std::alloc::{AllocError, Global};
@@ -59,4 +59,15 @@ pub fn put_texts(
         push(&mut items, Value::try_from_str(alloc, text.as_str())?)?;
     }
     put(object, alloc, key, Value::from(items))
+}
+
+/// A list of texts.
+pub fn array(alloc: Global, texts: &[&str]) -> Result<Value, AllocError>
+    ensures { IfOk result (λ v. view v ≡ text_array (map (λ t. t.now) texts.now)) }
+{
+    let mut items = Vec::new(alloc);
+    for text in texts {
+        push(&mut items, Value::try_from_str(alloc, *text)?)?;
+    }
+    Ok(Value::from(items))
 }

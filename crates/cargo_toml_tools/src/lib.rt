@@ -12,9 +12,7 @@ pub mod escape;
 pub mod files;
 pub mod index;
 pub mod json;
-mod outcome;
 pub mod requirement;
 mod words;
 
-pub use outcome::Outcome;
-pub use words::{Inputs, Judging, Request, Wanted, read_request};
+pub use words::{Inputs, Judging, Outcome, Request, Wanted, read_request};

@@ -1,6 +1,6 @@
-//! What the words of the command line ask for.
-ghost use Rattle.std.specs.Prelude.{IfOk};
-ghost use Rattle.cargo_toml_tools.specs.Asked.{IsOfOneFile};
+//! What the words of the command line ask for, and how a run ends.
+ghost use Rattle.std.specs.Prelude.{◌≡◌, IfOk};
+ghost use Rattle.cargo_toml_tools.specs.Asked.{IsOfOneFile, exit_status};
 
 use crate::command::command;
 use crate::index::{CRATES_IO, Named, Options};
@@ -79,6 +79,33 @@ pub struct Judging<'a> {
     pub denies_hints: bool,
 }
 
+/// What came of what was asked. Of several files the worst counts, which is the last of these.
+#[derive(Clone, Copy, PartialEq, Eq, PartialOrd, Ord)]
+pub enum Outcome {
+    /// All is done.
+    Done,
+    /// All is done, and something is amiss.
+    Odd,
+    /// A file was refused.
+    Refused,
+    /// The words of the command line are no command.
+    NoCommand,
+}
+
+impl Outcome {
+    /// The status that the program ends with.
+    pub fn status(self) -> u8
+        ensures { result ≡ exit_status self }
+    {
+        match self {
+            Outcome::Done => 0,
+            Outcome::Odd => 3,
+            Outcome::Refused => 1,
+            Outcome::NoCommand => 2,
+        }
+    }
+}
+
 /// What these words ask for, of which the first is the program's own name. Behind it may stand the
 /// word that Cargo hands on, `toml-tools`. A checksum is that of the only file.
 pub fn read_request<'a>(alloc: Global, words: &'a [String]) -> Result<Request<'a>, AllocError>
@@ -108,43 +135,48 @@ fn request_of<'a>(alloc: Global, matches: &ArgMatches<'a>) -> Result<Request<'a>
     ensures { IfOk result IsOfOneFile }
 {
     let Some((name, matches)) = matches.subcommand() else {
-        return no_command(alloc);
+        return refused(alloc, "no command; `--help` tells which there are");
     };
-    match name {
-        "check" => Ok(Request::Check(files_of(alloc, matches)?)),
-        "show" => Ok(Request::Show(files_of(alloc, matches)?, matches.get_flag("json"))),
-        "features" => Ok(Request::Features(files_of(alloc, matches)?)),
-        "index" => index(alloc, matches),
-        "lint" => lint(alloc, matches),
-        "audit" => audit(alloc, matches),
-        "document" => Ok(Request::Document(files_of(alloc, matches)?, matches.get_flag("dot"))),
-        _ => no_command(alloc),
+    if name == "audit" {
+        let folder = matches.get_str("folder").unwrap_or(".");
+        return Ok(Request::Audit(folder, matches.get_flag("json")));
     }
-}
-
-fn no_command<'a>(alloc: Global) -> Result<Request<'a>, AllocError>
-    ensures { IfOk result IsOfOneFile }
-{
-    let words = "error: no command; `--help` tells which there are\n";
-    Ok(Request::NoCommand(String::from_str(alloc, words)?))
-}
-
-fn files_of<'a>(alloc: Global, matches: &ArgMatches<'a>) -> Result<Inputs<'a>, AllocError> {
-    Ok(Inputs {
+    let inputs = Inputs {
         files: strings(alloc, matches, "files")?,
         from: matches.get_str("files-from"),
         workspace: matches.get_str("workspace"),
-    })
+    };
+    match name {
+        "check" => Ok(Request::Check(inputs)),
+        "show" => Ok(Request::Show(inputs, matches.get_flag("json"))),
+        "features" => Ok(Request::Features(inputs)),
+        "index" => index(alloc, matches, inputs),
+        "lint" => Ok(Request::Lint(inputs, judging_of(alloc, matches)?)),
+        _ => Ok(Request::Document(inputs, matches.get_flag("dot"))),
+    }
+}
+
+fn refused<'a>(alloc: Global, words: &str) -> Result<Request<'a>, AllocError>
+    ensures { IfOk result IsOfOneFile }
+{
+    Ok(Request::NoCommand(format!(in alloc; "error: {words}\n")?))
 }
 
 /// One checksum is asked of one file.
-fn index<'a>(alloc: Global, matches: &ArgMatches<'a>) -> Result<Request<'a>, AllocError>
+fn index<'a>(
+    alloc: Global,
+    matches: &ArgMatches<'a>,
+    inputs: Inputs<'a>,
+) -> Result<Request<'a>, AllocError>
     ensures { IfOk result IsOfOneFile }
 {
-    let inputs = files_of(alloc, matches)?;
-    let Some(names) = names(alloc, matches)? else {
-        return refused(alloc, "a name of a registry is NAME=URL");
-    };
+    let mut names = Vec::new(alloc);
+    for name in strings(alloc, matches, "registry-name")? {
+        let Some(named) = name.split_once('=') else {
+            return refused(alloc, "a name of a registry is NAME=URL");
+        };
+        names.push(named)?;
+    }
     let mut wanted = Wanted {
         registry: matches.get_str("registry").unwrap_or(CRATES_IO),
         names,
@@ -167,45 +199,12 @@ fn index<'a>(alloc: Global, matches: &ArgMatches<'a>) -> Result<Request<'a>, All
     }
 }
 
-fn refused<'a>(alloc: Global, words: &str) -> Result<Request<'a>, AllocError>
-    ensures { IfOk result IsOfOneFile }
-{
-    Ok(Request::NoCommand(format!(in alloc; "error: {words}\n")?))
-}
-
-/// What registries are called, or nothing where one has no address.
-fn names<'a>(
-    alloc: Global,
-    matches: &ArgMatches<'a>,
-) -> Result<Option<Vec<Named<'a>>>, AllocError> {
-    let mut names = Vec::new(alloc);
-    for name in strings(alloc, matches, "registry-name")? {
-        let Some(named) = name.split_once('=') else {
-            return Ok(None);
-        };
-        names.push(named)?;
-    }
-    Ok(Some(names))
-}
-
-fn lint<'a>(alloc: Global, matches: &ArgMatches<'a>) -> Result<Request<'a>, AllocError>
-    ensures { IfOk result IsOfOneFile }
-{
-    let judging = Judging {
+fn judging_of<'a>(alloc: Global, matches: &ArgMatches<'a>) -> Result<Judging<'a>, AllocError> {
+    Ok(Judging {
         json: matches.get_flag("json"),
         allowed: strings(alloc, matches, "allow")?,
         denies_hints: matches.get_str("deny").is_some(),
-    };
-    Ok(Request::Lint(files_of(alloc, matches)?, judging))
-}
-
-fn audit<'a>(alloc: Global, matches: &ArgMatches<'a>) -> Result<Request<'a>, AllocError>
-    ensures { IfOk result IsOfOneFile }
-{
-    match matches.get_str("folder") {
-        Some(folder) => Ok(Request::Audit(folder, matches.get_flag("json"))),
-        None => no_command(alloc),
-    }
+    })
 }
 
 fn strings<'a>(
@@ -213,10 +212,7 @@ fn strings<'a>(
     matches: &ArgMatches<'a>,
     name: &str,
 ) -> Result<Vec<&'a str>, AllocError> {
-    match matches.get_strs(name) {
-        Some(files) => Vec::from_slice(alloc, files),
-        None => Ok(Vec::new(alloc)),
-    }
+    Vec::from_slice(alloc, matches.get_strs(name).unwrap_or(&[]))
 }
 
 /// Whether the text is a SHA-256 as an index writes it.

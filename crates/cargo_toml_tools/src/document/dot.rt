@@ -1,12 +1,13 @@
 //! The graph of features, in Graphviz's language.
 
 use super::listing::is_private;
-use crate::escape::{Format, comma_before, push_escaped};
+use crate::escape::{Escaped, Format, comma_before};
 use cargo_toml::Manifest;
 use cargo_toml::features::{Feature, Features};
 use cargo_toml_lint::Links;
 use std::alloc::{AllocError, Global};
 use std::collections::BTreeSet;
+use std::fmt::Write;
 use std::hash::BuildHasher;
 
 /// The graph of all features, and of the dependencies that they act on, in Graphviz's language.
@@ -22,7 +23,10 @@ pub fn graph<M, S: BuildHasher>(
     let links = Links::new(alloc, manifest, &resolved.features)?;
     let mut graph = String::new(alloc);
     graph.push_str("digraph {\n    rankdir=LR;\n")?;
-    push_label(&mut graph, manifest)?;
+    if let Some(package) = &manifest.package {
+        let name = Escaped(package.name.as_str(), Format::Dot);
+        writeln!(graph, "    label=\"{name}\";")?;
+    }
     let mut keys = BTreeSet::new(alloc);
     for place in 0..links.names.len() {
         if let Some(feature) = resolved.features.get(links.names[place]) {
@@ -39,15 +43,6 @@ pub fn graph<M, S: BuildHasher>(
     Ok(graph)
 }
 
-fn push_label<M>(graph: &mut String, manifest: &Manifest<M>) -> Result<(), AllocError> {
-    if let Some(package) = &manifest.package {
-        graph.push_str("    label=\"")?;
-        push_escaped(graph, package.name.as_str(), Format::Dot)?;
-        graph.push_str("\";\n")?;
-    }
-    Ok(())
-}
-
 fn style_of(feature: &Feature<'_>) -> &'static str {
     if is_private(feature) {
         "style=dashed"
@@ -60,28 +55,14 @@ fn style_of(feature: &Feature<'_>) -> &'static str {
 
 /// A node, whose name begins with its kind: a feature and a dependency may have one name.
 fn push_node(graph: &mut String, kind: &str, name: &str, style: &str) -> Result<(), AllocError> {
-    graph.push_str("    ")?;
-    push_id(graph, kind, name)?;
-    graph.push_str(" [label=\"")?;
-    push_escaped(graph, name, Format::Dot)?;
-    graph.push_str("\", ")?;
-    graph.push_str(style)?;
-    graph.push_str("];\n")
-}
-
-fn push_id(graph: &mut String, kind: &str, name: &str) -> Result<(), AllocError> {
-    graph.push_str("\"")?;
-    graph.push_str(kind)?;
-    graph.push_str(":")?;
-    push_escaped(graph, name, Format::Dot)?;
-    graph.push_str("\"")
+    let name = Escaped(name, Format::Dot);
+    writeln!(graph, "    \"{kind}:{name}\" [label=\"{name}\", {style}];")
 }
 
 fn push_edge(graph: &mut String, from: &str, kind: &str, to: &str) -> Result<(), AllocError> {
-    graph.push_str("    ")?;
-    push_id(graph, "feature", from)?;
-    graph.push_str(" -> ")?;
-    push_id(graph, kind, to)
+    let from = Escaped(from, Format::Dot);
+    let to = Escaped(to, Format::Dot);
+    write!(graph, "    \"feature:{from}\" -> \"{kind}:{to}\"")
 }
 
 /// The edges from a feature to those that it turns on in one step.
@@ -111,16 +92,15 @@ fn push_dependency_edges(graph: &mut String, feature: &Feature<'_>) -> Result<()
         push_edge(graph, feature.key, "dependency", *key)?;
         graph.push_str(" [label=\"")?;
         for (i, asked) in action.dep_features.iter().enumerate() {
-            graph.push_str(comma_before(i))?;
-            push_escaped(graph, *asked, Format::Dot)?;
+            let asked = Escaped(*asked, Format::Dot);
+            write!(graph, "{}{asked}", comma_before(i))?;
         }
         let style = if action.is_conditional {
-            "\", style=dotted"
+            ", style=dotted"
         } else {
-            "\""
+            ""
         };
-        graph.push_str(style)?;
-        graph.push_str("];\n")?;
+        writeln!(graph, "\"{style}];")?;
     }
     Ok(())
 }

@@ -1,12 +1,8 @@
 //! What is documented of features.
 ghost use Rattle.std.specs.Prelude.{◌≡◌, true, IfErr, IfOk, OnOk};
-ghost use Rattle.cargo_toml.specs.Limits.{MAX_ITEMS};
-ghost use Rattle.cargo_toml.specs.Manifests.{held};
-ghost use Rattle.cargo_toml.specs.Parsed.{IsParsed};
-ghost use Rattle.cargo_toml.specs.Reached.{IsKeyed};
-ghost use Rattle.cargo_toml.specs.Views.{answer_of};
-ghost use Rattle.cargo_toml_tools.specs.DocumentedFiles.{IsDocumented, IsUndocumented};
-ghost use Rattle.cargo_toml_tools.specs.FromFiles.{IsOfInput};
+ghost use Rattle.cargo_toml.specs.{Limits.MAX_ITEMS, Manifests.held, Parsed.IsParsed};
+ghost use Rattle.cargo_toml.specs.{Reached.IsKeyed, Views.answer_of};
+ghost use Rattle.cargo_toml_tools.specs.FromFiles.{IsDocumented, IsOfInput, IsUndocumented};
 
 use crate::document::{Page, TakesRows, graph, rows};
 use cargo_toml::features::{Features, Resolver};

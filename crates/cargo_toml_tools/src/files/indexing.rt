@@ -1,13 +1,12 @@
 //! The line of a registry's index.
 ghost use Rattle.std.specs.Prelude.{◌≡◌, IfErr, IfOk, IsSome, OnOk, string_bytes};
-ghost use Rattle.std.specs.Option.{option_copied};
-ghost use Rattle.std.specs.Path.{path_parent};
-ghost use Rattle.cargo_toml.specs.Manifests.{held};
+ghost use Rattle.std.specs.{Option.option_copied, Path.path_parent};
+ghost use Rattle.cargo_toml.specs.{Error.Memory, Manifests.held};
 ghost use Rattle.cargo_toml_tools.specs.IndexedFiles.{IsIndexFault, IsLineOf, sum_at, sum_of};
 ghost use Rattle.cargo_toml_tools.specs.Sections.{wanted_of};
+ghost use Rattle.cargo_toml_tools.specs.declared.files.indexing.Fault.TheVariants as fault;
 
-use super::linting::findings_of;
-use super::reading::completed_of;
+use super::reading::{completed_of, findings_of};
 use crate::index::{IndexError, Options, index_entry};
 use cargo_toml::{Error, Inheritable, Manifest};
 use std::alloc::{AllocError, Global};
@@ -26,8 +25,6 @@ pub enum Fault {
 }
 
 impl From<Error> for Fault {
-    ghost use Rattle.cargo_toml_tools.specs.declared.files.indexing.Fault.TheVariants as fault;
-
     ghost from_gives = { λ inner e. e ≡ fault.Manifest inner };
 
     fn from(fault: Error) -> Fault {
@@ -36,8 +33,6 @@ impl From<Error> for Fault {
 }
 
 impl From<IndexError> for Fault {
-    ghost use Rattle.cargo_toml_tools.specs.declared.files.indexing.Fault.TheVariants as fault;
-
     ghost from_gives = { λ inner e. e ≡ fault.Index inner };
 
     fn from(fault: IndexError) -> Fault {
@@ -46,9 +41,6 @@ impl From<IndexError> for Fault {
 }
 
 impl From<AllocError> for Fault {
-    ghost use Rattle.cargo_toml.specs.Error.{Memory};
-    ghost use Rattle.cargo_toml_tools.specs.declared.files.indexing.Fault.TheVariants as fault;
-
     ghost from_gives = { λ _ e. e ≡ fault.Manifest Memory };
 
     fn from(fault: AllocError) -> Fault {

@@ -1,13 +1,17 @@
-//! Manifests that are read from files and held on the heap.
-ghost use Rattle.std.specs.Prelude.{IfErr, IfOk, IsSome, OnOk};
-ghost use Rattle.std.specs.Path.{path_parent};
-ghost use Rattle.cargo_toml.specs.Action.{Text};
+//! Manifests that are read from files and held on the heap, and what is amiss with their features.
+ghost use Rattle.std.specs.{Path.path_parent, Prelude.IfErr, Prelude.IfOk, Prelude.IsSome};
+ghost use Rattle.std.specs.Prelude.{OnOk};
+ghost use Rattle.cargo_toml.specs.{Action.Text, Manifests.held};
 ghost use Rattle.cargo_toml_tools.specs.FromFiles.{IsCompletedIn, IsManifestIn, IsOfInput};
 ghost use Rattle.cargo_toml_tools.specs.FromFiles.{IsUncompleted, IsUnreadable};
+ghost use Rattle.cargo_toml_tools.specs.Linted.{AreFindingsOf};
 
-use cargo_toml::Error;
+use cargo_toml::{Error, Manifest};
 use cargo_toml_bench::HeldManifest;
+use cargo_toml_lint::Finding;
 use std::fs;
+use std::hash::RandomState;
+use std::random::RandomSource;
 use std::rt::Files;
 
 /// The text of a file.
@@ -39,4 +43,16 @@ pub fn manifest_in<R: Files + AllocGlobal>(rt: &R, path: &str) -> Result<HeldMan
 {
     let text = text_in(rt, path)?;
     HeldManifest::from_str(rt.alloc(), text.as_str())
+}
+
+/// What lint finds of the features of a manifest.
+pub fn findings_of<'m, R: RandomSource + AllocGlobal, M>(
+    rt: &R,
+    manifest: &'m Manifest<M>,
+) -> Result<Vec<Finding<'m>>, Error>
+    ensures found { IfOk result (λ v. AreFindingsOf (held manifest.now) v.items) }
+    ensures refused { IfErr result IsOfInput }
+{
+    let state = RandomState::new(rt)?;
+    cargo_toml_lint::lint(rt.alloc(), state, manifest)
 }

@@ -5,8 +5,7 @@ ghost use Rattle.serde_json.specs.View.{members_view, view};
 ghost use Rattle.cargo_toml.specs.Dependencies.{dependency_meaning};
 ghost use Rattle.cargo_toml_tools.specs.IndexEntries.{has_default, index_entries, index_rows};
 ghost use Rattle.cargo_toml_tools.specs.IndexEntries.{kind_text, req_text, required_version};
-ghost use Rattle.cargo_toml_tools.specs.IndexEntries.{table_entries, wanted_rows};
-ghost use Rattle.cargo_toml_tools.specs.IndexRows.{with_rows};
+ghost use Rattle.cargo_toml_tools.specs.IndexEntries.{table_entries, wanted_rows, with_rows};
 ghost use Rattle.cargo_toml_tools.specs.Sections.{table_of, wanted_of};
 
 use super::Options;
@@ -23,6 +22,7 @@ use std::alloc::{AllocError, Global};
 use toml::Value as Written;
 
 /// The entries of all dependencies.
+#[tactic(auto, using(crate::proofs::Grown::nested))]
 pub(super) fn entries(
     alloc: Global,
     options: Options<'_>,

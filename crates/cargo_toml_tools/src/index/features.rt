@@ -1,19 +1,20 @@
 //! What the line of an index has of a crate's features.
 ghost use Rattle.std.specs.Prelude.{◌≡◌, ◌++◌, ◌∷◌, [], IfOk, OnOk, false, filter, map, true};
 ghost use Rattle.std.{specs.Prelude.string_bytes, specs.List.flat_map, specs.List.list_any};
-ghost use Rattle.serde_json.specs.View.{members_view, view};
+ghost use Rattle.serde_json.specs.View.{members_view};
 ghost use Rattle.cargo_toml.specs.Action.{item_of};
 ghost use Rattle.cargo_toml_package.specs.Replacing.{entries_meaning};
-ghost use Rattle.cargo_toml_tools.specs.IndexLines.{feature_rows, is_extended, is_kept, is_newer};
-ghost use Rattle.cargo_toml_tools.specs.IndexLines.{keeps, kept_lists, list_rows, stays};
-ghost use Rattle.cargo_toml_tools.specs.IndexRows.{text_array, with_rows};
-ghost use Rattle.cargo_toml_tools.specs.{Checked.lists_meaning, Sections.table_of};
+ghost use Rattle.cargo_toml_tools.specs.IndexEntries.{feature_rows, is_extended, is_kept, is_newer};
+ghost use Rattle.cargo_toml_tools.specs.IndexEntries.{keeps, kept_lists, list_rows, stays};
+ghost use Rattle.cargo_toml_tools.specs.{IndexEntries.with_rows, Sections.lists_meaning};
+ghost use Rattle.cargo_toml_tools.specs.Sections.{table_of};
 
 use super::refusals::lacks_version;
 use super::sections::Section;
+use crate::json::array;
 use cargo_toml::{DepsSet, FeatureSet};
 use cargo_toml_features::action::read_action;
-use serde_json::{Map, Value, push, put};
+use serde_json::{Map, Value, put};
 use std::alloc::{AllocError, Global};
 
 /// Puts the members that are of the features.
@@ -152,16 +153,6 @@ fn keeps(table: &DepsSet, key: &str) -> bool
         Some(dependency) => !lacks_version(dependency),
         None => false,
     }
-}
-
-fn array(alloc: Global, texts: &[&str]) -> Result<Value, AllocError>
-    ensures { IfOk result (λ v. view v ≡ text_array (map (λ t. t.now) texts.now)) }
-{
-    let mut items = Vec::new(alloc);
-    for text in texts {
-        push(&mut items, Value::try_from_str(alloc, *text)?)?;
-    }
-    Ok(Value::from(items))
 }
 
 /// Whether some text of a list is of the second version of the index.

@@ -11,8 +11,7 @@ ghost use Rattle.cargo_toml_tools.specs.Indexed.{choice_refusal, entry_refusal, 
 ghost use Rattle.cargo_toml_tools.specs.Indexed.{first_refusal, has_other_flag, in_package};
 ghost use Rattle.cargo_toml_tools.specs.Indexed.{is_error, is_named, is_open, is_published};
 ghost use Rattle.cargo_toml_tools.specs.Indexed.{keeps_other_flag, lacks_version, package_refusal};
-ghost use Rattle.cargo_toml_tools.specs.Indexed.{publish_refusal, table_refusal};
-ghost use Rattle.cargo_toml_tools.specs.Indexed.{unversioned_refusal, version_refusal};
+ghost use Rattle.cargo_toml_tools.specs.Indexed.{publish_refusal, table_refusal, version_refusal};
 ghost use Rattle.cargo_toml_tools.specs.Sections.{names_of, refused, table_of, wanted_of};
 
 use super::Options;
@@ -64,11 +63,16 @@ pub(super) fn package_refusal<'a, M>(
         findings.now (table_view document.now) (map table_of sections.now)
         (held_package «package».now) }
 {
-    let is_left = is_left_there(&package.rust_version);
-    version_refusal(&package.version, document)
-        .or(tables_refusal(options.names, sections))
-        .or(is_left.then_some((Fault::Incomplete, "rust-version")))
-        .or(choice_refusal(package, document, findings, options))
+    if let Some(refusal) = version_refusal(&package.version, document) {
+        return Some(refusal);
+    }
+    if let Some(refusal) = tables_refusal(options.names, sections) {
+        return Some(refusal);
+    }
+    if is_left_there(&package.rust_version) {
+        return Some((Fault::Incomplete, "rust-version"));
+    }
+    choice_refusal(package, document, findings, options)
 }
 
 /// The refusal of what a caller may want all the same.
@@ -168,20 +172,14 @@ fn entry_refusal<'a>(
     } else if has_other_flag(section, key, dependency) {
         Some((Fault::OtherFlag, key))
     } else if lacks_version(dependency) {
-        unversioned_refusal(section.kind, key)
+        // a dev-dependency is left out
+        match section.kind {
+            Kind::Normal | Kind::Build => Some((Fault::NoRequirement, key)),
+            Kind::Dev => None,
+        }
     } else {
         let is_unknown = source_of(names, dependency).is_none();
         is_unknown.then_some((Fault::NoAddress, key))
-    }
-}
-
-/// The refusal of one with a path or a repository and no version: none of a dev-dependency.
-fn unversioned_refusal(kind: Kind, key: &str) -> Option<Refusal<'_>>
-    ensures { option_map refused result ≡ unversioned_refusal kind key.now }
-{
-    match kind {
-        Kind::Normal | Kind::Build => Some((Fault::NoRequirement, key)),
-        Kind::Dev => None,
     }
 }
 

@@ -29,6 +29,7 @@ pub(super) struct Section<'a> {
 
 /// All tables of dependencies of a manifest, which was read from this document: its own, and then
 /// those of targets.
+#[tactic(auto, using(crate::proofs::Grown::tables))]
 pub(super) fn sections<'a, M>(
     alloc: Global,
     manifest: &'a Manifest<M>,
@@ -39,15 +40,9 @@ pub(super) fn sections<'a, M>(
 {
     let mut all = Vec::new(alloc);
     let place = Some(document);
-    push_section(&mut all, None, place, Kind::Normal, &manifest.dependencies)?;
-    push_section(&mut all, None, place, Kind::Dev, &manifest.dev_dependencies)?;
-    push_section(
-        &mut all,
-        None,
-        place,
-        Kind::Build,
-        &manifest.build_dependencies,
-    )?;
+    all.push(section_at(None, place, Kind::Normal, &manifest.dependencies))?;
+    all.push(section_at(None, place, Kind::Dev, &manifest.dev_dependencies))?;
+    all.push(section_at(None, place, Kind::Build, &manifest.build_dependencies))?;
     for (name, target) in &manifest.target {
         push_target(&mut all, document, name.as_str(), target)?;
     }
@@ -65,37 +60,30 @@ fn push_target<'a>(
         ++ target_tables (table_view document.now) (name.now, target_meaning target.now)) }
 {
     let place = place_of(document, name);
-    push_section(all, Some(name), place, Kind::Normal, &target.dependencies)?;
-    push_section(
-        all,
-        Some(name),
-        place,
-        Kind::Build,
-        &target.build_dependencies,
-    )?;
-    push_section(all, Some(name), place, Kind::Dev, &target.dev_dependencies)
+    let name = Some(name);
+    all.push(section_at(name, place, Kind::Normal, &target.dependencies))?;
+    all.push(section_at(name, place, Kind::Build, &target.build_dependencies))?;
+    all.push(section_at(name, place, Kind::Dev, &target.dev_dependencies))?;
+    Ok(())
 }
 
-/// Adds the table of a kind, which is written in this place, if it is.
-fn push_section<'a>(
-    all: &mut Vec<Section<'a>>,
+/// The table of a kind, which is written in this place, if it is.
+fn section_at<'a>(
     target: Option<&'a str>,
     place: Option<&'a Table>,
     kind: Kind,
     entries: &'a DepsSet,
-) -> Result<(), AllocError>
-    ensures { OnOk result (map table_of all.new.items ≡ map table_of all.old.items
-        ++ table_at (option_copied target.entry) (option_map (λ t. table_view t.now) place.entry)
-        kind (entries_meaning entries.now) ∷ []) }
+) -> Section<'a>
+    ensures { table_of result ≡ table_at (option_copied target.entry)
+        (option_map (λ t. table_view t.now) place.entry) kind (entries_meaning entries.now) }
 {
-    all.push(Section {
+    Section {
         kind,
         target,
         written: section_in(place, kind),
         other_name: other_name(place, kind),
         entries,
-    })?;
-    Ok(())
+    }
 }
 
 /// The table in which a target's tables are written.

@@ -1,12 +1,10 @@
 use Rattle.std.proofs.Common.{◌≡◌, ◌∙◌, Bor, List, ap, rules}
 use Rattle.std.proofs.lemmas.Map.Iter.{rest_all, rest_more}
-use Rattle.std.specs.List.{flat_map}
-use Rattle.std.specs.Map.Iter.{deref}
-use Rattle.serde_json.specs.Data.{no_members, object}
-use Rattle.serde_json.specs.View.{members_view}
+use Rattle.std.specs.{List.flat_map, Map.Iter.deref}
+use Rattle.serde_json.specs.{Data.no_members, Data.object, View.members_view}
 use Rattle.cargo_toml.specs.Action.{Text}
 use Rattle.cargo_toml_check.specs.Listed.{row_at}
-use Rattle.cargo_toml_tools.specs.IndexRows.{with_rows}
+use Rattle.cargo_toml_tools.specs.IndexEntries.{with_rows}
 use Rattle.cargo_toml_check.proofs.Blaming.{rows_all, rows_more}
 use Rattle.cargo_toml_check.proofs.features.all_of.Goals as goal
 

@@ -1,9 +1,8 @@
 use Rattle.std.proofs.Common.{◌≡◌, ◌<◌, ◌∙◌, length, map, ap, arith, false, is_some}
-use Rattle.std.proofs.lemmas.List.{map-append}
-use Rattle.std.proofs.lemmas.Grind.{common_steps}
+use Rattle.std.proofs.{lemmas.List.map-append, lemmas.Grind.common_steps}
 use Rattle.toml.specs.View.{view}
-use Rattle.cargo_toml_check.specs.Alone.{part_of}
 use Rattle.cargo_toml_check.specs.Blamed.{blamed_parts, inner_paths, path_of, reads_alone}
+use Rattle.cargo_toml_check.specs.Alone.{part_of}
 use Rattle.cargo_toml_check.proofs.Blaming.{told_inner}
 use Rattle.cargo_toml_check.proofs.search.+blame.Goals as goal
 
@@ -11,9 +10,9 @@ pub blame-returns-clause-found : goal.blame-returns-clause-found
 blame-returns-clause-found t c =
     let p = map part_of c.args.path.now.items in
     let d = view c.args.part.now in
-    let fs = c.in_ok-inner.inner.items in
+    let fs = c.blame_parts.new.found.items in
     let read : is_some (reads_alone p d) ≡ false = grind (arith, common_steps) in
     let some : 0 < length fs = grind (arith, common_steps) in
     ap (map path_of) c.in_ok-append.ensures.items ∙ map-append path_of c.args.found.now.items fs
     ∙ told_inner (is_some (reads_alone p d)) p (inner_paths p d (blamed_parts p d)) (map path_of c.args.found.now.items) fs
-    read c.in_ok-inner.ensures.found some
+    read (rw c.new-inner.ensures.items at c.in_ok-blame_parts.ensures.found) some

@@ -1,7 +1,6 @@
 use Rattle.std.proofs.Common.{◌≡◌, ◌∙◌, ap, map, rules}
 use Rattle.std.proofs.lemmas.List.{take_all}
-use Rattle.serde_json.specs.Data.{array}
-use Rattle.serde_json.specs.View.{items_of}
+use Rattle.serde_json.specs.{Data.array, View.items_of}
 use Rattle.toml.specs.View.{view}
 use Rattle.cargo_toml_check.specs.Shown.{json_of}
 use Rattle.cargo_toml_check.proofs.Blaming.{items_json}

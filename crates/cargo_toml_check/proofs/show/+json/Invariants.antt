@@ -1,10 +1,8 @@
-use Rattle.std.proofs.Common.{◌≡◌, ◌++◌, drop}
+use Rattle.std.proofs.Common.{◌≡◌, map, take}
 use Rattle.serde_json.specs.View as json
-use Rattle.toml.specs.View.{items_view, members_view}
-use Rattle.cargo_toml_check.specs.Shown.{json_items, json_of, with_json}
+use Rattle.toml.specs.View.{members_view, view}
+use Rattle.cargo_toml_check.specs.Shown.{json_of, with_json}
 use Rattle.cargo_toml_check.proofs.show.+json.Given as goal
-use Rattle.std.proofs.Common.{map, take}
-use Rattle.toml.specs.View.{view}
 
 abbrev pub invariant-array_of-items : goal.invariant-array_of-items
 invariant-array_of-items l =

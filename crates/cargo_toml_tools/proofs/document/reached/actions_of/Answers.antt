@@ -1,9 +1,8 @@
 use Rattle.std.proofs.Common.{None, ap, subst, sym, ◌∙◌}
 use Rattle.std.proofs.lemmas.Map.Iter.{rest_all, rest_more}
-use Rattle.std.specs.{Map.Iter.deref, Option.option_copied, Option.option_map_or, HashMap.HashMap}
+use Rattle.std.specs.{Map.Iter.deref, Option.option_copied, Option.option_map_or}
 use Rattle.cargo_toml.specs.{Action.IsJoin, Action.join_option, Feature.Feature, Views.action_at}
 use Rattle.cargo_toml_graph.proofs.JoinLaws.{join_option_none}
-use Rattle.cargo_toml_tools.specs.Documented.{ActsOf}
 use Rattle.cargo_toml_tools.proofs.Reaching.{joined, joined_is, joined_next}
 use Rattle.cargo_toml_tools.proofs.document.reached.actions_of.Goals as goal
 

@@ -1,5 +1,4 @@
-use Rattle.std.proofs.Common.{sym, ◌∙◌}
-use Rattle.std.proofs.lemmas.Bool.{and_from, and_parts}
+use Rattle.std.proofs.{Common.sym, Common.◌∙◌, lemmas.Bool.and_from, lemmas.Bool.and_parts}
 use Rattle.cargo_toml.specs.Views.{set_has}
 use Rattle.cargo_toml_graph.proofs.Joins.{join_alike}
 use Rattle.cargo_toml_tools.specs.Documented.{is_beside}

@@ -1,5 +1,4 @@
-use Rattle.std.proofs.Common.{rules}
-use Rattle.std.proofs.lemmas.Result.{err_from_is_err_and}
+use Rattle.std.proofs.{Common.rules, lemmas.Result.err_from_is_err_and}
 use Rattle.cargo_toml_tools.proofs.files.documenting.graph_of.Goals as goal
 
 pub returns-in_err-held : goal.returns-in_err-held

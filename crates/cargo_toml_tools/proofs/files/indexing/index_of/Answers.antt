@@ -1,13 +1,8 @@
-use Rattle.std.proofs.Common.{◌≡◌, ◌∙◌, Bor, None, Option, Some, ap, refl, rules, string_bytes}
-use Rattle.std.proofs.Common.{subst, sym}
-use Rattle.std.proofs.lemmas.Result.{err_from_is_err_and}
-use Rattle.std.specs.Option.{option_copied, option_or}
+use Rattle.std.proofs.Common.{◌≡◌, ◌∙◌, Bor, None, Option, Some, ap, refl, rules, string_bytes, subst}
+use Rattle.std.{proofs.lemmas.Result.err_from_is_err_and, specs.Option.option_copied, specs.Option.option_or}
 use Rattle.serde_json.specs.View.{view}
 use Rattle.cargo_toml.specs.Manifests.{held}
-use Rattle.cargo_toml_tools.specs.FromFiles.{IsCompletedIn}
-use Rattle.cargo_toml_tools.specs.IndexLines.{index_data}
-use Rattle.cargo_toml_tools.specs.Linted.{AreFindingsOf}
-use Rattle.cargo_toml_tools.specs.Sections.{wanted_of}
+use Rattle.cargo_toml_tools.specs.{IndexEntries.index_data, Sections.wanted_of}
 use Rattle.cargo_toml_tools.proofs.files.indexing.index_of.Goals as goal
 
 or_copied : {A : Type 0} (o p : Option (Bor A)) → option_copied (option_or o p) ≡ option_or (option_copied o) (option_copied p)
@@ -27,8 +22,8 @@ returns-in_err-entry-clause-refused g c =
       manifest = c.deref-manifest.result.now;
       findings = c.as_slice.result.now;
       looked_at = record {
-        completed = subst (IsCompletedIn c.args.file.now c.args.text.now) (sym c.deref-manifest.ensures) c.in_ok-held.ensures.completed;
-        found = subst (AreFindingsOf (held c.deref-manifest.result.now)) (sym c.as_slice.ensures.value) c.in_ok-findings.ensures.found;
+        completed = rw c.deref-manifest.ensures c.in_ok-held.ensures.completed;
+        found = rw c.as_slice.ensures.value c.in_ok-findings.ensures.found;
       };
       told_so = c.in_err-entry.ensures.refused;
     })
@@ -38,8 +33,8 @@ returns-clause-printed g c = record {
   manifest = c.deref-manifest.result.now;
   findings = c.as_slice.result.now;
   looked_at = record {
-    completed = subst (IsCompletedIn c.args.file.now c.args.text.now) (sym c.deref-manifest.ensures) c.in_ok-held.ensures.completed;
-    found = subst (AreFindingsOf (held c.deref-manifest.result.now)) (sym c.as_slice.ensures.value) c.in_ok-findings.ensures.found;
+    completed = rw c.deref-manifest.ensures c.in_ok-held.ensures.completed;
+    found = rw c.as_slice.ensures.value c.in_ok-findings.ensures.found;
   };
   taken = c.in_ok-entry.ensures.taken;
   line = view c.in_ok-entry.entry;

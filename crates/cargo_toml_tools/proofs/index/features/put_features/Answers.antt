@@ -1,7 +1,7 @@
 use Rattle.std.proofs.Common.{rules, map, sym, ◌∙◌}
 use Rattle.std.proofs.lemmas.Result.{on_ok_weaker}
 use Rattle.serde_json.specs.View.{members_view}
-use Rattle.cargo_toml_tools.specs.{Checked.lists_meaning, IndexLines.kept_lists, Sections.table_of}
+use Rattle.cargo_toml_tools.specs.{Sections.lists_meaning, IndexEntries.kept_lists, Sections.table_of}
 use Rattle.cargo_toml_tools.proofs.Placed.{second_version}
 use Rattle.cargo_toml_tools.proofs.index.features.put_features.Goals as goal
 

@@ -2,8 +2,8 @@ use Rattle.std.proofs.Common.{◌≡◌, ◌||◌, false, List, map, true}
 use Rattle.std.specs.List.{flat_map, list_any}
 use Rattle.serde_json.specs.View.{members_view}
 use Rattle.cargo_toml.specs.Action.{Text}
-use Rattle.cargo_toml_tools.specs.IndexLines.{is_extended, kept_lists, list_rows}
-use Rattle.cargo_toml_tools.specs.{Checked.lists_meaning, IndexRows.with_rows, Sections.table_of}
+use Rattle.cargo_toml_tools.specs.IndexEntries.{is_extended, kept_lists, list_rows}
+use Rattle.cargo_toml_tools.specs.{Sections.lists_meaning, IndexEntries.with_rows, Sections.table_of}
 use Rattle.cargo_toml_tools.proofs.Told.{list_of}
 use Rattle.cargo_toml_tools.proofs.index.features.put_lists.Given as goal
 

@@ -1,5 +1,5 @@
 use Rattle.std.proofs.Common.{◌≡◌, drop, map}
-use Rattle.cargo_toml_tools.specs.{IndexLines.stays, Sections.table_of}
+use Rattle.cargo_toml_tools.specs.{IndexEntries.stays, Sections.table_of}
 use Rattle.cargo_toml_tools.proofs.index.features.stays.Given as goal
 
 abbrev pub invariant-loop-section : goal.invariant-loop-section

@@ -46,7 +46,7 @@ fn helpers_over_features_and_metadata(rt: HostRuntime) -> Result<(), Fail> {
     let text = "features = { a = [\"b\"], b = [] }\n\
         package = { name = \"p\", metadata.docs.rs.all-features = true }\n";
     let held = HeldManifest::from_str(alloc, text)?;
-    assert!(rt; documents_all(&held.manifest));
+    assert_eq!(rt; documents_all(&held.manifest), Some(true));
     assert_eq!(rt; counted(alloc, &held.manifest)?, 4);
     Ok(())
 }

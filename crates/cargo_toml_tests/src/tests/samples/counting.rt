@@ -6,7 +6,7 @@ use cargo_toml::features::Features;
 use std::alloc::Global;
 use std::hash::BuildHasher;
 
-/// How many features those enable that a user may ask for.
+/// The sum over all features of how many each enables, itself included.
 pub fn count_enabled<S: BuildHasher + Clone>(
     alloc: Global,
     resolved: &Features<'_, '_, S>,

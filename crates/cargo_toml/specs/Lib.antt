@@ -98,9 +98,6 @@ pub use Rattle.cargo_toml_features.specs.Reached
 pub use Rattle.cargo_toml_features.specs.NonDefault
 -- what proofs alone use: nothing here has to be believed
 pub use Rattle.cargo_toml_parts.specs.Copies
-pub use Rattle.cargo_toml_features.specs.InOrder
-pub use Rattle.cargo_toml_features.specs.Reading
-pub use Rattle.cargo_toml_features.specs.Slots
 -- the same of the types that a caller's own definitions name, with their variants
 pub use Rattle.cargo_toml_parts.specs.declared.error.Error
 pub use Rattle.cargo_toml_parts.specs.declared.error.ParseFault

@@ -1,4 +1,4 @@
-"""What comparisons with Cargo share: Cargo without a network, the tool, files, and the count."""
+"""What cargo_index.py compares by: Cargo without a network, the tool, files, and the count."""
 
 import argparse
 import collections

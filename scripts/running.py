@@ -1,5 +1,5 @@
-"""What scripts/answer and scripts/build share: the program that they stand in for, a room for their
-temporary files, and commands that end when they do."""
+"""What scripts/answer, scripts/build and ./test share: the program that is called, a room for
+temporary files, and commands that end when the script does."""
 
 import contextlib
 import os

@@ -25,7 +25,7 @@ module _ {M : Type 0} (tree_reads : Data → Option M) where
       × (document_reads (manifest_reads tree_reads) (parse_document bytes) ≡ None)
       × DocumentRefuses (ManifestRefuses tree_reads refuses) bytes (parse_document bytes) e)
 
--- the same of any metadata
+-- the bytes are the text of a manifest that holds m, with metadata of any kind
 abbrev pub Spells : List ℕ → ManifestMeaning Data → Type 0
 Spells bytes m = IsTextOf any_tree bytes m
 

@@ -14,7 +14,7 @@ use std::alloc::Global;
 
 /// The text of the manifest that these bytes spell, with this version of its package. What is read
 /// of the text, where it nests no deeper than `toml` reads, is that manifest with that version, and
-/// else the same.
+/// else the same, unless a dependency says `workspace = false`, or the version is 0.0.0.
 ///
 /// Refuses bytes that spell no manifest, a text that is no version, what can't be printed, as a
 /// month 13, and with `Memory` where there was no room.

@@ -1,4 +1,4 @@
--- Which faults come before anything is printed.
+-- Which faults are of what was read, and which of input, output or memory.
 use Rattle.cargo_toml_parts.specs.declared.error.Error.{Error, out-Error}
 use Rattle.cargo_toml_parts.specs.declared.error.Error.TheOpen.{Error-F}
 

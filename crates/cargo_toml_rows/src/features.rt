@@ -1,5 +1,4 @@
 //! What the features of a manifest come to, as text.
-
 use crate::manifests::text_of;
 use crate::row::{Row, Shown};
 use cargo_toml::Error;

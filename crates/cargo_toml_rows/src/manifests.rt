@@ -1,5 +1,4 @@
 //! What comes of a manifest, as text.
-
 use crate::row::Shown;
 use cargo_toml::{Error, Manifest, ParseFault, ToValue, Value};
 use cargo_toml_bench::HeldManifest;

@@ -52,8 +52,8 @@ fn kept_at_limit(alloc: Global, manifest: &Manifest) -> Result<(bool, bool), Err
     Ok((has_a, has_f))
 }
 
-// `a` is a dev-dependency, and a build dependency of a platform, which counts first. Of `_a`, `_other` and `f` the first two count at the limit,
-// and the filter keeps the first.
+// `a` is a dev-dependency, and a build dependency of a platform, which counts first. Of `_a`,
+// `_other` and `f` the first two count at the limit, and the filter keeps the first.
 #[test]
 fn first_dependencies_and_limit(rt: HostRuntime) -> Result<(), Fail> {
     let alloc = rt.alloc();

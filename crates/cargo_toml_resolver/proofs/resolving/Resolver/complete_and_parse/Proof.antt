@@ -19,11 +19,11 @@ use denote.{Struct.Field.shr_ref_field, Struct.Field.unit-field, Struct.Laws.uni
 use denote.{Triple.Clauses.lasts, Triple.Spec.triple_of, Triple.Table.framed, Triple.Walked.Stays, Triple.Walked.stay_dropped, Triple.Walked.walk_of, Triple.Walked.Goes-dropped, Builtin.unit, Text.str-field}
 use Rattle.std.specs.Prelude.{OnErr, OnOk, IfErr, IfOk, Err, option_map}
 use Rattle.cargo_toml_parts.specs.declared.error.Error.{Memory}
-use Rattle.cargo_toml_resolver.specs.{Lent.IsLentAs, Lent.IsLentAfter, Lent.IsLeftAfter, contracts.features.Resolver.complete_and_parse.ended, contracts.features.Resolver.complete_and_parse.clauses, Filtered.filter_of, Filtered.limit_of}
+use Rattle.cargo_toml_resolver.specs.{Lent.IsLentAs, Lent.IsLentAfter, Lent.IsLeftAfter, contracts.resolving.Resolver.complete_and_parse.ended, contracts.resolving.Resolver.complete_and_parse.clauses, Filtered.filter_of, Filtered.limit_of}
 use Rattle.cargo_toml_resolver.specs.Parsed.{IsResolvedFor}
-use Rattle.cargo_toml_resolver.specs.contracts.features.Resolver.complete_and_parse.Key.{name as #self}
+use Rattle.cargo_toml_resolver.specs.contracts.resolving.Resolver.complete_and_parse.Key.{name as #self}
 use Rattle.cargo_toml_resolver.proofs.{Lent.rests_so, Lent.Completing, Lent.Answering, Lent.left_after, Lent.lent_after, Lent.outcome_after, Lent.wrapped_after, Words.slot_at, Words.row_at, Words.single, Words.ref_laws, Words.global_makes}
-use Rattle.cargo_toml_resolver.proofs.{Words.local_at, features.Resolver.complete_and_parse.Statement.statement}
+use Rattle.cargo_toml_resolver.proofs.{Words.local_at, resolving.Resolver.complete_and_parse.Statement.statement}
 use borrow.{Table.Str.str_laws, Table.OneValue.wt_as}
 use Rattle.cargo_toml_graph.specs.Action.{Text}
 use Rattle.cargo_toml_resolve.specs.Filter.{HasNameFilter}
@@ -37,12 +37,12 @@ use Rattle.cargo_toml_features.specs.contracts.features.Features as Features
 use Rattle.cargo_toml_parts.specs.contracts.error.Error as Error
 use Rattle.cargo_toml_parts.proofs.error.Error.TheLaws as Error-laws
 use Rattle.cargo_toml_manifest.specs.contracts.manifest.Manifest as Manifest
-use Rattle.cargo_toml_resolver.specs.contracts.features.Resolver as Resolver
+use Rattle.cargo_toml_resolver.specs.contracts.resolving.Resolver as Resolver
 use Rattle.cargo_toml_manifest.specs.contracts.manifest.Manifest.complete_from_abstract_filesystem as complete_from
 use Rattle.cargo_toml_manifest.proofs.manifest.Manifest.complete_from_abstract_filesystem.Met as complete_from-met
 use Rattle.cargo_toml_resolver.specs.contracts.complete_and_parse.shared as shared
 use Rattle.cargo_toml_resolver.proofs.complete_and_parse.shared.Met as shared-met
-use Rattle.cargo_toml_resolver.specs.contracts.features.Resolver.resolved as resolved
+use Rattle.cargo_toml_resolver.specs.contracts.resolving.Resolver.resolved as resolved
 use Rattle.cargo_toml_resolver.proofs.resolving.Resolver.resolved.Met as resolved-met
 use Rattle.cargo_toml_manifest.proofs.manifest.Manifest.TheLaws as Manifest-laws
 use Rattle.std.proofs.alloc.Global.TheLaws as Global-laws

@@ -1,5 +1,5 @@
 -- Texts in order, each once, are given by which they are.
-use Rattle.std.proofs.Common.{◌≡◌, Bool, true, false, ◌||◌, List, [], ◌∷◌, refl, ap, ◌∙◌, sym, map, String, string_bytes, subst}
+use Rattle.std.proofs.Common.{◌≡◌, Bool, true, false, ◌||◌, List, [], ◌∷◌, refl, ap, ◌∙◌, sym, map, String, string_bytes}
 use Rattle.std.specs.List.{list_any, AllByRecursion, Sorted.IsStrictlySortedBy}
 use Rattle.std.specs.{Str.bytes_eq, Ordering.nat_cmp, Ordering.is_eq, Ordering.match_ordering}
 use Rattle.std.specs.{declared.cmp.Ordering.Ordering, String.string_cmp}

@@ -9,9 +9,11 @@ use Rattle.cargo_toml_discovery.specs.Told.{Told, names, absent, denied, open_pa
 use Rattle.cargo_toml_discovery.specs.declared.listings.Listings as code
 use Rattle.cargo_toml_discovery.specs.declared.listings.Wanted.{Wanted}
 
+-- the names in folders, by the paths of these
 abbrev pub Answers : Type 0
 Answers = List (Name × List Name)
 
+-- the names that were answered for a path, if any
 abbrev pub answer_at : Answers → Name → Option (List Name)
 answer_at [] p = None
 answer_at (a ∷ ans) p = if bytes_eq p a.0 then Some a.1 else answer_at ans p
@@ -24,6 +26,7 @@ filled_by (denied fault) a = denied fault
 filled_by open_path None = open_path
 filled_by open_path (Some ts) = names ts
 
+-- what is told, with answers where a path is open
 abbrev pub filled : (Name → Told) → Answers → Name → Told
 filled told ans p = filled_by (told p) (answer_at ans p)
 

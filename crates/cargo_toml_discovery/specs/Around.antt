@@ -17,6 +17,7 @@ named_at told folder n =
     if is_source n then seen (record { name = n; has_main = false })
     else seen_as (named_by n) (names_at (told (in_folder folder n)))
 
+-- each of these names in a folder, with what is seen of it
 abbrev pub each_named : (Name → Told) → Name → List Name → Seen (List Named)
 each_named told folder [] = seen []
 each_named told folder (n ∷ ns) =
@@ -36,6 +37,7 @@ pub record Around : Type 0 where
   pub tests : List Named
   pub benches : List Named
 
+-- what stands around a package, of its six folders
 abbrev pub make_around :
     (List Name × List Name) × ((List Named × List Named) × (List Named × List Named)) → Around
 make_around a = record {

@@ -27,6 +27,7 @@ found_library true true None = Some (at_library no_product)
 found_library true false None = None
 found_library true made (Some p) = Some (at_library p)
 
+-- the crate types, and `lib` where none is stated
 abbrev pub or_plain_library : List Name → List Name
 or_plain_library [] = codes "lib" ∷ []
 or_plain_library types = types
@@ -41,10 +42,12 @@ filled_library name edition p = record p {
   required_features = [];
 }
 
+-- the library, if there is one, with what it does not state
 abbrev pub library : Name → Edition → Bool → Bool → Option ProductMeaning → Option ProductMeaning
 library name edition is_there made lib =
     option_map (filled_library name edition) (found_library is_there made lib)
 
+-- what `src/main.rs` offers to a package of this name
 abbrev pub main_of : Name → Offered
 main_of name = record { file = codes "main.rs"; name = name; path = codes "src/main.rs" }
 
@@ -76,6 +79,7 @@ abbrev pub first_in : List Name → List Name → File → File
 first_in root [] otherwise = otherwise
 first_in root (n ∷ ns) otherwise = if has_text root n then path n else first_in root ns otherwise
 
+-- the names of a readme, the first that is there first
 abbrev pub readme_names : List Name
 readme_names = codes "README.md" ∷ codes "README.txt" ∷ codes "README" ∷ []
 
@@ -141,10 +145,12 @@ discovered_meaning d = record {
   readme = file_meaning d.readme;
 }
 
+-- the library, where this stands around the package
 abbrev pub library_around : StatedMeaning → Around → Option ProductMeaning
 library_around s a =
     library s.name s.edition (has_text a.src (codes "lib.rs")) s.autolib s.stated.lib
 
+-- what `src/main.rs` offers, where this stands around the package
 abbrev pub main_around : StatedMeaning → Around → Option Offered
 main_around s a = main_offer s.name (has_text a.src (codes "main.rs")) s.stated.bin
 

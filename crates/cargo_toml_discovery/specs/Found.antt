@@ -41,6 +41,7 @@ is_text t (Some u) = bytes_eq u t
 abbrev pub has_path : ProductMeaning → Bool
 has_path p = is_some p.path
 
+-- some product has the path
 abbrev pub is_path_of : List ProductMeaning → Name → Bool
 is_path_of ps path = list_any (λ p. is_text path p.path) ps
 
@@ -49,6 +50,7 @@ abbrev pub still_open : (Name → Bool) → Option Offered → Option Offered
 still_open is_taken None = None
 still_open is_taken (Some o) = if is_taken o.path then None else Some o
 
+-- what a name offers, unless its path is taken
 abbrev pub open_offer : Name → (Name → Bool) → Named → Option Offered
 open_offer folder is_taken e = still_open is_taken (offer_of folder e)
 
@@ -69,6 +71,7 @@ abbrev pub last_waiting : List ProductMeaning → Name → Option ProductMeaning
 last_waiting [] n = None
 last_waiting (p ∷ ps) n = option_or (last_waiting ps n) (waits_or p n None)
 
+-- the product of an offer that none waits for
 abbrev pub new_product : Edition → Offered → ProductMeaning
 new_product edition o =
     record no_product { name = Some o.name; path = Some o.path; edition = Some edition }
@@ -90,6 +93,7 @@ is_first os o = not (list_any (λ q. goes_before q o) os)
 abbrev pub taker : List ProductMeaning → List Offered → Offered → Option ProductMeaning
 taker ps os o = if is_first os o then last_waiting ps o.name else None
 
+-- the product of an offer, by the products that are stated and the offers before it
 abbrev pub product_among : Edition → List ProductMeaning → List Offered → Offered → ProductMeaning
 product_among edition ps os o = product_for edition o (taker ps os o)
 
@@ -101,6 +105,7 @@ has_offer os n = list_any (λ q. bytes_eq q.name n) os
 abbrev pub late_taker : List ProductMeaning → List Offered → Offered → Option ProductMeaning
 late_taker ps os o = if has_offer os o.name then None else last_waiting ps o.name
 
+-- the product of the last offer, if there is one
 abbrev pub last_product : Edition → List ProductMeaning → List Offered → Option Offered
     → List ProductMeaning
 last_product edition ps os None = []

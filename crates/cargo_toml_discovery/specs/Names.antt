@@ -8,6 +8,7 @@ use Rattle.std.specs.{Cmp.Lexicographic.slice_cmp, Str.bytes_eq}
 abbrev pub Name : Type 0
 Name = List ℕ
 
+-- the text is among these
 abbrev pub has_text : List Name → Name → Bool
 has_text texts text = list_any (bytes_eq text) texts
 
@@ -15,6 +16,7 @@ has_text texts text = list_any (bytes_eq text) texts
 abbrev pub in_folder : Name → Name → Name
 in_folder folder name = folder ++ (codes "/" ++ name)
 
+-- the name ends with `.rs`
 abbrev pub is_source : Name → Bool
 is_source name = ends_with nat_eq name (codes ".rs")
 
@@ -22,6 +24,7 @@ is_source name = ends_with nat_eq name (codes ".rs")
 abbrev pub may_be_folder : Name → Bool
 may_be_folder name = not (is_source name)
 
+-- the name without its last three bytes
 abbrev pub without_ending : Name → Name
 without_ending name = take (length name - 3) name
 
@@ -34,7 +37,7 @@ stripped (suc n) name = if is_source name then stripped n (without_ending name) 
 abbrev pub stem : Name → Name
 stem name = stripped (length name) name
 
--- the name with `.rs` at its end so often more
+-- the name with n more `.rs` at its end
 abbrev pub with_endings : ℕ → Name → Name
 with_endings zero name = name
 with_endings (suc n) name = with_endings n name ++ codes ".rs"

@@ -7,11 +7,13 @@ use Rattle.cargo_toml_parts.specs.declared.error.Error.{Error, Memory}
 use Rattle.cargo_toml_discovery.specs.Names.{Name, ordered}
 use Rattle.cargo_toml_discovery.specs.Told.{Told, names, absent, denied, open_path}
 
+-- what is seen in folders: a value, or the faults that stand in place of names, or nothing sure
 pub data Seen (A : Type 0) : Type 0 where
   seen : A → Seen A
   faulty : List Fault → Seen A
   unclear : Seen A
 
+-- what f makes of the value that is seen
 abbrev pub seen_as : {A B : Type 0} → (A → B) → Seen A → Seen B
 seen_as f (seen x) = seen (f x)
 seen_as f (faulty fs) = faulty fs
@@ -31,6 +33,7 @@ and_then (seen x) f = f x
 and_then (faulty fs) f = faulty fs
 and_then unclear f = unclear
 
+-- the kind is that of what isn't there
 abbrev pub is_not_found : ErrorKind → Bool
 is_not_found NotFound = true
 is_not_found _ = false

@@ -232,7 +232,7 @@ fn binaries(
     ensures { IfOk result (λ v. meanings v.items ≡ (discovered (stated_meaning stated.now)
         (around_in (answers_of listings.now) stated.now.wanted)).bin) }
 {
-    let has_main = listings.has("src", "main.rs");
+    let has_main = stated.wanted.bins && listings.has("src", "main.rs");
     let main = main_offer(alloc, stated.name, has_main, stated.bin)?;
     let list = StatedList {
         folder: "src/bin",

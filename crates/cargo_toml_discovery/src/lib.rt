@@ -14,5 +14,4 @@ mod names;
 mod products;
 
 pub use discovery::{Discovered, Stated, discover};
-pub use found::Offer;
 pub use listings::{Entry, Listings, Wanted};

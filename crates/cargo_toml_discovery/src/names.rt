@@ -8,12 +8,7 @@ use std::alloc::{AllocError, Global};
 pub fn in_folder(alloc: Global, folder: &str, name: &str) -> Result<String, AllocError>
     ensures { IfOk result (λ path. string_bytes path ≡ in_folder folder.now name.now) }
 {
-    let room = folder.len().saturating_add(name.len()).saturating_add(1);
-    let mut path = String::with_capacity(alloc, room)?;
-    path.push_str(folder)?;
-    path.push_str("/")?;
-    path.push_str(name)?;
-    Ok(path)
+    format!(in alloc; "{folder}/{name}")
 }
 
 /// Whether the name is that of a source: whether it ends with `.rs`.

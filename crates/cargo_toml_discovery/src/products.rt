@@ -13,10 +13,7 @@ use std::cmp::Ordering;
 fn compare(a: &Product, b: &Product) -> Ordering
     ensures { result ≡ product_cmp (product_meaning a.now) (product_meaning b.now) }
 {
-    match a.name.cmp(&b.name) {
-        Ordering::Equal => a.path.cmp(&b.path),
-        by_name => by_name,
-    }
+    a.name.cmp(&b.name).then_with(|| a.path.cmp(&b.path))
 }
 
 /// Puts products in order, by name and then by path. Equal ones stay in their order. It is refused

@@ -13,6 +13,7 @@ use denote.Ref.{Bor}
 abbrev pub Handed : Type 0
 Handed = Option Shared × List ℕ
 
+-- the workspace that is handed in, and its path
 abbrev pub handed_of : {N : Type 0} → Bor (Manifest N) × Bor (List ℕ) → Handed
 handed_of handed = (shared_of handed.0.now.workspace, handed.1.now)
 
@@ -35,6 +36,7 @@ pub data Choice : Type 0 where
   lost : Choice
   unclear_root : Choice
 
+-- the choice by what is told of a root
 abbrev pub told_choice : ToldRoot → Choice
 told_choice (root m path) = from (Some (option_map shared m.workspace, path))
 told_choice no_root = lost

@@ -9,10 +9,12 @@ use Rattle.cargo_toml_manifest.specs.Inheriting.{needs}
 use Rattle.cargo_toml_manifest.specs.Manifests.{held}
 use Rattle.cargo_toml_manifest.specs.declared.manifest.Manifest.{Manifest}
 
--- completed by a workspace that is handed in, if any, by what is stated of roots and of folders,
--- and by the roots that may be found where none is stated
+-- by a workspace that is handed in, if any, by what is stated of roots and of folders, and by the
+-- roots that may be found where none is stated
 module _ {M : Type 0} (old : Manifest M) (handed : Option Handed) (roots : RootsTold)
     (found : MayFind) (told : Name → Told) where
+  -- all that completion says of its success: the definition gives it, nothing is left to the
+  -- workspace, and completing again gives it again
   pub record IsCompleted (new : Manifest M) : Type 0 where
     -- the definition gives it, where all that is asked for is told
     pub outcome : Meets held (complete (held old) handed roots told) (Ok new)

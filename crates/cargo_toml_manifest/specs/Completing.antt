@@ -46,6 +46,7 @@ inherited_by (Some w) m = inherited_manifest w.0 (workspace_folder w.1) m
 abbrev pub path_of : Option Handed → Option (List ℕ)
 path_of w = option_map (λ h. h.1) w
 
+-- the outcome of completion, once it is chosen where to inherit from
 abbrev pub complete_by : {M : Type 0} → ManifestMeaning M → Choice → (Name → Told)
     → Outcome (ManifestMeaning M)
 complete_by m (from w) told = then_found (path_of w) told (inherited_by w m)

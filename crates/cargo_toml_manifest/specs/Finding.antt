@@ -15,7 +15,7 @@ use Rattle.cargo_toml_discovery.specs.declared.listings.Wanted.{Wanted}
 use Rattle.cargo_toml_package.specs.Packages.{PackageMeaning}
 use Rattle.cargo_toml_manifest.specs.Manifests.{ManifestMeaning}
 
--- the lists that a package has found in folders
+-- which lists of the package are to be found in folders
 abbrev pub wanted_by : {M : Type 0} → PackageMeaning M → Wanted
 wanted_by p = record {
   bins = p.autobins;
@@ -61,6 +61,7 @@ found_for m None told = seen m
 found_for m (Some p) told =
     seen_as (λ a. with_discovered m p (discovered (stated_by m p) a)) (around told (wanted_by p))
 
+-- the manifest with what is found around it
 abbrev pub found_around : {M : Type 0} → ManifestMeaning M → (Name → Told)
     → Seen (ManifestMeaning M)
 found_around m told = found_for m m.«package» told

@@ -48,6 +48,7 @@ pub record ManifestMeaning (M : Type 0) : Type 0 where
   pub lints : Inheritable (List (List ℕ × List (List ℕ × LintMeaning)))
   pub feature_details : List (List ℕ × Detail)
 
+-- what a manifest holds, with its metadata as f reads them
 abbrev pub manifest_meaning : {X M : Type 0} → (X → M) → Manifest X → ManifestMeaning M
 manifest_meaning f m = record {
   «package» = option_map (package_meaning f) m.«package»;
@@ -80,7 +81,7 @@ is_zero (Set p) =
     (p.0 == 0) && ((p.1 == 0) && ((p.2 == 0) && ((length p.3 == 0) && (length p.4 == 0))))
 is_zero Inherited = false
 
--- nothing says where the package may be published, or `true` does
+-- the package may be published everywhere
 abbrev pub is_everywhere : Inheritable Registries → Bool
 is_everywhere (Set (everywhere b)) = b
 is_everywhere (Set (among names)) = false
@@ -90,30 +91,36 @@ is_everywhere Inherited = false
 abbrev pub zero_rule_applies : {M : Type 0} → PackageMeaning M → Bool
 zero_rule_applies p = is_zero p.version && is_everywhere p.publish
 
+-- the package by the rule of version 0.0.0
 abbrev pub by_zero_rule : {M : Type 0} → PackageMeaning M → PackageMeaning M
 by_zero_rule p = if zero_rule_applies p then record p { publish = Set (everywhere false) } else p
 
--- the parts of a tree
+-- the target of a tree
 abbrev pub target_reads : Data → Option TargetMeaning
 target_reads d = option_and_then target_of (as_table d)
 
+-- the product of a tree
 abbrev pub product_reads : Data → Option ProductMeaning
 product_reads d = option_and_then product_of (as_table d)
 
+-- the profiles of a tree
 abbrev pub profiles_reads : Data → Option ProfilesMeaning
 profiles_reads d = option_and_then profiles_of (as_table d)
 
+-- what may be wrong with a tree that is to be profiles
 abbrev pub ProfilesRefuse : Refusal
 ProfilesRefuse d e = TableRefuses ProfilesFaults (as_table d) e
 
+-- the badges of a tree
 abbrev pub badges_reads : Data → Option BadgesMeaning
 badges_reads d = option_map badges_of (as_table d)
 
--- no profile, and no badge
+-- no profile
 abbrev pub no_profiles : ProfilesMeaning
 no_profiles =
     record { release = None; dev = None; test = None; bench = None; doc = None; custom = [] }
 
+-- no badge
 abbrev pub no_badges : BadgesMeaning
 no_badges = badges_of no_members
 
@@ -184,6 +191,7 @@ ManifestFaults metadata_of metadata_refuses ms e =
 abbrev pub manifest_reads : {M : Type 0} → (Data → Option M) → Data → Option (ManifestMeaning M)
 manifest_reads metadata_of d = option_and_then (manifest_of metadata_of) (as_table d)
 
+-- what may be wrong with a tree that is to be a manifest
 abbrev pub ManifestRefuses : {M : Type 0} → (Data → Option M) → Refusal → Refusal
 ManifestRefuses metadata_of metadata_refuses d e =
     TableRefuses (ManifestFaults metadata_of metadata_refuses) (as_table d) e

@@ -29,9 +29,11 @@ folder_of files = files.path.now
 abbrev pub real_roots : RootsTold
 real_roots hint = open_root
 
+-- of a folder nothing is stated
 abbrev pub real_folders : List ℕ → Told
 real_folders path = open_path
 
+-- any root may be found
 abbrev pub any_root : MayFind
 any_root hint m path = Unit {0}
 
@@ -41,6 +43,7 @@ is_absent NotFound = true
 is_absent NotADirectory = true
 is_absent kind = false
 
+-- the text of the fault of a manifest that should be a workspace's
 abbrev pub expected_workspace : List ℕ → List ℕ
 expected_workspace path = codes "Manifest at " ++ path ++ codes " was expected to be a workspace."
 
@@ -61,6 +64,7 @@ IsRootFault fault =
     × ((¬ (kind ≡ OutOfMemory)) × (fault ≡ workspace (io kind) (Some file)))))
     ⊎ IsNoWorkspace fault)
 
+-- the faults that stand in place of a root that a hint leads to
 abbrev pub RealRootRefuses : Option (List ℕ) → Fault → Type 0
 RealRootRefuses hint = IsRootFault
 
@@ -68,6 +72,7 @@ RealRootRefuses hint = IsRootFault
 abbrev pub RealListingRefuses : List ℕ → Fault → Type 0
 RealListingRefuses path = IsListingInput
 
+-- the fault of a path without a folder above it
 abbrev pub bad_path : Fault
 bad_path = other (codes "bad path")
 

@@ -1,6 +1,6 @@
 -- Which faults an implementor of `AbstractFilesystem` may give, and what has to do with them where
 -- completion is refused.
-use Rattle.std.specs.Prelude.{◌≡◌, ◌⊎◌, ℕ, List, Bool, true, false, Option, Some, None, Result}
+use Rattle.std.specs.Prelude.{◌≡◌, ◌⊎◌, ℕ, List, Bool, true, false, Option, Result}
 use Rattle.std.specs.Prelude.{Ok, Err, MatchResult, String, string_bytes, Vec}
 use Rattle.std.specs.declared.{alloc.Global.Global, io.ErrorKind.TheVariants.Unsupported}
 use Rattle.toml.specs.Data.{Data}

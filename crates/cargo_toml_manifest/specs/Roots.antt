@@ -11,6 +11,7 @@ use Rattle.cargo_toml_manifest.specs.declared.manifest.Manifest.{Manifest}
 use Rattle.cargo_toml_manifest.specs.Manifests.{manifest_meaning, manifest_reads, ManifestRefuses}
 use Rattle.cargo_toml_manifest.specs.Texts.{IsFromBytes, any_tree, AnyRefuses}
 
+-- the text of the fault of a root without a workspace table
 abbrev pub not_a_workspace : List ℕ
 not_a_workspace =
     codes "Not a Workspace.\nUse package.workspace to select a differnt path, or implement "

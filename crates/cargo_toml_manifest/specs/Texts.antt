@@ -1,4 +1,4 @@
--- What is read of a text and of bytes.
+-- What is read from a text and from bytes.
 use Rattle.std.specs.Prelude.{◌⊎◌, ℕ, List, String, codes, Option, Some, None, Result}
 use Rattle.std.specs.{Prelude.IsErrAnd, Prelude.IsUtf8, BTreeMap.BTreeMap}
 use Rattle.std.specs.declared.alloc.Global.{Global}
@@ -15,7 +15,7 @@ use Rattle.cargo_toml_parts.specs.Faults.{IsOther, IsToml}
 use Rattle.cargo_toml_parts.specs.Floats.{without_floats, FloatsOr}
 use Rattle.cargo_toml_parts.specs.Reads.{IsReading}
 
--- what is read of the document that `toml` finds in a text, if it finds one
+-- what is read from the document that `toml` finds in a text, if it finds one
 abbrev pub document_reads : {M : Type 0} → (Data → Option M) → Option Members → Option M
 document_reads reads None = None
 document_reads reads (Some ms) = without_floats reads (table ms)
@@ -31,7 +31,7 @@ IsTomlIn text e =
     IsToml e
     × (elim (out-Error e) as (λ _. Type 0) [ Error-F.Parse f ↦ LiesIn text f | _ ↦ Unit {0} ])
 
--- what may be wrong of a text in which `toml` finds this document, if it finds one: the text, a
+-- what may be wrong with a text in which `toml` finds this document, if it finds one: the text, a
 -- float at any depth, or else the tree
 abbrev pub DocumentRefuses : (Data → Error → Type 0) → List ℕ → Option Members → Error → Type 0
 DocumentRefuses refuses text None e = IsTomlIn text e
@@ -66,5 +66,6 @@ IsTreeOfBytes bytes result = IsFromBytes tree_of (λ d. Some d) (λ d e. ⊥) by
 abbrev pub any_tree : Data → Option Data
 any_tree = without_floats (λ d. Some d)
 
+-- what may be wrong with metadata of type `Value`: a float alone
 abbrev pub AnyRefuses : Data → Error → Type 0
 AnyRefuses = FloatsOr (λ d e. ⊥)

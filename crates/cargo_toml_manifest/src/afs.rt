@@ -1,6 +1,6 @@
 //! The files around a manifest, as an implementor of a trait answers for them.
 ghost use Rattle.std.specs.Prelude.{◌≡◌, ◌⊎◌, ℕ, List, Bool, true, false, not, ◌&&◌, Option, IfOk};
-ghost use Rattle.std.specs.Prelude.{Ok, Err, IfErr, MatchResult, string_bytes};
+ghost use Rattle.std.specs.Prelude.{Ok, Err, IfErr, string_bytes};
 ghost use Rattle.std.specs.Option.{option_copied};
 ghost use Rattle.toml.specs.View.{view};
 ghost use Rattle.cargo_toml_parts.specs.declared.error.Error.{Memory};
@@ -87,8 +87,8 @@ impl Roots for ParsedRoot {
 /// refused as `Unsupported`, with the hint.
 pub trait AbstractFilesystem {
     /// `OwnRoot` where `read_root_workspace` is written, `ParsedRoot` where `parse_root_workspace`
-    /// alone is, and `NoRoot` where both are left out. With `NoRoot` nothing is stated of a root
-    /// except that there is none.
+    /// alone is, and `NoRoot` where both are left out. With `NoRoot` a `root_for` that names a root
+    /// states nothing; one that says there is none counts.
     type Roots: Roots;
 
     /// What is stated of a path, as seen from the folder of the manifest.
@@ -230,10 +230,7 @@ pub(crate) fn boxed(alloc: Global, bytes: &[u8]) -> Result<Box<Manifest>, Error>
     ensures read { IfOk result (λ manifest. IsFromSlice bytes.now (Ok manifest.value)) }
     ensures refused { IfErr result (λ e. (e ≡ Memory) ⊎ IsFromSlice bytes.now (Err e)) }
 {
-    match Manifest::from_slice(alloc, bytes) {
-        Ok(manifest) => Ok(Box::new(alloc, manifest)?),
-        Err(fault) => Err(fault),
-    }
+    Ok(Box::new(alloc, Manifest::from_slice(alloc, bytes)?)?)
 }
 
 // The root of these bytes, which were read at this path. A fault of the bytes, and
@@ -262,17 +259,9 @@ pub fn wrapped(alloc: Global, fault: Error, path: Option<&str>) -> Error
 {
     match fault {
         Error::Workspace(_) | Error::Memory => fault,
-        _ => told_or_memory(in_workspace(alloc, fault, path)),
-    }
-}
-
-// What was made of a fault, or that there was no memory for it.
-fn told_or_memory(made: Result<Error, Error>) -> Error
-    ensures { MatchResult made (λ e. result ≡ e) (λ _. result ≡ Memory) }
-{
-    match made {
-        Ok(fault) => fault,
-        Err(_) => Error::Memory,
+        _ => match in_workspace(alloc, fault, path) {
+            Ok(made) | Err(made) => made,
+        },
     }
 }
 

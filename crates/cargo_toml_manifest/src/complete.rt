@@ -72,10 +72,7 @@ fn completion<Metadata, Fs: AbstractFilesystem>(
 fn hint_of<Metadata>(manifest: &Manifest<Metadata>) -> Option<&str>
     ensures { option_copied result ≡ hint_of (held manifest.now) }
 {
-    match &manifest.package {
-        Some(package) => package.workspace.as_deref(),
-        None => None,
-    }
+    manifest.package.as_ref()?.workspace.as_deref()
 }
 
 // What completion puts into a manifest, wherever its workspace is.

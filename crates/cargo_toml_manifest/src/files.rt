@@ -12,7 +12,6 @@ use cargo_toml_parts::Error;
 use cargo_toml_parts::paths::join;
 use std::alloc::Global;
 use std::collections::HashSet;
-use std::fs;
 use std::rt::Files;
 
 /// The files on the disk, as seen from the folder of a manifest.
@@ -55,8 +54,14 @@ impl<R: Files + AllocGlobal> AbstractFilesystem for Filesystem<'_, R> {
         names_in(self.rt, alloc, folder.as_str())
     }
 
-    /// The root that the hint leads to, as `root_by_hint` finds it, or else the one above the
-    /// folder, as `root_above` does.
+    /// The root of a workspace: with a hint the `Cargo.toml` in the folder that it names, and
+    /// without one the nearest above the folder that is a workspace's.
+    ///
+    /// With a hint, a fault of reading is `Error::Workspace` with that file's path, a fault of its
+    /// bytes stays as it is, and a manifest without a workspace table is
+    /// `Error::WorkspaceIntegrity`. Without one, a `Cargo.toml` that can't be read is refused as
+    /// `Error::Io`; where no file above is a workspace's, the fault is that of the last one, or
+    /// `Error::Io` of the kind `NotFound` where there is none.
     fn parse_root_workspace(
         &self,
         alloc: Global,

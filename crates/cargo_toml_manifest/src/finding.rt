@@ -35,7 +35,7 @@ pub struct Completion {
     pub found: Option<Discovered>,
 }
 
-// The lists that the package has found in folders.
+// Which lists of the package are to be found in folders.
 fn wanted<Metadata>(package: &Package<Metadata>) -> Wanted
     ensures { result ≡ wanted_by (held_package «package».now) }
 {

@@ -4,7 +4,7 @@ use std::alloc::Global;
 // What a text of more bytes takes is more than the C library keeps by itself.
 const LONG: usize = 256 * 1024;
 
-// So many bytes for each byte of a text are less than its tree and its manifest take.
+// Reading takes more than this many bytes for each byte of a text.
 const ROOM: usize = 7;
 
 /// Has the C library keep as much of its heap as reading a text of this length takes.

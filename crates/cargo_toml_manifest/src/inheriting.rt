@@ -16,8 +16,8 @@ ghost use Rattle.cargo_toml_manifest.specs.Installing.{installed, installed_if_t
 ghost use Rattle.cargo_toml_manifest.specs.Manifests.{held};
 
 use crate::manifest::Manifest;
-use cargo_toml_package::inheriting::{NewFields, install, new_fields};
-use cargo_toml_package::sharing::{NewParts, new_lints, put_lints};
+use cargo_toml_package::inheriting::{NewFields, install, new_fields, put};
+use cargo_toml_package::sharing::{NewParts, new_lints};
 use cargo_toml_package::workspace_dependencies::{
     NewTarget, replace, replace_targets, replacements, target_replacements,
 };
@@ -173,6 +173,6 @@ pub fn install_parts<Metadata: Drop>(manifest: &mut Manifest<Metadata>, new: New
     replace(&mut manifest.build_dependencies, tables.build_dependencies);
     replace(&mut manifest.dev_dependencies, tables.dev_dependencies);
     replace_targets(&mut manifest.target, targets);
-    put_lints(&mut manifest.lints, lints);
+    put(&mut manifest.lints, lints);
     put_package(&mut manifest.package, package);
 }

@@ -1,4 +1,4 @@
-//! A manifest, and how it is read of a text.
+//! A manifest, and how it is read from a text.
 ghost use Rattle.std.specs.Prelude.{◌≡◌, Option, Some, None, option_map};
 ghost use Rattle.toml.specs.Data.{Data, no_members};
 ghost use Rattle.toml.specs.View.{view, table_view};
@@ -80,7 +80,7 @@ pub struct Manifest<Metadata = Value> {
     /// How the code is compiled. Missing: no profile.
     pub profile: Profiles,
 
-    /// Signs of how the project fares. Missing: no badge, and the maintenance status `none`.
+    /// The badges. Missing: no badge, and the maintenance status `none`.
     pub badges: Badges,
 
     /// The binaries that are written down.
@@ -104,6 +104,7 @@ pub struct Manifest<Metadata = Value> {
     pub feature_details: FeatureDetails,
 }
 
+/// A clone of each field. Refused only for want of memory, or by the metadata's own `Clone`.
 impl<Metadata: Clone> Clone for Manifest<Metadata> {
     ghost is_clone = { λ x copy.
         ⟦<Option<Package<Metadata>> as Clone>⟧.is_clone x.package copy.package

@@ -22,6 +22,7 @@ pub record InheritedMeaning : Type 0 where
   pub optional : Bool
   pub workspace : Bool
 
+-- what an inherited dependency holds
 abbrev pub inherited_meaning : InheritedDependencyDetail → InheritedMeaning
 inherited_meaning i = record {
   features = map string_bytes i.features.items;
@@ -29,6 +30,7 @@ inherited_meaning i = record {
   workspace = i.workspace;
 }
 
+-- the inherited dependency of a table, each of whose keys may be missing
 abbrev pub inherited_of : Members → Option InheritedMeaning
 inherited_of ms = do
   features ← list_at "features" ms
@@ -40,6 +42,7 @@ inherited_of ms = do
 abbrev pub says_workspace : Members → Bool
 says_workspace ms = is_some (required_at "workspace" as_bool ms)
 
+-- the inherited dependency of a table, whose key `workspace` must be there
 abbrev pub strict_of : Members → Option InheritedMeaning
 strict_of ms = do
   workspace ← required_at "workspace" as_bool ms
@@ -83,6 +86,7 @@ no_detail = record {
   inherited = false;
 }
 
+-- what the detail holds
 abbrev pub detail_meaning : DependencyDetail → DetailMeaning
 detail_meaning d = record {
   version = option_map requirement_meaning d.version;
@@ -101,12 +105,14 @@ detail_meaning d = record {
   inherited = d.inherited;
 }
 
+-- the keys of a detail
 abbrev pub detail_keys : List (List ℕ)
 detail_keys =
     codes "version" ∷ codes "features" ∷ codes "optional" ∷ codes "default-features"
     ∷ codes "package" ∷ codes "registry" ∷ codes "registry-index" ∷ codes "path" ∷ codes "git"
     ∷ codes "branch" ∷ codes "tag" ∷ codes "rev" ∷ []
 
+-- the detail of a table
 abbrev pub detail_of_table : Members → Option DetailMeaning
 detail_of_table ms = do
   version ← optional_at "version" requirement_of ms
@@ -145,11 +151,13 @@ pub data DependencyMeaning : Type 0 where
   inherited : InheritedMeaning → DependencyMeaning
   detailed : DetailMeaning → DependencyMeaning
 
+-- what a dependency holds
 abbrev pub dependency_meaning : Dependency → DependencyMeaning
 dependency_meaning (kind.Simple r) = simple (requirement_meaning r)
 dependency_meaning (kind.Inherited i) = inherited (inherited_meaning i)
 dependency_meaning (kind.Detailed b) = detailed (detail_meaning b.value)
 
+-- inherited where that reads, and else the detail
 abbrev pub inherited_or : Option InheritedMeaning → Option DetailMeaning → Option DependencyMeaning
 inherited_or (Some i) d = Some (inherited i)
 inherited_or None d = option_map detailed d
@@ -170,6 +178,7 @@ is_optional (simple r) = false
 is_optional (inherited i) = i.optional
 is_optional (detailed d) = d.optional
 
+-- the name of the package, where a detail names it
 abbrev pub package_of : DependencyMeaning → Option (List ℕ)
 package_of (simple r) = None
 package_of (inherited i) = None

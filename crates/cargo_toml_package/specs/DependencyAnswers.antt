@@ -40,6 +40,7 @@ git_of (simple r) = None
 git_of (inherited i) = None
 git_of (detailed d) = d.git
 
+-- the revision, where a detail names it
 abbrev pub rev_of : DependencyMeaning → Option (List ℕ)
 rev_of (simple r) = None
 rev_of (inherited i) = None

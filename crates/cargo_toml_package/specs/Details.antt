@@ -8,6 +8,7 @@ pub record Detail : Type 0 where
   pub public : Bool
   pub doc : Option (List ℕ)
 
+-- what is said of a feature
 abbrev pub detail_of : FeatureDetail → Detail
 detail_of d = record { public = d.public; doc = option_map string_bytes d.doc }
 
@@ -15,5 +16,6 @@ detail_of d = record { public = d.public; doc = option_map string_bytes d.doc }
 abbrev pub plain_detail : Detail
 plain_detail = record { public = true; doc = None }
 
+-- nothing is said: it is public, and has no text
 abbrev pub is_plain : Detail → Bool
 is_plain d = d.public && is_none d.doc

@@ -36,6 +36,7 @@ feature_of d = list_feature d
 abbrev pub lists_of : List (List ℕ × (List (List ℕ) × Detail)) → List (List ℕ × List (List ℕ))
 lists_of fs = map (λ f. (f.0, f.1.0)) fs
 
+-- what is said of features, of each of which something is
 abbrev pub details_of : List (List ℕ × (List (List ℕ) × Detail)) → List (List ℕ × Detail)
 details_of fs = filter (λ e. not (is_plain e.1)) (map (λ f. (f.0, f.1.1)) fs)
 
@@ -47,14 +48,17 @@ said_of name d = if is_plain d then [] else (name, d) ∷ []
 abbrev pub FeaturesMeaning : Type 0
 FeaturesMeaning = List (List ℕ × List (List ℕ)) × List (List ℕ × Detail)
 
+-- what each feature enables, and what is said of them
 abbrev pub apart : List (List ℕ × (List (List ℕ) × Detail)) → FeaturesMeaning
 apart fs = (lists_of fs, details_of fs)
 
+-- what two maps of features hold
 abbrev pub features_meaning : BTreeMap (String Global) (Vec (String Global) Global)
     → BTreeMap (String Global) FeatureDetail → FeaturesMeaning
 features_meaning lists details =
     (map_meaning (λ v. map string_bytes v.items) lists, map_meaning detail_of details)
 
+-- no feature
 abbrev pub no_features : FeaturesMeaning
 no_features = ([], [])
 

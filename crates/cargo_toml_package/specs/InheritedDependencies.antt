@@ -53,10 +53,12 @@ IsShort d =
     ≡ short_detail d.version (d.features ++ entry.features)
     (d.optional || entry.optional) d.default_features
 
+-- the fault of an inherited key that the workspace doesn't have
 abbrev pub missing_template : List ℕ → Fault
 missing_template key =
     workspace_integrity (codes "workspace dependencies are missing `" ++ key ++ codes "`")
 
+-- the entry has neither a feature nor `optional` of its own
 abbrev pub adds_nothing : InheritedMeaning → Bool
 adds_nothing entry = length entry.features == 0 && not entry.optional
 
@@ -94,6 +96,7 @@ inherited_target templates base t = do
     build_dependencies = build_dependencies;
   })
 
+-- what the targets' dependencies become
 abbrev pub inherited_targets : Option Entries → List ℕ → List (List ℕ × TargetMeaning)
     → Result (List (List ℕ × TargetMeaning)) Fault
 inherited_targets templates base targets =
@@ -104,12 +107,15 @@ abbrev pub is_left : DependencyMeaning → Bool
 is_left (inherited entry) = true
 is_left other = false
 
+-- some entry is inherited
 abbrev pub any_left : Entries → Bool
 any_left entries = list_any (λ e. is_left e.1) entries
 
+-- some entry of a target is inherited
 abbrev pub target_left : TargetMeaning → Bool
 target_left t =
     any_left t.dependencies || any_left t.dev_dependencies || any_left t.build_dependencies
 
+-- some entry of some target is inherited
 abbrev pub any_target_left : List (List ℕ × TargetMeaning) → Bool
 any_target_left targets = list_any (λ e. target_left e.1) targets

@@ -22,6 +22,7 @@ abbrev pub filled_field : {A : Type 0} → Inheritable A → Option A → Inheri
 filled_field Inherited (Some x) = Set x
 filled_field field value = field
 
+-- a field that is there, filled where it is inherited and there is a value
 abbrev pub filled_if_there : {A : Type 0} → Option (Inheritable A) → Option A
     → Option (Inheritable A)
 filled_if_there field value = option_map (λ f. filled_field f value) field
@@ -53,13 +54,16 @@ with_template base t p = record p {
   publish = filled_field p.publish (Some t.publish);
 }
 
+-- the package by the template, where there is one
 abbrev pub with_template_if_there : {M : Type 0} → List ℕ → Option TemplateMeaning
     → PackageMeaning M → PackageMeaning M
 with_template_if_there base template p = option_map_or (λ t. with_template base t p) template p
 
+-- the field is left to the workspace
 abbrev pub field_is_left : {A : Type 0} → Inheritable A → Bool
 field_is_left field = not (is_set field)
 
+-- the field is there, and left to the workspace
 abbrev pub is_left_there : {A : Type 0} → Option (Inheritable A) → Bool
 is_left_there field = option_map_or field_is_left field false
 
@@ -106,6 +110,7 @@ pub record IsFilled {M : Type 0} (p : Package M) : Type 0 where
   pub repository : IsTrue (is_known p.repository)
   pub publish : IsSome (value_of p.publish)
 
+-- the fault of a package that leaves a field to a template without it
 abbrev pub missing_fields : List ℕ → Fault
 missing_fields name =
     workspace_integrity (codes "not all fields of `" ++ name

@@ -19,6 +19,7 @@ pub record Shared : Type 0 where
   pub dependencies : Entries
   pub lints : LintsByTool
 
+-- what a workspace shares with its packages
 abbrev pub shared : {N : Type 0} → WorkspaceMeaning N → Shared
 shared w = record { template = w.«package»; dependencies = w.dependencies; lints = w.lints }
 
@@ -30,5 +31,6 @@ inherited_lints (Some lints) Inherited = Ok (Set lints)
 inherited_lints None Inherited =
     Err (workspace_integrity (codes "lints are inherited, but there is no workspace table"))
 
+-- what a workspace shares, where there is one
 abbrev pub shared_of : {N : Type 0} → Option (Workspace N) → Option Shared
 shared_of workspace = option_map (λ w. shared (workspace_meaning (λ x. x) w)) workspace

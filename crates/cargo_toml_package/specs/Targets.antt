@@ -12,6 +12,7 @@ pub record TargetMeaning : Type 0 where
   pub dev_dependencies : List (List ℕ × DependencyMeaning)
   pub build_dependencies : List (List ℕ × DependencyMeaning)
 
+-- what a target holds
 abbrev pub target_meaning : Target → TargetMeaning
 target_meaning t = record {
   dependencies = map_meaning dependency_meaning t.dependencies;
@@ -19,6 +20,7 @@ target_meaning t = record {
   build_dependencies = map_meaning dependency_meaning t.build_dependencies;
 }
 
+-- the target of a table
 abbrev pub target_of : Members → Option TargetMeaning
 target_of ms = do
   dependencies ← map_at "dependencies" dependency_of ms

@@ -24,6 +24,7 @@ pub record WorkspaceMeaning (M : Type 0) : Type 0 where
   pub dependencies : List (List ℕ × DependencyMeaning)
   pub lints : List (List ℕ × List (List ℕ × LintMeaning))
 
+-- what a workspace holds, with its metadata as f reads them
 abbrev pub workspace_meaning : {X M : Type 0} → (X → M) → Workspace X → WorkspaceMeaning M
 workspace_meaning f w = record {
   members = map string_bytes w.members.items;
@@ -58,7 +59,7 @@ workspace_of metadata_of ms = do
     lints = lints;
   })
 
--- which errors may stand in place of what is read of a tree
+-- which errors may stand in place of what is read from a tree
 abbrev pub Refusal : Type 1
 Refusal = Data → Error → Type 0
 
@@ -79,6 +80,7 @@ unfoldable pub workspace_reads : {M : Type 0} → (Data → Option M) → Data
     → Option (WorkspaceMeaning M)
 workspace_reads metadata_of d = option_and_then (workspace_of metadata_of) (as_table d)
 
+-- what may be wrong with a tree that is to be a workspace
 unfoldable pub WorkspaceRefuses : {M : Type 0} → (Data → Option M) → Refusal → Refusal
 WorkspaceRefuses metadata_of metadata_refuses d e =
     TableRefuses (WorkspaceFaults metadata_of metadata_refuses) (as_table d) e

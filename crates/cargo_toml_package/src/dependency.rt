@@ -69,6 +69,7 @@ pub struct DependencyDetail {
     pub inherited: bool,
 }
 
+/// A clone of each field. Refused only for want of memory.
 impl Clone for DependencyDetail {
     ghost is_clone = { λ x copy.
         ⟦<Option<VersionReq> as Clone>⟧.is_clone x.version copy.version

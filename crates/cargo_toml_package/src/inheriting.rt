@@ -87,6 +87,7 @@ pub struct PackageTemplate {
     pub version: Option<Version>,
 }
 
+/// A clone of each field. Refused only for want of memory.
 impl Clone for PackageTemplate {
     ghost is_clone = { λ p copy.
         ⟦<Option<Vec<String>> as Clone>⟧.is_clone p.authors copy.authors
@@ -299,8 +300,8 @@ fn fields_from<M>(
     filling.finish(new)
 }
 
-// Puts in a new value, if there is one.
-fn put<T: Read>(field: &mut Inheritable<T>, value: Option<T>)
+/// Puts in a new value, if there is one. It takes no memory.
+pub fn put<T: Read>(field: &mut Inheritable<T>, value: Option<T>)
     ensures { inheritable_map T.meaning field.new
         ≡ put_field (inheritable_map T.meaning field.old) (option_map T.meaning value) }
 {

@@ -1,6 +1,5 @@
-//! What a manifest takes from its workspace, as far as it is no dependency and no field of the
-//! package.
-ghost use Rattle.std.specs.Prelude.{◌≡◌, option_map};
+//! What a manifest takes from its workspace, all together; and how its lints are made.
+ghost use Rattle.std.specs.Prelude.{option_map};
 ghost use Rattle.std.specs.Option.{option_copied};
 ghost use Rattle.cargo_toml_parts.specs.Answers.{Gives};
 ghost use Rattle.cargo_toml_parts.specs.Inherits.{inheritable_map};
@@ -56,16 +55,5 @@ pub fn new_lints(
             let text = "lints are inherited, but there is no workspace table";
             Err(Error::WorkspaceIntegrity(String::from_str(alloc, text)?))
         }
-    }
-}
-
-/// Puts in new lints, if there are some. It takes no memory.
-pub fn put_lints(lints: &mut Inheritable<LintGroups>, new: Option<LintGroups>)
-    ensures { inheritable_map (map_meaning (map_meaning lint_meaning)) lints.new
-        ≡ put_field (inheritable_map (map_meaning (map_meaning lint_meaning)) lints.old)
-        (option_map (map_meaning (map_meaning lint_meaning)) new) }
-{
-    if let Some(new) = new {
-        *lints = Inheritable::Set(new);
     }
 }

@@ -1,4 +1,4 @@
-//! Tables of dependencies, and those of some targets alone.
+//! Tables of dependencies, and those of some targets alone, and what is written of features.
 ghost use Rattle.std.specs.Prelude.{◌≡◌, Some, option_and_then};
 ghost use Rattle.toml.specs.Data.{as_table, no_members};
 ghost use Rattle.cargo_toml_package.specs.Details.{detail_of, plain_detail};

@@ -9,6 +9,7 @@ use Rattle.cargo_toml_parts.specs.declared.badge.MaintenanceStatus.TheVariants a
 use Rattle.cargo_toml_parts.specs.Reads.{◌>>=◌, required_at, text_at, given_of}
 use Rattle.cargo_toml_parts.specs.Settings.{named}
 
+-- the maintenance status that a text names
 abbrev pub status_of : Data → Option MaintenanceStatus
 status_of d = option_and_then (named (
     (codes "none", status.None)
@@ -19,9 +20,11 @@ status_of d = option_and_then (named (
     ∷ (codes "looking-for-maintainer", status.LookingForMaintainer)
     ∷ (codes "deprecated", status.Deprecated) ∷ [])) (as_str d)
 
+-- the maintenance status of a table: its key `status`, which must be there
 abbrev pub maintenance_of : Members → Option MaintenanceStatus
 maintenance_of ms = required_at "status" status_of ms
 
+-- the maintenance status of a tree
 abbrev pub maintenance_reads : Data → Option MaintenanceStatus
 maintenance_reads d = option_and_then maintenance_of (as_table d)
 
@@ -33,6 +36,7 @@ pub record BadgeMeaning : Type 0 where
   pub id : Option (List ℕ)
   pub project_name : Option (List ℕ)
 
+-- what a badge holds
 abbrev pub badge_meaning : Badge → BadgeMeaning
 badge_meaning b = record {
   repository = string_bytes b.repository;
@@ -42,9 +46,11 @@ badge_meaning b = record {
   project_name = option_map string_bytes b.project_name;
 }
 
+-- the branch; missing: `master`
 abbrev pub branch_of : Option Data → Option (List ℕ)
 branch_of o = given_of as_str (codes "master") o
 
+-- the badge of a table
 abbrev pub badge_of : Members → Option BadgeMeaning
 badge_of ms = do
   repository ← required_at "repository" as_str ms
@@ -60,6 +66,7 @@ badge_of ms = do
     project_name = project_name;
   })
 
+-- the badge of a tree
 abbrev pub badge_reads : Data → Option BadgeMeaning
 badge_reads d = option_and_then badge_of (as_table d)
 
@@ -75,6 +82,7 @@ pub record BadgesMeaning : Type 0 where
   pub is_it_maintained_open_issues : Option BadgeMeaning
   pub maintenance : MaintenanceStatus
 
+-- what all badges hold
 abbrev pub badges_meaning : Badges → BadgesMeaning
 badges_meaning b = record {
   appveyor = option_map badge_meaning b.appveyor;
@@ -92,13 +100,16 @@ badges_meaning b = record {
 abbrev pub badge_at : List ℕ → Members → Option BadgeMeaning
 badge_at key ms = option_and_then badge_reads (get_member key ms)
 
+-- the status, and `none` where there isn't one
 abbrev pub or_none : Option MaintenanceStatus → MaintenanceStatus
 or_none (Some s) = s
 or_none None = status.None
 
+-- the maintenance status at a key, and `none` where it is missing or doesn't read
 abbrev pub maintenance_at : List ℕ → Members → MaintenanceStatus
 maintenance_at key ms = or_none (option_and_then maintenance_reads (get_member key ms))
 
+-- the badges of a table: one that doesn't read is left out
 abbrev pub badges_of : Members → BadgesMeaning
 badges_of ms = record {
   appveyor = badge_at (codes "appveyor") ms;

@@ -16,5 +16,6 @@ inherited_at key missing reads ms = given_at key (Set missing) (inheritable_of r
 abbrev pub inherited_text_at : Words → Members → Option (Option (Inheritable (List ℕ)))
 inherited_text_at key ms = optional_at key (inheritable_of as_str) ms
 
+-- the list of texts at a key, which may be inherited; missing: empty
 abbrev pub inherited_list_at : Words → Members → Option (Inheritable (List (List ℕ)))
 inherited_list_at key ms = inherited_at key [] list_of ms

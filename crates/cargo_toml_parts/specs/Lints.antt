@@ -11,6 +11,7 @@ use Rattle.cargo_toml_parts.specs.Numbers.{i8_of}
 use Rattle.cargo_toml_parts.specs.Reads.{◌>>=◌, required_at, given_at, others_read, map_meaning}
 use Rattle.cargo_toml_parts.specs.Settings.{named}
 
+-- the level that a text names
 abbrev pub level_of : Data → Option LintLevel
 level_of d = option_and_then (named (
     (codes "allow", Allow)
@@ -25,16 +26,20 @@ pub record LintMeaning : Type 0 where
   pub priority : ℤ
   pub config : List (List ℕ × Data)
 
+-- what a lint holds
 abbrev pub lint_meaning : Lint → LintMeaning
 lint_meaning l =
     record { level = l.level; priority = l.priority; config = map_meaning view l.config }
 
+-- the lint of which a level alone is said: priority 0, and no configuration
 abbrev pub level_alone : LintLevel → LintMeaning
 level_alone level = record { level = level; priority = pos 0; config = [] }
 
+-- the keys of a lint that are no configuration
 abbrev pub lint_keys : List (List ℕ)
 lint_keys = codes "level" ∷ codes "priority" ∷ []
 
+-- the lint of a table
 abbrev pub table_lint : Members → Option LintMeaning
 table_lint ms = do
   level ← required_at "level" level_of ms

@@ -26,6 +26,7 @@ own_step (Error-F.WorkspaceIntegrity s) = string_bytes s
 own_step (Error-F.Other t) = t.now
 own_step Error-F.Memory = codes "out of memory"
 
+-- the words of an error that the crate writes itself
 abbrev pub own_words : Error → List ℕ
 own_words = fold-Error (List ℕ) own_step
 
@@ -33,9 +34,11 @@ own_words = fold-Error (List ℕ) own_step
 abbrev pub BeginsWith : List ℕ → List ℕ → Type 0
 BeginsWith words text = (rest : List ℕ) × (text ≡ words ++ rest)
 
+-- the text begins with the crate's words for a fault of a text
 abbrev pub HasOwnFaultWords : ParseFault → List ℕ → Type 0
 HasOwnFaultWords f = BeginsWith (own_fault_words f)
 
+-- the text begins with the crate's words for an error
 abbrev pub HasOwnWords : Error → List ℕ → Type 0
 HasOwnWords e = BeginsWith (own_words e)
 

@@ -1,11 +1,11 @@
 -- What a product holds, and which tables are products.
 use Rattle.std.specs.Prelude.{ℕ, List, [], map, Bool, true, false, codes, Option, Some}
-use Rattle.std.specs.Prelude.{None, option_map, option_and_then, string_bytes}
-use Rattle.toml.specs.Data.{Data, Members, as_bool, as_str, get_member}
+use Rattle.std.specs.Prelude.{None, option_map, string_bytes}
+use Rattle.toml.specs.Data.{Data, Members, as_bool, get_member}
 use Rattle.cargo_toml_parts.specs.declared.product.Product.{Product}
 use Rattle.cargo_toml_parts.specs.declared.settings.Edition.{Edition}
 use Rattle.cargo_toml_parts.specs.Reads.{◌>>=◌, optional_at, text_at, flag_at, list_at}
-use Rattle.cargo_toml_parts.specs.Settings.{edition_of}
+use Rattle.cargo_toml_parts.specs.Settings.{edition_reads}
 
 -- a library, binary, example, test or benchmark
 pub record ProductMeaning : Type 0 where
@@ -39,6 +39,7 @@ no_product = record {
   required_features = [];
 }
 
+-- what a product holds
 abbrev pub product_meaning : Product → ProductMeaning
 product_meaning p = record {
   path = option_map string_bytes p.path;
@@ -62,10 +63,12 @@ either_flag (Some d) None = as_bool d
 either_flag None (Some d) = as_bool d
 either_flag (Some d) (Some d2) = None
 
+-- whether it is a procedural macro, by either spelling of the key, but not both
 abbrev pub proc_macro_of : Members → Option Bool
 proc_macro_of ms =
     either_flag (get_member (codes "proc-macro") ms) (get_member (codes "proc_macro") ms)
 
+-- the product of a table
 abbrev pub product_of : Members → Option ProductMeaning
 product_of ms = do
   path ← text_at "path" ms
@@ -77,7 +80,7 @@ product_of ms = do
   harness ← flag_at "harness" true ms
   plugin ← flag_at "plugin" false ms
   proc_macro ← proc_macro_of ms
-  edition ← optional_at "edition" (λ d. option_and_then edition_of (as_str d)) ms
+  edition ← optional_at "edition" edition_reads ms
   crate_type ← list_at "crate-type" ms
   required_features ← list_at "required-features" ms
   Some (record {

@@ -34,6 +34,7 @@ pub record ProfileMeaning : Type 0 where
   pub build_override : Option Data
   pub inherits : Option (List ℕ)
 
+-- what a profile holds
 abbrev pub profile_meaning : Profile → ProfileMeaning
 profile_meaning p = record {
   opt_level = option_map view p.opt_level;
@@ -52,6 +53,7 @@ profile_meaning p = record {
   inherits = option_map string_bytes p.inherits;
 }
 
+-- the profile of a table
 abbrev pub profile_of : Members → Option ProfileMeaning
 profile_of ms = do
   opt_level ← optional_at "opt-level" (λ d. Some d) ms
@@ -103,9 +105,11 @@ ProfileFaults ms e =
     ⊎ FaultAt "package" (map_of (λ d. Some d)) (MapRefuses (Fails (λ d. Some d) NoFault)) ms e
     ⊎ FaultAt "build-override" (λ d. Some d) NoFault ms e
 
+-- the profile of a tree
 abbrev pub profile_reads : Data → Option ProfileMeaning
 profile_reads d = option_and_then profile_of (as_table d)
 
+-- what may be wrong with a tree that is to be a profile
 abbrev pub ProfileRefuses : Data → Error → Type 0
 ProfileRefuses d e = TableRefuses ProfileFaults (as_table d) e
 
@@ -118,6 +122,7 @@ pub record ProfilesMeaning : Type 0 where
   pub doc : Option ProfileMeaning
   pub custom : List (List ℕ × ProfileMeaning)
 
+-- what all profiles hold
 abbrev pub profiles_meaning : Profiles → ProfilesMeaning
 profiles_meaning p = record {
   release = option_map profile_meaning p.release;
@@ -128,9 +133,11 @@ profiles_meaning p = record {
   custom = map_meaning profile_meaning p.custom;
 }
 
+-- the names of the profiles that Cargo knows
 abbrev pub profile_keys : List (List ℕ)
 profile_keys = codes "release" ∷ codes "dev" ∷ codes "test" ∷ codes "bench" ∷ codes "doc" ∷ []
 
+-- the profiles of a table
 abbrev pub profiles_of : Members → Option ProfilesMeaning
 profiles_of ms = do
   release ← optional_at "release" profile_reads ms
@@ -148,6 +155,7 @@ profiles_of ms = do
     custom = custom;
   })
 
+-- what may be wrong with a table of profiles
 abbrev pub ProfilesFaults : Members → Error → Type 0
 ProfilesFaults ms e =
     FaultAt "release" profile_reads ProfileRefuses ms e

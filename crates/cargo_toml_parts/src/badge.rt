@@ -5,7 +5,7 @@ ghost use Rattle.toml.specs.View.{table_view};
 ghost use Rattle.cargo_toml_parts.specs.declared.error.Error.{Memory};
 ghost use Rattle.cargo_toml_parts.specs.Badges.{status_of, maintenance_of, maintenance_reads};
 ghost use Rattle.cargo_toml_parts.specs.Badges.{maintenance_at, BadgeMeaning, badge_meaning};
-ghost use Rattle.cargo_toml_parts.specs.Badges.{badge_of, badge_reads, badge_at};
+ghost use Rattle.cargo_toml_parts.specs.Badges.{badge_of, badge_reads};
 ghost use Rattle.cargo_toml_parts.specs.Badges.{BadgesMeaning, badges_meaning, badges_of};
 ghost use Rattle.cargo_toml_parts.specs.Faults.{IsShape, wrong_shape};
 ghost use Rattle.cargo_toml_parts.specs.Reads.{IsReading, LacksOnlyIf};
@@ -53,11 +53,12 @@ pub struct Badges {
     pub is_it_maintained_issue_resolution: Option<Badge>,
     /// The badge `is-it-maintained-open-issues`.
     pub is_it_maintained_open_issues: Option<Badge>,
-    /// How the package is cared for: the badge `maintenance`, of status none where it is missing or
+    /// How the package is maintained: the badge `maintenance`, of status none where it is missing or
     /// doesn't read.
     pub maintenance: Maintenance,
 }
 
+/// A clone of each field. Refused only for want of memory.
 impl Clone for Badges {
     ghost is_clone = { λ p copy.
         ⟦<Option<Badge> as Clone>⟧.is_clone p.appveyor copy.appveyor
@@ -103,14 +104,14 @@ impl Clone for Badges {
     }
 }
 
-/// How a package is cared for: the table `maintenance` of the badges.
+/// How a package is maintained: the table `maintenance` of the badges.
 #[derive(Clone, Copy, Debug, Default, PartialEq, Eq)]
 pub struct Maintenance {
     /// The key `status`, which has to be there.
     pub status: MaintenanceStatus,
 }
 
-/// How a package is cared for: a text.
+/// How a package is maintained: a text.
 #[derive(Clone, Copy, Debug, Default, PartialEq, Eq, Hash)]
 pub enum MaintenanceStatus {
     /// The text `none`: nothing is said.

@@ -4,7 +4,7 @@ use std::alloc::{AllocError, Global};
 // A block of more bytes is mapped by itself.
 const MAPPED: usize = 128 * 1024;
 
-// glibc takes no measure of a larger block.
+// glibc raises no threshold for a larger block.
 const LARGEST: usize = 32 * 1024 * 1024 - 8192;
 
 /// Has the C library keep so many bytes of its heap, for a call that takes as many.

@@ -1,7 +1,7 @@
 //! What a package builds: its library, binaries, examples, tests and benchmarks.
 ghost use Rattle.std.specs.Prelude.{◌≡◌, Some, option_and_then};
 ghost use Rattle.toml.specs.Data.{as_table, no_members};
-ghost use Rattle.toml.specs.View.{view, table_view};
+ghost use Rattle.toml.specs.View.{table_view};
 ghost use Rattle.cargo_toml_parts.specs.Faults.{IsShape, wrong_shape};
 ghost use Rattle.cargo_toml_parts.specs.Products.{ProductMeaning, product_meaning};
 ghost use Rattle.cargo_toml_parts.specs.Products.{product_of, proc_macro_of};
@@ -48,6 +48,7 @@ pub struct Product {
     pub required_features: Vec<String>,
 }
 
+/// A clone of each field. Refused only for want of memory.
 impl Clone for Product {
     ghost is_clone = { λ p copy.
         ⟦<Vec<String> as Clone>⟧.is_clone p.crate_type copy.crate_type

@@ -134,20 +134,19 @@ impl Dependency {
     pub fn package(&self) -> Option<&str>
         ensures { option_map (λ t. t.now) result ≡ package_of (dependency_meaning self.now) }
     {
-        match self {
-            Dependency::Detailed(detail) => detail.package.as_deref(),
-            _ => None,
-        }
+        self.detail()?.package.as_deref()
     }
 
-    /// The address of the repository that a detail names by the key `git`.
+    /// The address of the repository that a detail names by the key `git`; `None` without a detail,
+    /// or where it names none.
     pub fn git(&self) -> Option<&str>
         ensures { option_map (λ t. t.now) result ≡ git_of (dependency_meaning self.now) }
     {
         self.detail()?.git.as_deref()
     }
 
-    /// The revision that a detail names by the key `rev`.
+    /// The revision that a detail names by the key `rev`; `None` without a detail, or where it names
+    /// none.
     pub fn git_rev(&self) -> Option<&str>
         ensures { option_map (λ t. t.now) result ≡ rev_of (dependency_meaning self.now) }
     {

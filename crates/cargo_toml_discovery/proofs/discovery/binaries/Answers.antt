@@ -1,9 +1,21 @@
+use Rattle.std.proofs.Common.{◌≡◌, ◌∙◌, refl, ap, List, Bool, true, false, codes, rules}
+use Rattle.cargo_toml_parts.specs.declared.settings.Edition.{Edition}
+use Rattle.cargo_toml_parts.specs.Products.{ProductMeaning}
 use Rattle.cargo_toml_discovery.specs.Answers.{answers_of, around_in}
-use Rattle.cargo_toml_discovery.specs.Discovering.{main_around, stated_meaning}
+use Rattle.cargo_toml_discovery.specs.Discovering.{listed_products, main_offer}
+use Rattle.cargo_toml_discovery.specs.Found.{Named}
+use Rattle.cargo_toml_discovery.specs.Names.{Name, has_text}
 use Rattle.cargo_toml_discovery.proofs.discovery.binaries.Goals as goal
+
+-- whether `src/main.rs` is there counts only where binaries are wanted
+same : (is_wanted asked is_there : Bool) (edition : Edition) (folder name : Name) (ps : List ProductMeaning) (es : List Named) →
+    (is_wanted ≡ true → asked ≡ is_there) →
+    listed_products edition is_wanted folder ps es (main_offer name asked ps) ≡ listed_products edition is_wanted folder ps es (main_offer name is_there ps)
+same false asked is_there edition folder name ps es h = refl
+same true asked is_there edition folder name ps es h = ap (λ b. listed_products edition true folder ps es (main_offer name b ps)) (h refl)
 
 pub returns : goal.returns
 returns c =
     let seen = around_in (answers_of c.args.listings.now) c.args.stated.now.wanted in
-    c.in_ok-list_of.ensures (main_around (stated_meaning c.args.stated.now) seen)
-    (rw c.has-has_main.ensures at c.in_ok-main.ensures)
+    c.in_ok-list_of.ensures _ c.in_ok-main.ensures
+    ∙ same c.args.stated.now.wanted.bins c.if-stated.has_main (has_text seen.src (codes "main.rs")) _ _ _ _ _ (λ e. search rules)

@@ -63,7 +63,6 @@ pub use Rattle.cargo_toml_discovery.specs.Told as ToldFolders
 pub use Rattle.cargo_toml_package.specs.Sharing
 pub use Rattle.cargo_toml_package.specs.Workspaces
 pub use Rattle.cargo_toml_write.specs.Asked
-pub use Rattle.cargo_toml_write.specs.Lawful
 pub use Rattle.cargo_toml_write.specs.Requirements
 pub use Rattle.cargo_toml_write.specs.Reread
 pub use Rattle.cargo_toml_write.specs.Ways
@@ -98,6 +97,7 @@ pub use Rattle.cargo_toml_features.specs.Reached
 pub use Rattle.cargo_toml_features.specs.NonDefault
 -- what proofs alone use: nothing here has to be believed
 pub use Rattle.cargo_toml_parts.specs.Copies
+pub use Rattle.cargo_toml_write.specs.Lawful
 -- the same of the types that a caller's own definitions name, with their variants
 pub use Rattle.cargo_toml_parts.specs.declared.error.Error
 pub use Rattle.cargo_toml_parts.specs.declared.error.ParseFault

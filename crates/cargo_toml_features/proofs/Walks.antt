@@ -1,5 +1,5 @@
 -- The work that is left to a walk that marks a feature when it is taken from the stack: a measure for the depth-first order.
-use Rattle.std.proofs.Common.{◌≡◌, ◌+◌, ◌≤◌, ℕ, suc, Bool, true, false, cond, List, [], ◌∷◌, length, Some, Bor, bytes_eq, arith, ◌≢◌, ◌<◌, ◌⊎◌, ◌&&◌, ◌++◌, map, Option, None, is_some, IsTrue, IsFalse, refl, sym, ap, subst, inl, inr, ◌∙◌}
+use Rattle.std.proofs.Common.{◌≡◌, ◌+◌, ◌≤◌, ℕ, suc, Bool, true, false, cond, List, [], ◌∷◌, length, Some, Bor, bytes_eq, arith, ◌<◌, ◌⊎◌, ◌&&◌, ◌++◌, map, Option, None, is_some, IsTrue, IsFalse, refl, sym, ap, subst, inl, inr, ◌∙◌}
 use Rattle.std.proofs.Common.{length-append, rules}
 use Rattle.std.proofs.lemmas.{Bool.false≢true, Bool.cases_Bool, Bool.or_cases, Bool.or_left, Bool.or_right, Slice.Eq.bytes_eq-Decides, Grind.common_steps, List.map-append, List.append-nil}
 use Rattle.std.specs.{Map.lookup, Option.option_map_or, HashMap.HashMap}

@@ -20,6 +20,7 @@ module _ (limit : ℕ) where
   built_entries target t =
       first_entries Normal target t.dependencies ++ first_entries Build target t.build_dependencies
 
+  -- the development dependencies of a target, or of no target in particular
   abbrev pub dev_entries : Option Text → TargetMeaning → List Entry
   dev_entries target t = first_entries Dev target t.dev_dependencies
 

@@ -7,7 +7,6 @@ use Rattle.cargo_toml_features.specs.{Marks.marks_in, Marks.marks_of, Recorded.E
 use Rattle.cargo_toml_features.specs.Resolved.{table_of}
 use Rattle.cargo_toml_graph.specs.{Ascending.Ascend, Action.Text, Graph.Table, Graph.Resolution}
 use Rattle.cargo_toml_graph.specs.Admitted.{is_below, Listed}
-use Rattle.std.specs.BTreeMap as tree
 
 abbrev pub names_of : List Feature → List Text
 names_of vs = map (λ v. v.key.now) vs

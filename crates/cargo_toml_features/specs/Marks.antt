@@ -8,11 +8,13 @@ use Rattle.cargo_toml_features.specs.declared.admit.Listing.{Listing}
 use Rattle.cargo_toml_features.specs.declared.features.Feature.{Feature}
 use Rattle.cargo_toml_graph.specs.{Action.Text, Admitted.Listed, Admitted.is_explicit}
 
+-- whether it is listed, whether it is public, and its text
 pub record FeatureMarks : Type 0 where
   pub explicit : Bool
   pub public : Bool
   pub doc : Option Text
 
+-- the marks of a feature of an answer
 abbrev pub marks_of : Feature → FeatureMarks
 marks_of v = record { explicit = v.explicit; public = v.public; doc = option_copied v.doc }
 

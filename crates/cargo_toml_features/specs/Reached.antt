@@ -36,5 +36,6 @@ abbrev pub pairs_at : {S : Type 0} → Lists S → Text → List (Text × Action
 pairs_at m k =
     map (λ p. (p.0.now, action_of p.1.now)) (option_map_or (λ v. v.items) (value_at m k) [])
 
+-- no list is empty
 abbrev pub HaveNoEmpty : {S : Type 0} → Lists S → Type 0
 HaveNoEmpty m = (k : Text) → IfSome (value_at m k) (λ v. v.items ≢ [])

@@ -16,6 +16,7 @@ use Rattle.cargo_toml_graph.specs.Admitted.{Listed, is_explicit, joined_action}
 abbrev pub Target : Type 0
 Target = Kind × Option Text
 
+-- the place of a kind in their order
 abbrev pub rank : Kind → ℕ
 rank Normal = 0
 rank Build = 1

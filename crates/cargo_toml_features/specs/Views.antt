@@ -28,6 +28,7 @@ set_has s x = sorted.contains_by (λ k. slice_cmp nat_cmp x k.now) s
 abbrev pub value_at : {X S : Type 0} → HashMap (Bor Text) X S → Text → Option X
 value_at m f = hash.get_by (λ k. bytes_eq f k.now) m
 
+-- what an action says
 abbrev pub action_of : DepAction → Action
 action_of a = record {
   is_conditional = a.is_conditional;
@@ -35,6 +36,7 @@ action_of a = record {
   features = set_has a.dep_features;
 }
 
+-- the action on the dependency of key k, if there is one
 abbrev pub action_at : BTreeMap (Bor Text) DepAction → Text → Option Action
 action_at m k = option_map action_of (tree.get_by (λ q. slice_cmp nat_cmp k q.now) m)
 
@@ -57,12 +59,15 @@ resolution_by found = record {
 abbrev pub table_in : {S : Type 0} → HashMap (Bor Text) Feature S → Table
 table_in m = table_by (value_at m)
 
+-- the same with their enablers
 abbrev pub resolution_of : {S : Type 0} → HashMap (Bor Text) Feature S → Resolution
 resolution_of m = resolution_by (value_at m)
 
+-- where the dependency of a key stands
 abbrev pub target_in : TargetKey → Target
 target_in k = (k.kind, option_copied k.target)
 
+-- what an answer records of a dependency
 abbrev pub recorded_in : FeatureDependency → RecordedKey
 recorded_in d = record {
   crate_name = d.crate_name.now;

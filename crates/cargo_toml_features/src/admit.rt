@@ -30,6 +30,7 @@ pub struct Listing<'m> {
     pub detail: Option<&'m FeatureDetail>,
 }
 
+// The first `limit` actions, or all where there are fewer.
 fn first_actions(actions: &[String], limit: usize) -> &[String]
     ensures { result.now ≡ take limit actions.now }
 {

@@ -66,8 +66,7 @@ fn imply_key<'m>(
         (ImpliesAll (λ q. bytes_eq q key.now) features.old.items features.new.items) }
 {
     let actions = own_action(alloc, key)?;
-    put_feature(features, implied_feature(alloc, key, actions))?;
-    Ok(())
+    put_feature(features, implied_feature(alloc, key, actions))
 }
 
 // Whether the entry is optional, and no action on its key is dep-only.
@@ -93,8 +92,7 @@ fn imply<'m>(
     if !offers(acted, entry) {
         return Ok(());
     }
-    imply_key(alloc, features, entry.key)?;
-    Ok(())
+    imply_key(alloc, features, entry.key)
 }
 
 // Adds the features that entries imply, each by itself.
@@ -219,7 +217,8 @@ fn implies_many(entries: &[ParseDependency<'_, '_>]) -> bool {
     entries.iter().filter(|entry| entry.dep.optional()).count() > FEW
 }
 
-/// The features with those that optional dependencies imply. It fails only where memory runs out.
+/// The features, which stand in byte order, with those that optional dependencies imply. It fails
+/// only where memory runs out.
 pub fn with_implied<'m>(
     alloc: Global,
     mut features: Vec<Feature<'m>>,

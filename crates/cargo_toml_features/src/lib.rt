@@ -18,7 +18,7 @@ mod ordered;
 pub mod places;
 pub mod questions;
 mod read;
-pub mod record;
+mod record;
 pub mod recursive;
 mod redundant;
 pub mod required;

@@ -5,9 +5,8 @@ use std::marker::Model;
 
 /// A vertex of a graph, or a label of one, by its place in the list of their texts.
 ///
-/// It stands for no count, length or stamp, and none of these stands for it. A clause sees the
-/// place, also in lists. That the place is below the end of the list stands in the type that holds
-/// both.
+/// A type of its own, so that it can't be mixed up with a count. A clause sees the place, also in
+/// lists. That the place is below the end of the list stands in the type that holds both.
 #[derive(Clone, Copy, Debug, PartialEq, Eq, PartialOrd, Ord)]
 pub struct Node {
     place: usize,

@@ -42,7 +42,7 @@ impl<'f, 'a> Iterator for NonDefaultEnabledBy<'f, 'a> {
 }
 
 impl<'a> Feature<'a> {
-    /// Whether some feature enables this one directly.
+    /// Whether some feature enables this one, directly or through removed ones alone.
     pub fn is_referenced(&self) -> bool
         ensures { IsTrue result ↔ (0 < btree_set_len self.now.enabled_by) }
     {
@@ -59,7 +59,8 @@ impl<'a> Feature<'a> {
         (self.explicit || !self.is_referenced()) && !self.key.starts_with('_') && self.public
     }
 
-    /// The names of the features that enable this one directly, in byte order, except `default`.
+    /// The names of the features that enable this one, directly or through removed ones alone, in
+    /// byte order and except `default`.
     pub fn non_default_enabled_by(&self) -> NonDefaultEnabledBy<'_, 'a>
         ensures names { result ≡ without_default self.now.enabled_by.keys }
         ensures in_order { IsStrictlySortedBy (λ x y. slice_cmp nat_cmp x.now y.now) result }

@@ -123,8 +123,7 @@ fn read_listing<'m>(
     // Listings come in the order of their names, so each feature goes to the end. It is a wide
     // value, which is made there before its list is read.
     features.push(empty_feature(alloc, listing.name, listing.detail))?;
-    read_list(alloc, &mut features[place], acting, listing)?;
-    Ok(())
+    read_list(alloc, &mut features[place], acting, listing)
 }
 
 // Adds the feature `default` where it isn't listed; nothing is said of it then.
@@ -139,8 +138,7 @@ fn add_default<'m>(alloc: Global, features: &mut Vec<Feature<'m>>) -> Result<(),
         (λ v. feature_at features.new.items (codes "default") ≡ Some v)) }
 {
     let feature = empty_feature(alloc, "default", None);
-    put_feature(features, feature)?;
-    Ok(())
+    put_feature(features, feature)
 }
 
 /// Reads the lists of all features, of which each name is listed once, and adds `default` where it

@@ -20,6 +20,7 @@ use crate::texts::ascending;
 use std::alloc::{AllocError, Global};
 use std::collections::BTreeMap;
 
+// Where the entry stands.
 fn target_key<'m>(entry: &ParseDependency<'m, '_>) -> TargetKey<'m>
     ensures { target_in result ≡ (entry_of entry.now).target }
 {
@@ -74,6 +75,7 @@ struct Counting<'d> {
     keys: Vec<&'d str>,
 }
 
+// Tells of each entry whether it counts by itself.
 fn counting_entries<'m: 'd, 'd>(
     alloc: Global,
     mentions: &Mentions<'m>,
@@ -147,7 +149,8 @@ fn record_entry<'m: 'd, 'd>(
     Ok(next)
 }
 
-/// The dependencies of the entries that count. It fails only where memory runs out.
+/// The dependencies of the entries that count, where the features of `mentions` stand in byte
+/// order. It fails only where memory runs out.
 pub fn record_dependencies<'m: 'd, 'd>(
     alloc: Global,
     mentions: &Mentions<'m>,

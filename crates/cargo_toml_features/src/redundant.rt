@@ -18,6 +18,7 @@ use cargo_toml_package::Dependency;
 use std::alloc::{AllocError, Global};
 
 impl RedundantFeatures<'_> {
+    // Whether the detail lists the feature.
     fn lists(&self, feature: &str) -> bool
         ensures { result ≡ has_key self.now.listed feature.now }
     {
@@ -84,8 +85,7 @@ fn redundant_at<'d>(
     let Some(first) = first_dependency(dependency) else {
         return Ok(None);
     };
-    let redundant = redundant_of(alloc, first)?;
-    Ok(redundant)
+    redundant_of(alloc, first)
 }
 
 // Of each key what its dependency has anyway.
@@ -145,6 +145,7 @@ fn dependency_of<'d>(
     first_dependency(dependency)
 }
 
+// Whether the feature is one of these.
 fn lists(features: &[String], feature: &str) -> bool
     ensures { result ≡ list_any (bytes_eq feature.now) (map string_bytes features.now) }
 {
@@ -264,9 +265,9 @@ fn drop_redundant(
     }
 }
 
-/// The features, without the dependency features that are on anyway in their actions. A feature
-/// `default` is where the dependency's first target has its default features, and any other where
-/// that target lists it. It fails only where memory runs out.
+/// The features, which stand in byte order, without the dependency features that are on anyway in
+/// their actions. A feature `default` is where the dependency's first target has its default
+/// features, and any other where that target lists it. It fails only where memory runs out.
 pub fn without_redundant<'m, 'd>(
     alloc: Global,
     mut features: Vec<Feature<'m>>,

@@ -44,8 +44,7 @@ fn require<'m>(
     let Some(at) = node_among(features, requirement.feature) else {
         return Ok(());
     };
-    require_at(features, at, requirement.bin)?;
-    Ok(())
+    require_at(features, at, requirement.bin)
 }
 
 // Adds each binary to the features that it requires.
@@ -64,8 +63,8 @@ fn require_all<'m>(
     Ok(())
 }
 
-/// The features, each with the binaries that require it, once for each mention. A feature that
-/// isn't there is passed over. It fails only where memory runs out.
+/// The features, which stand in byte order, each with the binaries that require it, once for each
+/// mention. A feature that isn't there is passed over. It fails only where memory runs out.
 pub fn with_bins<'m>(
     mut features: Vec<Feature<'m>>,
     requirements: &[Requirement<'m>],

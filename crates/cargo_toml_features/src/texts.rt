@@ -8,7 +8,8 @@ use std::alloc::{AllocError, Global};
 use std::collections::{BTreeSet, HashMap};
 use std::hash::BuildHasher;
 
-/// So many texts are gone through sooner than halved: most differ from another by their length.
+/// Among so many texts a linear search is faster than a binary one: most differ from another by
+/// their length.
 pub const FEW: usize = 24;
 
 /// The texts in byte order, each once.
@@ -42,7 +43,7 @@ pub fn ascending<'m>(texts: Vec<&'m str>) -> Vec<&'m str>
     }
 }
 
-/// The keys of a hashed map, in byte order.
+/// The keys of a hashed map, in byte order. It fails only where memory runs out.
 pub fn keys_in_order<'m, X, S: BuildHasher>(
     alloc: Global,
     found: &HashMap<&'m str, X, S>,
@@ -69,12 +70,7 @@ fn first_of(texts: &[&str], text: &str) -> Option<usize>
         (i < length texts.now) × (nth_text (map (λ t. t.now) texts.now) i ≡ text.now)) }
     ensures missing { result ≡ None → ¬ Among (map (λ t. t.now) texts.now) text.now }
 {
-    for (i, other) in texts.iter().enumerate() {
-        if is_same(*other, text) {
-            return Some(i);
-        }
-    }
-    None
+    texts.iter().position(|other| is_same(*other, text))
 }
 
 // The same, where the texts stand in byte order.

@@ -32,8 +32,8 @@ pub struct Unremoved<'m, 'd> {
 /// Resolves the full graph: features as they are listed, with entries of whatever dependency tables
 /// and what binaries require. None of them is removed.
 ///
-/// Each name is listed once. No feature has its enablers: where features are removed, these are
-/// found anew. It fails only where memory runs out.
+/// Each name is listed once. No feature has its enablers yet: `cargo_toml_resolve` sets them. It
+/// fails only where memory runs out.
 pub fn resolve_all<'m: 'd, 'd>(
     alloc: Global,
     listings: &[Listing<'m>],

@@ -29,6 +29,7 @@ pub record Resolution : Type 0 where
 
 -- Removed is the set of removed features, as a fact of a vertex
 module _ (t : Table) (Removed : Text → Type 0) where
+  -- f is a vertex, and isn't removed
   abbrev pub IsKept : Text → Type 0
   IsKept f = IsTrue (t.has f) × ¬ Removed f
 
@@ -40,6 +41,7 @@ module _ (t : Table) (Removed : Text → Type 0) where
   abbrev pub KeepsName : Text → Text → Type 0
   KeepsName f x = GathersLabel (Edge t) Removed (λ b y. IsTrue (t.names b y)) f x × ¬ Removed x
 
+  -- e is kept, and a path through removed features leads from it to f
   abbrev pub IsEnabledBy : Text → Text → Type 0
   IsEnabledBy f e = IsKept e × ReachesThrough e f
 

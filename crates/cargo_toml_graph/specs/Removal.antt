@@ -10,9 +10,11 @@ use Rattle.cargo_toml_graph.specs.Graph.{Table, Resolution}
 abbrev pub is_removed : Table → (Text → Bool) → Text → Bool
 is_removed t keep f = t.has f && starts_with nat_eq f (codes "_") && not (keep f)
 
+-- whether an action is plain, as a test
 abbrev pub acts_plainly : Option Action → Bool
 acts_plainly o = option_map_or (λ a. not a.is_conditional && not a.is_dep_only) o false
 
+-- whether an edge leads from f to g, as a test
 abbrev pub is_edge : Table → Text → Text → Bool
 is_edge t f g =
     t.has f && t.has g && not (bytes_eq f g) && (t.names f g || acts_plainly (t.action f g))
@@ -40,10 +42,12 @@ without_one r m = record {
       else m.enabled_by f e;
 }
 
+-- these are taken out, one after another
 abbrev pub without_all : List Text → Resolution → Resolution
 without_all [] m = m
 without_all (r ∷ rs) m = without_all rs (without_one r m)
 
+-- whether x is one of xs
 abbrev pub lists_text : List Text → Text → Bool
 lists_text xs x = list_any (bytes_eq x) xs
 
@@ -56,6 +60,7 @@ put_each xs (y ∷ ys) = put_each (if lists_text xs y then xs else (xs ++ y ∷ 
 abbrev pub pass_bins : Resolution → Text → (Text → List Text) → Text → List Text
 pass_bins m r bins f = if m.table.names r f then put_each (bins f) (take 10 (bins r)) else bins f
 
+-- these pass their binaries on, each at its turn and then taken out
 abbrev pub pass_all : List Text → Resolution → (Text → List Text) → Text → List Text
 pass_all [] m bins = bins
 pass_all (r ∷ rs) m bins = pass_all rs (without_one r m) (pass_bins m r bins)

@@ -1,4 +1,4 @@
--- Bits of words, and tables of bits, row after row.
+-- Bits of words, and bit matrices, row after row.
 use Rattle.std.proofs.Common.{◌≡◌, ◌≢◌, ◌↔◌, ◌⊎◌, ◌<◌, ◌≤◌, ◌+◌, ◌*◌, ℕ, Bool, List, [], ◌∷◌, ◌++◌, take, length, get_or, set, Vec, sym, ap, subst, inl, inr, ◌∙◌, arith, length-append, length-set, ◌/◌, ◌%◌, ◌^◌, max, w64}
 use Rattle.std.proofs.lemmas.{Bool.cases_eq, Bool.cases_lt, List.get_or_past, List.get_or-set_same, List.get_or-set_other, List.get_or_append_left, Nat.Bits.bit_at_or, Nat.Bits.bit_at-zero, Nat.Bits.bit_at-lt, Nat.Bits.bit_at_set_same}
 use Rattle.std.{proofs.lemmas.Nat.Bits.bit_at_set_other, proofs.lemmas.Option.slice_get-get_or, proofs.lemmas.Option.slice_get_past, proofs.Math.Seq.get_or-append_seam, specs.Option.option_map_or, specs.Int.bit_at, specs.Prelude.bit_or}

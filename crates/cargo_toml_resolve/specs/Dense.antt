@@ -1,4 +1,4 @@
--- What leads where in a dense graph, as tables of bits.
+-- What leads where in a dense graph, as bit matrices.
 use Rattle.std.specs.Prelude.{◌≡◌, ◌↔◌, ◌≤◌, ◌*◌, ℕ, Bool, true, List, length, Vec, ◌<◌}
 use Rattle.std.specs.Option.{ForSome}
 use Rattle.cargo_toml_graph.specs.Reach.{GathersLabel, Reaches}

@@ -22,6 +22,7 @@ abbrev pub Answers : {F : Type 0} → Asked F → Option (Bor F) → Text → Bo
 Answers g None n b = b ≡ false
 Answers g (Some f) n b = FnReturnsAt g f.now n b
 
+-- the name begins with `_`
 abbrev pub IsHiddenName : Text → Type 0
 IsHiddenName n = IsTrue (starts_with nat_eq n (codes "_"))
 

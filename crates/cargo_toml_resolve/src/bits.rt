@@ -14,7 +14,7 @@ pub fn words_for(count: usize) -> usize
     count / 64 + 1
 }
 
-// Whether the bit of a node stands.
+/// Whether the bit of a node stands.
 pub(crate) fn has_bit(bits: &[u64], x: Node) -> bool
     requires { x < 64 * length bits.now }
     ensures { IsTrue result ↔ HasBit bits.now x }
@@ -23,7 +23,7 @@ pub(crate) fn has_bit(bits: &[u64], x: Node) -> bool
     (bits[place / 64] >> (place % 64)) & 1 == 1
 }
 
-// The bit of a node is set.
+/// The bit of a node is set.
 pub(crate) fn set_bit(bits: &mut Vec<u64>, x: Node)
     requires { x < 64 * length bits.old.items }
     ensures len { length bits.new.items ≡ length bits.old.items }
@@ -33,7 +33,7 @@ pub(crate) fn set_bit(bits: &mut Vec<u64>, x: Node)
     bits[place / 64] |= 1 << (place % 64);
 }
 
-// The bits of the other set are set too.
+/// The bits of the other set are set too. Both have as many words.
 pub(crate) fn join(bits: &mut [u64], other: &[u64])
     requires { length bits.old ≡ length other.now }
     ensures { (x : ℕ) → HasBit bits.new x ↔ (HasBit bits.old x ⊎ HasBit other.now x) }
@@ -43,7 +43,7 @@ pub(crate) fn join(bits: &mut [u64], other: &[u64])
     }
 }
 
-// A row of nodes as bits in `width` words.
+/// A row of nodes as bits in `width` words. It fails only where memory runs out.
 pub(crate) fn bits_of(alloc: Global, row: &[Node], width: usize) -> Result<Vec<u64>, AllocError>
     requires { (x : ℕ) → Among row.now x → x < 64 * width }
     ensures len { IfOk result (λ bits. length bits.items ≡ width) }
@@ -56,7 +56,7 @@ pub(crate) fn bits_of(alloc: Global, row: &[Node], width: usize) -> Result<Vec<u
     Ok(bits)
 }
 
-/// The nodes whose bit stands and whose flag is `wanted`.
+/// The nodes whose bit stands and whose flag is `wanted`. It fails only where memory runs out.
 pub fn nodes_of(
     alloc: Global,
     bits: &[u64],

@@ -1,7 +1,7 @@
-//! What leads where in a dense graph, by tables of bits.
+//! What leads where in a dense graph, by bit matrices.
 //!
 //! A walk looks at each row of what it meets, which is cubic where each vertex leads to each. The
-//! tables take as many steps, but sixty-four nodes in one.
+//! matrices take as many steps, but sixty-four nodes in one.
 ghost use Rattle.std.specs.Prelude.{IfOk};
 ghost use Rattle.cargo_toml_resolve.specs.{Dense.AreTables, Numbers.AreWithin};
 
@@ -12,7 +12,7 @@ use crate::tables::{flagged, parents_of, pass_on, table_of};
 use cargo_toml_features::node::Node;
 use std::alloc::{AllocError, Global};
 
-/// Whether the rows have many nodes: whether a table of bits over `count` nodes takes no more
+/// Whether the rows have many nodes: whether a bit matrix over `count` nodes takes no more
 /// memory than they do, so that it is worth its cost. Rows of a few nodes are walked faster. It
 /// decides speed and memory alone, so no clause says when it is true.
 pub fn is_dense(rows: &Rows, count: usize) -> bool {
@@ -20,7 +20,7 @@ pub fn is_dense(rows: &Rows, count: usize) -> bool {
     rows.total() >= rows.len().saturating_mul(least)
 }
 
-/// What leads where once the removed vertices are taken out, as tables of bits, and what stands for
+/// What leads where once the removed vertices are taken out, as bit matrices, and what stands for
 /// these.
 #[derive(Drop)]
 pub struct Tables {
@@ -33,7 +33,9 @@ pub struct Tables {
 }
 
 /// Takes the removed vertices out of a graph, one after another: what leads to one then leads where
-/// it led, and has its labels.
+/// it led, and has its labels. That is Warshall's algorithm over the removed vertices.
+///
+/// It fails only where memory runs out.
 pub fn take_out(
     alloc: Global,
     edges: &Rows,
@@ -59,7 +61,7 @@ pub fn take_out(
             pass_on(alloc, &mut paths, own, parents.as_slice())?;
             finished[r] = true;
         } else {
-            rows.push(&[])?;
+            rows.push_none()?;
         }
     }
     let moved = Vec::from_elem(alloc, true, total)?;

@@ -57,8 +57,7 @@ fn push_targets(
         return Ok(());
     }
     push_names(row, &feature.enables_features, keys, own, cursor)?;
-    push_actions(row, &feature.enables_deps, keys, own)?;
-    Ok(())
+    push_actions(row, &feature.enables_deps, keys, own)
 }
 
 // The source is put among what enables the feature in this place.
@@ -72,11 +71,11 @@ fn enable_at<'m>(
         (GainEnabler (λ y. y ≡ at) source.now features.old.items features.new.items) }
 {
     let feature = &mut features[at.place()];
-    add_text(&mut feature.enabled_by, source)?;
-    Ok(())
+    add_text(&mut feature.enabled_by, source)
 }
 
-// The source is put among what enables each feature in the places of the row.
+/// The source is put among what enables each feature in the places of the row. It fails only where
+/// memory runs out.
 pub(crate) fn enable_along<'m>(
     features: &mut Vec<Feature<'m>>,
     row: &[Node],
@@ -126,6 +125,5 @@ pub fn set_enablers<'m>(alloc: Global, features: &mut Vec<Feature<'m>>) -> Resul
         IsUnremoved t (resolution_among features.new.items)) }
 {
     let keys = keys_of(alloc, features.as_slice())?;
-    learn_leaders(alloc, features, keys.as_slice())?;
-    Ok(())
+    learn_leaders(alloc, features, keys.as_slice())
 }

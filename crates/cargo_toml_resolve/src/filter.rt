@@ -5,6 +5,7 @@ ghost use Rattle.cargo_toml_graph.specs.Action.{Text};
 ghost use Rattle.cargo_toml_resolve.specs.Filter.{Answers, HasNameFilter, IsFlagOf, IsNameFilter};
 ghost use Rattle.cargo_toml_resolve.specs.Filter.{FilterTells};
 
+// What the filter answers of a name.
 fn answer<F: Fn(&str) -> bool>(filter: &F, name: &str) -> bool
     requires { IsNameFilter F.Fn filter.now }
     ensures { FnReturnsAt F.Fn filter.now name.now result }

@@ -40,10 +40,7 @@ impl Finder {
                 self.walk.passed = flagged(alloc, paths, own, flags, true)?;
                 Ok(())
             }
-            None => {
-                self.walk.pass(own, &graph.edges, flags)?;
-                Ok(())
-            }
+            None => self.walk.pass(own, &graph.edges, flags),
         }
     }
 
@@ -71,10 +68,7 @@ impl Finder {
                 self.walk.labels = flagged(alloc, paths, own, flags, false)?;
                 Ok(())
             }
-            None => {
-                self.walk.label(own, &graph.edges, flags)?;
-                Ok(())
-            }
+            None => self.walk.label(own, &graph.edges, flags),
         }
     }
 
@@ -101,10 +95,7 @@ impl Finder {
                 self.walk.labels = flagged(alloc, labels, own, flags, false)?;
                 Ok(())
             }
-            None => {
-                self.walk.label(own, &graph.names, flags)?;
-                Ok(())
-            }
+            None => self.walk.label(own, &graph.names, flags),
         }
     }
 }

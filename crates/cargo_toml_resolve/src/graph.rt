@@ -41,7 +41,7 @@ pub struct Walked<'m> {
     pub flags: Vec<bool>,
     /// What stands for each removed feature.
     pub redirects: Rows,
-    /// For each node whether that isn't what it names itself.
+    /// For each node whether that may differ from what it names itself.
     pub moved: Vec<bool>,
     ghost features_count: { length redirects ≤ length texts.items },
     ghost flags_count: { length flags.items ≡ length texts.items },

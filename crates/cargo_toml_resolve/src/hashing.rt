@@ -25,7 +25,8 @@ pub(crate) fn put<'a, V: Drop, S: BuildHasher>(
     Ok(())
 }
 
-/// Features by their names, in a hashed map. It fails only where memory runs out.
+/// Features in the byte order of their names, in a hashed map by these. It fails only where memory
+/// runs out.
 pub fn hashed_features<'m, S: BuildHasher + Drop>(
     state: S,
     alloc: Global,
@@ -56,8 +57,8 @@ fn put_value<'n, V: Drop, S: BuildHasher>(
     }
 }
 
-/// Values under names that ascend, of which some are without one, in a hashed map. It fails only
-/// where memory runs out.
+/// Values under names that ascend, of which some are without one, in a hashed map. Each name has
+/// its place among the values. It fails only where memory runs out.
 pub fn hashed<'n, V: Drop, S: BuildHasher + Drop>(
     state: S,
     alloc: Global,
@@ -78,7 +79,8 @@ pub fn hashed<'n, V: Drop, S: BuildHasher + Drop>(
     Ok(by_name)
 }
 
-/// Dependencies by their keys, in a hashed map. It fails only where memory runs out.
+/// Dependencies, each of which has a target, by their keys, in a hashed map. It fails only where
+/// memory runs out.
 pub fn hashed_dependencies<'d, S: BuildHasher + Drop>(
     state: S,
     alloc: Global,

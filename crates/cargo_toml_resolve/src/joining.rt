@@ -26,8 +26,8 @@ pub fn add_all<'a>(
 fn merge<'a>(own: &mut DepAction<'a>, other: &DepAction<'a>) -> Result<(), AllocError>
     ensures { OnOk result (action_of own.new ≡ join (action_of own.old) (action_of other.now)) }
 {
-    own.is_conditional = own.is_conditional && other.is_conditional;
-    own.is_dep_only = own.is_dep_only || other.is_dep_only;
+    own.is_conditional &= other.is_conditional;
+    own.is_dep_only |= other.is_dep_only;
     add_all(&mut own.dep_features, &other.dep_features)
 }
 
@@ -42,8 +42,7 @@ fn add_action<'a>(
         (if bytes_eq k key.now then Some (action_of action.now) else None)) }
 {
     let first = neutral_action(alloc);
-    merge(own.entry(key)?.or_insert(first), action)?;
-    Ok(())
+    merge(own.entry(key)?.or_insert(first), action)
 }
 
 /// The actions of the other map are joined to those of `own`, dependency by dependency. It fails

@@ -34,16 +34,14 @@ fn keep<'m>(
     let row = graph.edges.row(own);
     // Most features pass none: then all to which it has an edge are kept.
     if !has_flagged(row, graph.flags.as_slice()) {
-        enable_along(features, row, source)?;
-        return Ok(());
+        return enable_along(features, row, source);
     }
     finder.pass(alloc, graph, own)?;
     finder.target(alloc, graph, own)?;
     enable_along(features, finder.walk.labels.as_slice(), source)?;
     finder.name(alloc, graph, own)?;
     let names = set_of_nodes(alloc, finder.walk.labels.as_slice(), graph.texts.as_slice())?;
-    hold(alloc, features, own, finder.walk.passed.as_slice(), names)?;
-    Ok(())
+    hold(alloc, features, own, finder.walk.passed.as_slice(), names)
 }
 
 /// Each kept feature takes over from the removed ones that it passes, and learns which kept ones

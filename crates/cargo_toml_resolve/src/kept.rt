@@ -13,7 +13,7 @@ use crate::graph::Walked;
 use crate::hashing::{hashed_features, put};
 use crate::node_sets::set_of_nodes;
 use crate::numbering::number;
-use crate::removal::place;
+use crate::removal::remove;
 use cargo_toml_features::features::Feature;
 use cargo_toml_features::node::Node;
 use std::alloc::{AllocError, Global};
@@ -29,9 +29,9 @@ pub struct Kept<'m, S: BuildHasher> {
     pub hidden: HashMap<&'m str, BTreeSet<&'m str>, S>,
 }
 
-/// All features by their names, and nothing that stands for a removed one. It fails only where
-/// memory runs out, or the clone of `state` does.
-pub fn keep_all<'m, S: BuildHasher + Clone>(
+/// All of these features by their names, in whose byte order they stand, and nothing that stands
+/// for a removed one. It fails only where memory runs out, or the clone of `state` does.
+pub fn all_hashed<'m, S: BuildHasher + Clone>(
     alloc: Global,
     state: &S,
     features: Vec<Feature<'m>>,
@@ -124,7 +124,8 @@ fn hashed_apart<'m, S: BuildHasher + Clone>(
 }
 
 /// What is kept of features in the byte order of their names, once those are taken out whose flag
-/// stands. It fails only where memory runs out, or the clone of `state` does.
+/// stands. There is a flag for each, and none of them has its enablers yet. It fails only where
+/// memory runs out, or the clone of `state` does.
 pub fn kept_of<'m, S: BuildHasher + Clone>(
     alloc: Global,
     state: &S,
@@ -143,10 +144,10 @@ pub fn kept_of<'m, S: BuildHasher + Clone>(
     // there is one, its removal finds what enables the others.
     if flags.contains(&true) {
         let graph = number(alloc, features.as_slice(), flags)?;
-        let walked = place(alloc, &mut features, graph)?;
+        let walked = remove(alloc, &mut features, graph)?;
         hashed_apart(alloc, state, features, &walked)
     } else {
         set_enablers(alloc, &mut features)?;
-        keep_all(alloc, state, features)
+        all_hashed(alloc, state, features)
     }
 }

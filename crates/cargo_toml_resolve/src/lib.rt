@@ -4,28 +4,28 @@
 //! [`resolve`] is the whole of it. Callers use it by `cargo_toml::features::Resolver`.
 #![tactic(auto)]
 
-pub mod bits;
-pub mod dense;
-pub mod enabling;
+mod bits;
+mod dense;
+mod enabling;
 pub mod filter;
 mod finder;
-pub mod flags;
-pub mod graph;
-pub mod hashing;
+mod flags;
+mod graph;
+mod hashing;
 pub mod joining;
 mod keeping;
-pub mod kept;
-pub mod marks;
-pub mod node_sets;
-pub mod numbering;
+mod kept;
+mod marks;
+mod node_sets;
+mod numbering;
 pub mod passing;
-pub mod redirects;
-pub mod removal;
-pub mod resolution;
-pub mod rows;
-pub mod span;
-pub mod tables;
-pub mod taking_over;
-pub mod walk;
+mod redirects;
+mod removal;
+mod resolution;
+mod rows;
+mod span;
+mod tables;
+mod taking_over;
+mod walk;
 
 pub use resolution::{Lists, resolve};

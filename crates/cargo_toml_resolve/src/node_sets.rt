@@ -22,7 +22,7 @@ fn list_of<'m>(alloc: Global, nodes: &[Node], texts: &[&'m str]) -> Result<Vec<&
     Ok(list)
 }
 
-/// The texts of nodes, as a set.
+/// The texts of nodes, as a set. It fails only where memory runs out.
 pub(crate) fn set_of_nodes<'m>(
     alloc: Global,
     nodes: &[Node],

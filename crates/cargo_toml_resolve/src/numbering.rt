@@ -128,7 +128,8 @@ fn push_keys(row: &mut Vec<Node>, nodes: &[Node], count: usize, own: Node) -> Re
     Ok(())
 }
 
-/// The key of this name, if there is one other than the one in place `own`, is put at the end.
+/// The key of this name, if there is one other than the one in place `own`, is put at the end. It
+/// fails only where memory runs out.
 pub(crate) fn push_target(
     row: &mut Vec<Node>,
     name: &str,
@@ -155,8 +156,9 @@ fn is_plain(action: &DepAction<'_>) -> bool
     !action.is_conditional && !action.is_dep_only
 }
 
-/// Those that the actions enable, other than the one in place `own`. An implied feature acts on the
-/// dependency of its own name, so the first is looked for there.
+/// Those that the actions enable, other than the one in place `own`, are put at the end. An implied
+/// feature acts on the dependency of its own name, so the first is looked for there. It fails only
+/// where memory runs out.
 pub(crate) fn push_actions(
     row: &mut Vec<Node>,
     actions: &BTreeMap<&str, DepAction<'_>>,
@@ -192,7 +194,7 @@ pub(crate) fn leads_nowhere(feature: &Feature<'_>) -> bool
     feature.enables_deps.is_empty()
 }
 
-/// What is used again for each feature.
+// What is used again for each feature.
 #[derive(Drop)]
 struct Look {
     edges: Vec<Node>,
@@ -224,8 +226,7 @@ impl Look {
         let named = &feature.enables_features;
         name_row(&mut self.names, named, texts, count, &mut self.cursor)?;
         push_keys(&mut self.edges, self.names.as_slice(), count, own)?;
-        push_actions(&mut self.edges, &feature.enables_deps, &texts[..count], own)?;
-        Ok(())
+        push_actions(&mut self.edges, &feature.enables_deps, &texts[..count], own)
     }
 
     // Whether the names of what was read are asked for: it is removed, or has an edge to a removed
@@ -252,7 +253,7 @@ fn all_flags(alloc: Global, flags: &[bool], size: usize) -> Result<Vec<bool>, Al
     Ok(all)
 }
 
-/// Where each feature leads, and what it names where that is asked for.
+// Where each feature leads, and what it names where that is asked for.
 #[derive(Drop)]
 struct FeatureRows {
     edges: Rows,
@@ -266,8 +267,7 @@ impl FeatureRows {
         ensures names { OnOk result (self.new.names ≡ self.old.names ++ [] ∷ []) }
     {
         self.edges.push_none()?;
-        self.names.push_none()?;
-        Ok(())
+        self.names.push_none()
     }
 
     // The feature that was read, with its names if they are asked for.
@@ -325,7 +325,8 @@ fn read_all<'m>(
 }
 
 /// The features as a graph of nodes, with a flag for each node. An edge leads from a feature to
-/// another one that it names or acts on plainly. It fails only where memory runs out.
+/// another one that it names or acts on plainly. The features stand in byte order, with a flag for
+/// each. It fails only where memory runs out.
 pub fn number<'m>(
     alloc: Global,
     features: &[Feature<'m>],

@@ -17,8 +17,8 @@ use std::collections::BTreeSet;
 // So many binaries a removed feature passes on: the ten of the definitions.
 const MAX_PASSED_BINS: usize = 10;
 
-/// A copy of the first ten, since the lists may change while it is read. It fails only where memory
-/// runs out.
+/// The first ten of a feature's binaries, as a copy: the lists may change while it is read. It
+/// fails only where memory runs out.
 pub fn first_ten<'m>(alloc: Global, bins: &[&'m str]) -> Result<Vec<&'m str>, AllocError>
     ensures { IfOk result (λ v. texts_now v.items ≡ take 10 (texts_now bins.now)) }
 {
@@ -100,6 +100,7 @@ fn put_bins<'m>(
     Ok(())
 }
 
+// The binaries are put into the list of the feature in this place.
 fn put_at<'m>(
     alloc: Global,
     features: &mut Vec<Feature<'m>>,

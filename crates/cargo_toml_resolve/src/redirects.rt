@@ -34,12 +34,12 @@ fn finish(
     Ok(true)
 }
 
-/// What stands for each removed vertex, and whether that isn't what it has itself.
+/// What stands for each removed vertex, and whether that may differ from what it has itself.
 #[derive(Debug, Drop)]
 pub struct Redirects {
-    /// The redirect of each removed vertex, and the labels of the others.
+    /// The redirect of each removed vertex. What other rows hold is open where `moved` is set.
     pub rows: Rows,
-    /// For each node whether its row was replaced.
+    /// For each node whether its row may differ from its labels.
     pub moved: Vec<bool>,
 }
 
@@ -68,7 +68,7 @@ fn redirect(
 }
 
 /// For each removed vertex its redirect: the labels that it has once the removed vertices below it
-/// are taken out. The others keep their labels.
+/// are taken out. The others keep their labels. It fails only where memory runs out.
 pub fn find_redirects(
     alloc: Global,
     mut edges: Rows,

@@ -51,7 +51,7 @@ fn redirects(
 /// them knows an enabler before.
 ///
 /// A removed feature stays in its place with its names. It fails only where memory runs out.
-pub(crate) fn place<'m>(
+pub(crate) fn remove<'m>(
     alloc: Global,
     features: &mut Vec<Feature<'m>>,
     graph: Graph<'m>,

@@ -28,8 +28,8 @@ fn join_passed<'m>(
     Ok(())
 }
 
-/// A feature comes to hold what was found for it: it has these names, and does what it and the
-/// passed ones do. It fails only where memory runs out.
+/// A feature, which isn't one of those that it passes, comes to hold what was found for it: it has
+/// these names, and does what it and the passed ones do. It fails only where memory runs out.
 pub(crate) fn hold<'m>(
     alloc: Global,
     features: &mut Vec<Feature<'m>>,

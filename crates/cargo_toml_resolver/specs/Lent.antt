@@ -1,4 +1,5 @@
--- What is left of a manifest that is lent on, and what two answers in one are and say.
+-- What is left of a manifest that is lent on, and how a lent manifest and what was put into the
+-- slot make one answer.
 use Rattle.std.specs.Prelude.{◌≡◌, ◌⊎◌, ⊤, ℕ, Option, Some, None, Result, Ok, Err, IfOk}
 use Rattle.std.specs.Borrow.{Fml, MutBor, follows_so}
 use mathlib.Core.Option.{none}

@@ -111,10 +111,10 @@ impl<'config, F: Fn(&str) -> bool, S: BuildHasher + Clone> Resolver<'config, F, 
     /// key no feature has and no `dep:` keeps for itself. It has the dependencies that are
     /// optional, that a feature acts on, or whose key a feature has, with each target that they
     /// stand under: normal and build dependencies come before those of targets, and dev
-    /// dependencies last. Of a key that no listed feature has or acts on, the entries before the
-    /// first optional one don't count. Each feature names its enablers among the others: those that
-    /// name it, and those that act on the dependency of its name neither conditionally nor by
-    /// `dep:`. It names the binaries that require it, once for each mention.
+    /// dependencies last. Of a key that no listed feature has or acts on, and that isn't `default`,
+    /// the entries before the first optional one don't count. Each feature names its enablers among
+    /// the others: those that name it, and those that act on the dependency of its name neither
+    /// conditionally nor by `dep:`. It names the binaries that require it, once for each mention.
     ///
     /// Where a dependency's first target is `Dependency::Detailed`, the features that it asks for
     /// anyway are left out of actions: `default`, unless it turns default features off, and those
@@ -136,9 +136,9 @@ impl<'config, F: Fn(&str) -> bool, S: BuildHasher + Clone> Resolver<'config, F, 
     /// [`FeatureDependency::dep`] asks.
     ///
     /// Features whose names begin with `_` are then removed, except those that the filter keeps.
-    /// What a removed feature says, those that enable it say in its place, through any number of
-    /// removed ones: they name what it names and act as it acts, and are enablers of what it
-    /// enables.
+    /// The filter, if there is one, answers each name in one way. What a removed feature says,
+    /// those that enable it say in its place, through any number of removed ones: they name what it
+    /// names and act as it acts, and are enablers of what it enables.
     ///
     /// In byte order of their names, each removed feature passes its binaries on to each feature
     /// that it then names: the first ten of its list, as it then stands. So where binaries mention
@@ -197,6 +197,8 @@ impl<'config, F: Fn(&str) -> bool, S: BuildHasher + Clone> Resolver<'config, F, 
     /// and each feature is public and has no text. The hashed table's order doesn't matter: of its
     /// names those count that come first in byte order, up to the limit, and `default`. Features
     /// borrow from the table and from the entries' keys, dependencies from the entries.
+    ///
+    /// The filter, if there is one, answers each name in one way.
     ///
     /// The one refusal is [`Error::Memory`], where there was no room for the answer.
     pub fn parse_custom<'m: 'd, 'd, S2: BuildHasher>(

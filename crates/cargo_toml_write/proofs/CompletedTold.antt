@@ -1,5 +1,5 @@
 -- What completion gives of a manifest that is told, from a workspace that is, is told.
-use Rattle.std.proofs.Common.{arith, ◌≡◌, refl, ap, subst, ℕ, List, [], ◌∷◌, Bool, Option, Some, None, IfSome, option_and_then, Result, Ok, Err, if◌then◌else◌}
+use Rattle.std.proofs.Common.{arith, ◌≡◌, refl, ℕ, List, [], ◌∷◌, Bool, Option, Some, None, IfSome, option_and_then, Result, Ok, Err, if◌then◌else◌}
 use Rattle.std.proofs.lemmas.List.Elements.{All-from_recursion, recursion_from_All}
 use Rattle.std.specs.{Result.result_ok, List.AllByRecursion, Str.bytes_eq}
 use Rattle.semver.specs.Parse.{Held}

@@ -22,14 +22,14 @@ use Rattle.cargo_toml_write.proofs.ReadAgain.{Again, AgainAs, AllHeld, Any, Read
 use Rattle.cargo_toml_write.proofs.ReadAgain.{nil_map, other_member, read_back, required, same_tree, set_stands, step, table_again, text_again, texts_again, truth_again, untouched, version_again, whole}
 use Rattle.cargo_toml_write.proofs.{ReadParts.AreNamed, ReadParts.AreSaid, ReadParts.Gives, ReadParts.bind, ReadParts.gives_some, ReadParts.skip, Spelled.spelled_again}
 use Rattle.cargo_toml_write.specs.Reread.{IsTold, each_value, reread, reread_dependency, reread_target, reread_workspace, told}
-use Rattle.cargo_toml_write.specs.Ways.{Ascend, IsMap, all_of, flag_row, free_way, inheritable_way, is_nil, list_way, map_way, members_of, number_way, requirement_way, small_way, text_way, texts_way, truth_way, unless_missing, version_way}
+use Rattle.cargo_toml_write.specs.Ways.{Ascend, IsMap, all_of, free_way, inheritable_way, is_nil, list_way, map_way, members_of, number_way, requirement_way, small_way, text_way, texts_way, truth_way, unless_missing, version_way}
 use Rattle.cargo_toml_write.specs.WrittenDependencies.{AreTold, DependencyAgain, DetailAgain, dependencies_way, dependency_way, detail_reads, detail_under, detail_way, feature_way, features_in, features_way, inherited_reads, inherited_rows}
 use Rattle.cargo_toml_write.specs.WrittenDependencies.{inherited_way, known_rows, target_rows, target_way, told_features, told_rows, told_way}
 use Rattle.cargo_toml_write.specs.WrittenPackages.{AreReadAgain, IsVersionAgain, MetadataAgain, TemplateAgain, VersionAgain, package_rows, package_way, template_rows, template_way, workspace_rows, workspace_way}
 use Rattle.cargo_toml_write.specs.WrittenTables.{debug_tree, debug_way, edition_way, file_way, is_unrestricted, is_usual, level_text, level_way, lto_tree, lto_way, publish_way, resolver_way, status_text, status_way, strip_tree, strip_way}
 use Rattle.cargo_toml_write.specs.WrittenTables.{AreApart, IsApart, badge_rows, badge_way, badges_rows, badges_way, has_no_badge, has_no_profile, is_level_alone, known_profiles, lint_groups_way, lint_part, lint_rows, lint_way}
 use Rattle.cargo_toml_write.specs.WrittenTables.{maintenance_rows, maintenance_way, product_rows, product_way, profile_rows, profile_way, profiles_way}
-use Rattle.cargo_toml_write.specs.{Asked.EachValue, Asked.IfSet, Asked.TargetMeets, Asked.WorkspaceMeets, Requirements.CanBeRead, Writes.AreWritten, Writes.IsHeld, Writes.IsWriting, Writes.Way, Writes.given_row, Writes.put_some}
+use Rattle.cargo_toml_write.specs.{Asked.EachValue, Asked.IfSet, Asked.TargetMeets, Asked.WorkspaceMeets, Requirements.CanBeRead, Writes.AreWritten, Writes.IsHeld, Writes.IsWriting, Writes.Way, Writes.put_some}
 use Rattle.cargo_toml_write.specs.WrittenManifests.{all_features, manifest_rows, manifest_way}
 use Rattle.semver.specs.{Parse.Held, Identifiers.parts_of}
 use Rattle.cargo_toml_package.specs.Dependencies.{InheritedMeaning, DetailMeaning, DependencyMeaning, simple, inherited, detailed, inherited_of, strict_of, inherited_or, detail_keys, detail_of_table, dependency_of, no_detail}

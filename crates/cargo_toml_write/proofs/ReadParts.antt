@@ -13,7 +13,7 @@ use Rattle.cargo_toml_package.specs.{Details.is_plain, Sharing.LintsByTool}
 use Rattle.cargo_toml_manifest.specs.Manifests.{ManifestMeaning, by_zero_rule, target_reads, product_reads, badges_reads, no_badges, profiles_reads, no_profiles, manifest_of, manifest_reads, zero_rule_applies}
 use Rattle.cargo_toml_manifest.specs.Texts.{any_tree, document_reads}
 use Rattle.cargo_toml_parts.specs.Reads.{optional_of, optional_at, given_of, given_at, is_among, others_read, map_of, map_at, array_of, flag_at, list_at, required_at, required_of}
-use Rattle.cargo_toml_parts.specs.{declared.inheritable.Inheritable.TheVariants.Set, declared.inheritable.Inheritable.TheVariants.Inherited, Floats.has_no_float, Floats.members_have_no_float, Floats.without_floats, Inherits.by_flag}
+use Rattle.cargo_toml_parts.specs.{declared.inheritable.Inheritable.TheVariants.Set, declared.inheritable.Inheritable.TheVariants.Inherited, Floats.has_no_float, Floats.without_floats, Inherits.by_flag}
 use Rattle.cargo_toml_parts.specs.{Inherits.set_or, Inherits.inheritable_of, Inherits.workspace_flag, Keys.inherited_at, Lints.LintMeaning, Lints.lint_of, Lints.level_alone, Lints.level_of, Lints.lint_keys, Lints.table_lint, Versions.Parts}
 use Rattle.cargo_toml_parts.specs.{Versions.requirement_of, Versions.version_of, Settings.everywhere, Profiles.ProfileMeaning, Profiles.profile_keys, Profiles.profile_of, Profiles.profile_reads, Profiles.profiles_of}
 use Rattle.cargo_toml_parts.specs.declared.inheritable.Inheritable.{Inheritable}

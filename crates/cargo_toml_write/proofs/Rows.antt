@@ -2,12 +2,12 @@
 use Rattle.std.proofs.Common.{arith, ◌≡◌, ◌⊎◌, inl, inr, sym, ◌∙◌, refl, subst, false, is_some, option_map, ℕ, List, [], ◌∷◌, ◌++◌, Result, Err, Option, Some, None, ◌+◌, ◌<◌, map, length, get_or, drop, ap, append-nil, append_assoc, String}
 use Rattle.std.proofs.Common.{Global, string_bytes, Bool, cond, Vec, nat_cmp}
 use Rattle.std.proofs.{lemmas.Iterator.Adapters.option_map_id, lemmas.List.drop_more, lemmas.Map.Text.is_eq-slice_cmp}
-use Rattle.toml.specs.Data.{Data, Members, no_members, string, array, Items, no_items, item, member}
+use Rattle.toml.specs.Data.{Data, Members, no_members, array, member}
 use Rattle.toml.specs.{declared.value.Value.Value, View.view, View.items_view, View.members_view, View.table_view}
 use Rattle.cargo_toml_parts.specs.{declared.error.Error.Error, declared.error.Error.Memory, Reads.map_meaning, Reads.pairs_meaning}
-use Rattle.cargo_toml_write.specs.Ways.{Ascend, HoldsNoFloat, IsMap, exactly, list_way, over_way, table_way, text_way, texts_way}
-use Rattle.cargo_toml_write.specs.Writes.{AreEntries, AreItems, AreWritten, EntriesRefused, IsWriting, ItemsRefused, Row, Way, WritesFrom, WritingEnds, given_row, optional_row, put_member, required_row}
-use Rattle.cargo_toml_write.specs.{Ways.Begins, WrittenDependencies.detail_under, WrittenDependencies.feature_way, WrittenDependencies.told_features}
+use Rattle.cargo_toml_write.specs.Ways.{Ascend, IsMap, list_way, over_way, table_way}
+use Rattle.cargo_toml_write.specs.Writes.{AreEntries, AreItems, EntriesRefused, IsWriting, ItemsRefused, Row, Way, WritesFrom, WritingEnds, optional_row, put_member, required_row}
+use Rattle.cargo_toml_write.specs.{Ways.Begins, WrittenDependencies.detail_under, WrittenDependencies.told_features}
 use Rattle.std.specs.{List.Sorted.IsStrictlySortedBy, Map.keys_of, Map.lookup, String.string_cmp, BTreeMap.BTreeMap, BTreeMap.get_by, BTreeMap.is_at, Cmp.Lexicographic.slice_cmp, Str.bytes_eq}
 use Rattle.toml.proofs.Views.{Entry}
 use Rattle.cargo_toml_package.proofs.Apart.{ascend-keys}

@@ -7,8 +7,8 @@ use Rattle.semver.specs.Parse.{◌>>=◌, Held, Minor, Parsed, Patch, comparator
 use Rattle.semver.specs.Parse.{req_after, req_from, req_next, req_of, strip_spaces, wild_req, wildcard_of, identifier_of, digits_from, identifier_len, prepend, scan}
 use Rattle.semver.specs.{Grammar.is_pre_identifier, Grammar.is_pre_release, Order.parts, declared.error.Error.Error, declared.error.Position.Position, declared.Op.Op, declared.Op.TheVariants.Wildcard, declared.Op.TheVariants.Caret}
 use Rattle.semver.specs.{Identifiers.marked, OrderLaws.join-parts, OrderLaws.join_dots, OrderLaws.parts-shape}
-use Rattle.semver.proofs.{Grammar.bind-ok, Grammar.identifier-ok, Numerals.numeric-text, Numerals.ok-value, Numerals.numeric-of_text, Numerals.starts_digit, Requirements.held, Requirements.req-end, Requirements.req-more, Segments.and-left}
-use Rattle.semver.proofs.Segments.{and-right, good, not_zero, scan-all, stops}
+use Rattle.semver.proofs.{Grammar.bind-ok, Grammar.identifier-ok, Numerals.numeric-text, Numerals.ok-value, Numerals.numeric-of_text, Numerals.starts_digit, Requirements.held, Requirements.req-end, Requirements.req-more}
+use Rattle.semver.proofs.Segments.{good, not_zero, scan-all, stops}
 use Rattle.cargo_toml_write.specs.Requirements.{after_major, comparator_text, requirement_text, sign_of, star_of}
 use Rattle.semver.specs.declared.error.Position.TheVariants as place
 

@@ -12,10 +12,11 @@ use Rattle.cargo_toml_parts.specs.Lints.{LintMeaning}
 use Rattle.cargo_toml_parts.specs.Profiles.{ProfilesMeaning}
 use Rattle.cargo_toml_package.specs.Workspaces.{WorkspaceMeaning}
 
--- each value of a map, and a value that a workspace may give
+-- P holds of each value of a map
 abbrev pub EachValue : {X : Type 0} → (X → Type 0) → List (List ℕ × X) → Type 0
 EachValue P es = All (λ e. P e.1) es
 
+-- P holds of what is set
 abbrev pub IfSet : {X : Type 0} → (X → Type 0) → Inheritable X → Type 0
 IfSet P (Set x) = P x
 IfSet P Inherited = Unit {0}
@@ -42,18 +43,20 @@ nothing_asked = record {
   features = λ fs. Unit {0};
 }
 
--- each dependency of a target, each part of a workspace, and each of a manifest is such
+-- each dependency of a target is such
 pub record TargetMeets (Dependency : DependencyMeaning → Type 0) (t : TargetMeaning) : Type 0 where
   pub dependencies : EachValue Dependency t.dependencies
   pub dev_dependencies : EachValue Dependency t.dev_dependencies
   pub build_dependencies : EachValue Dependency t.build_dependencies
 
+-- each part of a workspace is as asked
 pub record WorkspaceMeets {M : Type 0} (asked : Asked M) (w : WorkspaceMeaning M) : Type 0 where
   pub metadata : IfSome w.metadata asked.metadata
   pub template : asked.template w.«package»
   pub dependencies : EachValue asked.dependency w.dependencies
   pub lints : EachValue (EachValue asked.lint) w.lints
 
+-- each part of a manifest is as asked
 pub record ManifestMeets {M : Type 0} (asked : Asked M) (m : ManifestMeaning M) : Type 0 where
   pub «package» : IfSome m.«package» asked.«package»
   pub workspace : IfSome m.workspace (WorkspaceMeets asked)

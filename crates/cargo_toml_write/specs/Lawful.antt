@@ -78,6 +78,7 @@ one_asked : (row : Row) (rows : List Row) → RowsAsk (row ∷ rows)
 one_asked row rows h =
     value_asked row.way row.way.asks_nothing row.value (RowsAsk rows) refl h
 
+-- where rows are as asked, none is refused
 pub rows_never : (rows : List Row) → RowsAsk rows → (e : Error) → ¬ (AreRefused rows e)
 rows_never [] asked e refused = refused
 rows_never (row ∷ rows) asked e (inl refused) =
@@ -110,6 +111,7 @@ some_floatless way k None (Some d) ms held old = absurd cc
 some_floatless way k (Some x) (Some d) ms held old =
     put_floatless k d ms ((way.lawful x).floatless d held) old
 
+-- rows that were written put no float into a table, and are as asked
 pub rows_are : (rows : List Row) (old new : Members) → AreWritten rows old new
     → (AllFloatless old → AllFloatless new) × RowsAsk rows
 rows_are [] old new is = (subst AllFloatless (sym is), tt)

@@ -7,7 +7,7 @@ use Rattle.semver.specs.declared.Op.{Op}
 use Rattle.semver.specs.declared.Op.TheVariants.{Caret, Exact, Greater, GreaterEq, Less, LessEq}
 use Rattle.semver.specs.declared.Op.TheVariants.{Tilde, Wildcard}
 
--- what stands in front of the numbers, and what stands for those that are left out
+-- what stands in front of the numbers
 abbrev pub sign_of : Op → List ℕ
 sign_of Exact = codes "="
 sign_of Greater = codes ">"
@@ -18,15 +18,17 @@ sign_of Tilde = codes "~"
 sign_of Caret = codes "^"
 sign_of Wildcard = []
 
+-- what stands for the numbers that are left out
 abbrev pub star_of : Op → List ℕ
 star_of Wildcard = codes ".*"
 star_of _ = []
 
--- what follows the first number, and the second
+-- what follows the second number
 abbrev pub after_minor : List ℕ → Option ℕ → List ℕ → List ℕ
 after_minor star None pre = star
 after_minor star (Some patch) pre = codes "." ++ (decimal patch ++ marked 45 pre)
 
+-- what follows the first number
 abbrev pub after_major : List ℕ → Option ℕ → Option ℕ → List ℕ → List ℕ
 after_major star None patch pre = star
 after_major star (Some minor) patch pre = codes "." ++ (decimal minor ++ after_minor star patch pre)

@@ -26,6 +26,7 @@ reread_dependency (kind.detailed d) = kind.detailed (record d { inherited = fals
 abbrev pub each_value : {X M : Type 0} → (X → M) → List (List ℕ × X) → List (List ℕ × M)
 each_value f es = map (λ e. (e.0, f e.1)) es
 
+-- a target as it is read again
 abbrev pub reread_target : TargetMeaning → TargetMeaning
 reread_target t = record {
   dependencies = each_value reread_dependency t.dependencies;
@@ -33,6 +34,7 @@ reread_target t = record {
   build_dependencies = each_value reread_dependency t.build_dependencies;
 }
 
+-- a workspace as it is read again
 abbrev pub reread_workspace : {M : Type 0} → WorkspaceMeaning M → WorkspaceMeaning M
 reread_workspace w = record w { dependencies = each_value reread_dependency w.dependencies }
 
@@ -50,7 +52,8 @@ reread m = record m {
   patch = each_value (each_value reread_dependency) m.patch;
 }
 
--- versions and requirements are such as texts say, and no key was collected that is known
+-- versions and requirements are such as texts say, no key was collected that is known, and each
+-- detail of a feature is of a listed one and says something
 abbrev pub told : {M : Type 0} → Asked M
 told = record nothing_asked {
   «package» = λ p. VersionAgain p.version;
@@ -61,6 +64,7 @@ told = record nothing_asked {
   features = AreTold;
 }
 
+-- each part of the manifest is such, so that it is read again
 abbrev pub IsTold : {M : Type 0} → ManifestMeaning M → Type 0
 IsTold m = ManifestMeets told m
 

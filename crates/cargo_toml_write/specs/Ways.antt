@@ -27,6 +27,7 @@ use Rattle.cargo_toml_write.specs.Writes.{AreEntries, AreItems, AreRefused, AreW
 use Rattle.cargo_toml_write.specs.Writes.{EntriesRefused, ItemsRefused, Row, RowsAsk, Way}
 use Rattle.cargo_toml_write.specs.Writes.{never_left_out, optional_row}
 
+-- the tree holds no float at any depth
 abbrev pub HoldsNoFloat : Data → Type 0
 HoldsNoFloat tree = IsTrue (has_no_float tree)
 
@@ -46,12 +47,15 @@ exactly tree h = record {
   nothing = λ is x. tt;
 }
 
+-- how a value that has a word is written
 abbrev pub word_way : {X : Type 0} → (X → List ℕ) → Way X
 word_way word = exactly (λ x. string (word x)) (λ x. refl)
 
+-- how a text is written
 abbrev pub text_way : Way (List ℕ)
 text_way = exactly string (λ x. refl)
 
+-- how a truth value is written
 abbrev pub truth_way : Way Bool
 truth_way = exactly boolean (λ b. refl)
 
@@ -66,17 +70,19 @@ telling P way = record way {
   };
 }
 
--- numbers of two bytes, and of one with a sign
+-- how a number of two bytes is written
 abbrev pub number_way : Way ℕ
 number_way = telling (λ n. fits_u16 (pos n) ≡ Some n) (exactly (λ n. integer (pos n)) (λ n. refl))
 
+-- how a number of one byte with a sign is written
 abbrev pub small_way : Way ℤ
 small_way = telling (λ z. fits_i8 z ≡ Some z) (exactly integer (λ z. refl))
 
--- a version and a requirement as `semver` writes them
+-- how a version is written: as `semver` writes it
 abbrev pub version_way : Way Parts
 version_way = word_way parts_text
 
+-- how a requirement is written
 abbrev pub requirement_way : Way (List Held)
 requirement_way = word_way requirement_text
 
@@ -101,9 +107,11 @@ abbrev pub is_nil : {X : Type 0} → List X → Bool
 is_nil [] = true
 is_nil _ = false
 
+-- what holds of every value holds of each of a list
 pub all_of : {X : Type 0} (P : X → Type 0) → ((x : X) → P x) → (xs : List X) → All P xs
 all_of P h xs = λ k d lt. h _
 
+-- how a list is written
 abbrev pub list_way : {X : Type 0} → Way X → Way (List X)
 list_way way = record {
   trees = λ xs d. (ds : Items) × (d ≡ array ds) × AreItems way xs ds;
@@ -119,6 +127,7 @@ list_way way = record {
   nothing = λ is. all_of way.asks (way.nothing is);
 }
 
+-- how a list of texts is written
 abbrev pub texts_way : Way (List (List ℕ))
 texts_way = list_way text_way
 
@@ -130,6 +139,7 @@ Ascend names = IsStrictlySortedBy (slice_cmp nat_cmp) names
 abbrev pub IsMap : {X : Type 0} → Way X → List (List ℕ × X) → Members → Type 0
 IsMap way es ms = Ascend (keys_of es) × AreEntries way es ms
 
+-- how a map is written
 abbrev pub map_way : {X : Type 0} → Way X → Way (List (List ℕ × X))
 map_way {X = X} way = record {
   trees = λ es d. (ms : Members) × (d ≡ table ms) × IsMap way es ms;
@@ -162,7 +172,7 @@ abbrev pub members_of : List (List ℕ × Data) → Members
 members_of [] = no_members
 members_of (e ∷ es) = member e.0 e.1 (members_of es)
 
--- a table of rows, and one of rows of which nothing is asked
+-- how a table of rows is written
 abbrev pub table_way : {X : Type 0} → (X → List Row) → Way X
 table_way rows = record {
   trees = λ x d. (ms : Members) × (d ≡ table ms) × AreWritten (rows x) no_members ms;
@@ -179,6 +189,7 @@ table_way rows = record {
   nothing = λ is x. absurd (false≢true is);
 }
 
+-- how a table of rows is written of which nothing is asked
 abbrev pub plain_table_way : {X : Type 0} (rows : X → List Row) → ((x : X) → RowsAsk (rows x))
     → Way X
 plain_table_way rows nothing =
@@ -212,12 +223,15 @@ pub record Part : Type 1 where
   pub way : Way Value
   pub value : Value
 
+-- the value x, written in a way
 abbrev pub part : {X : Type 0} → Way X → X → Part
 part {X = X} way x = record { Value = X; way = way; value = x }
 
+-- what is asked of the value of a part
 abbrev pub AsksOf : Part → Type 0
 AsksOf p = p.way.asks p.value
 
+-- how a value is written as its part
 abbrev pub by_part : {X : Type 0} (of : X → Part) (nothing : Bool)
     → (IsTrue nothing → (x : X) → AsksOf (of x)) → Way X
 by_part of nothing h = record {
@@ -230,27 +244,31 @@ by_part of nothing h = record {
   nothing = h;
 }
 
--- a value that is set, which is left out as it is alone; and the table that says
--- that it is inherited
+-- the table that says that a value is inherited
 abbrev pub inherited_tree : Data
 inherited_tree = table (member (codes "workspace") (boolean true) no_members)
 
+-- how it is written that a value is inherited
 abbrev pub left_way : Way (Unit {0})
 left_way = exactly (λ x. inherited_tree) (λ x. refl)
 
+-- the value that is set, or that it is inherited
 abbrev pub inheritable_part : {X : Type 0} → Way X → Inheritable X → Part
 inheritable_part way (Set x) = part way x
 inheritable_part way Inherited = part left_way tt
 
+-- nothing is asked of what may be inherited, where nothing is of what is set
 pub either_nothing : {X : Type 0} (way : Way X) → IsTrue way.asks_nothing → (x : Inheritable X)
     → AsksOf (inheritable_part way x)
 either_nothing way is (Set x) = way.nothing is x
 either_nothing way is Inherited = tt
 
+-- whether a value is set, and passes the test
 abbrev pub is_set_and : {X : Type 0} → (X → Bool) → Inheritable X → Bool
 is_set_and test (Set x) = test x
 is_set_and test Inherited = false
 
+-- how a value that a workspace may give is written
 abbrev pub inheritable_way : {X : Type 0} → Way X → Way (Inheritable X)
 inheritable_way way =
     record (by_part (inheritable_part way) way.asks_nothing (either_nothing way)) {
@@ -263,5 +281,6 @@ unless_missing true true = None
 unless_missing false false = None
 unless_missing missing b = Some b
 
+-- the row of a truth value, unless it is that of a missing key
 abbrev pub flag_row : List ℕ → Bool → Bool → Row
 flag_row key missing b = optional_row key truth_way (unless_missing missing b)

@@ -28,6 +28,7 @@ pub record Way (X : Type 0) : Type 1 where
   pub lawful : (x : X) → AreLawful (trees x) (asks x) (refuses x)
   pub nothing : IsTrue asks_nothing → (x : X) → asks x
 
+-- no value is what a missing key stands for
 abbrev pub never_left_out : {X : Type 0} → X → Bool
 never_left_out x = false
 
@@ -51,6 +52,7 @@ AreItems way [] no_items = Unit {0}
 AreItems way (x ∷ xs) (item d ds) = way.trees x d × AreItems way xs ds
 AreItems way _ _ = ⊥
 
+-- a fault of one of the elements
 abbrev pub ItemsRefused : {X : Type 0} → Way X → List X → Error → Type 0
 ItemsRefused way [] e = ⊥
 ItemsRefused way (x ∷ xs) e = way.refuses x e ⊎ ItemsRefused way xs e
@@ -61,6 +63,7 @@ AreEntries way [] no_members = Unit {0}
 AreEntries way (e ∷ es) (member k d ms) = (k ≡ e.0) × way.trees e.1 d × AreEntries way es ms
 AreEntries way _ _ = ⊥
 
+-- a fault of one of the values of a map
 abbrev pub EntriesRefused : {X : Type 0} → Way X → List (List ℕ × X) → Error → Type 0
 EntriesRefused way es e = ItemsRefused way (map (λ x. x.1) es) e
 
@@ -90,21 +93,25 @@ IsHeld way None d = d ≡ None
 IsHeld way (Some x) None = ⊥
 IsHeld way (Some x) (Some d) = way.trees x d
 
+-- a fault of what is there
 abbrev pub IsRefused : {X : Type 0} → Way X → Option X → Error → Type 0
 IsRefused way None e = ⊥
 IsRefused way (Some x) e = way.refuses x e
 
--- the row of what may be there, of what is there, and of what is written unless it is left out
+-- the row of what may be there
 abbrev pub optional_row : {X : Type 0} → List ℕ → Way X → Option X → Row
 optional_row {X = X} key way x = record { key = key; Value = X; way = way; value = x }
 
+-- the row of what is there
 abbrev pub required_row : {X : Type 0} → List ℕ → Way X → X → Row
 required_row key way x = optional_row key way (Some x)
 
+-- the value, unless it is left out
 abbrev pub unless : {X : Type 0} → Bool → X → Option X
 unless true x = None
 unless false x = Some x
 
+-- the row of what is written unless it is left out
 abbrev pub given_row : {X : Type 0} → List ℕ → Way X → X → Row
 given_row key way x = optional_row key way (unless (way.left_out x) x)
 

@@ -1,7 +1,7 @@
 -- How dependencies and features are written, and which are read again as they were.
 use Rattle.std.specs.Prelude.{◌≡◌, ℕ, List, [], ◌∷◌, true, None, All, map, Some, refl, codes, false}
-use Rattle.std.specs.Prelude.{Option, IfSome, option_and_then, if◌then◌else◌, IsTrue}
-use Rattle.std.specs.{Map.keys_of, Str.bytes_eq}
+use Rattle.std.specs.Prelude.{Option, IfSome, option_and_then, IsTrue}
+use Rattle.std.specs.{Map.keys_of, Map.lookup, Str.bytes_eq}
 use Rattle.std.proofs.lemmas.Bool.{false≢true}
 use Rattle.toml.specs.Data.{Data, as_bool, as_table}
 use Rattle.cargo_toml_package.specs.Dependencies.{InheritedMeaning, DependencyMeaning}
@@ -18,6 +18,7 @@ use Rattle.cargo_toml_write.specs.Ways.{map_way, members_of, over_way, part, pla
 use Rattle.cargo_toml_write.specs.Ways.{requirement_way, table_way, telling, text_way, texts_way}
 use Rattle.cargo_toml_write.specs.Writes.{Row, Way, given_row, optional_row, required_row}
 
+-- the rows of an inherited dependency
 abbrev pub inherited_rows : InheritedMeaning → List Row
 inherited_rows i =
     given_row (codes "features") texts_way i.features
@@ -25,6 +26,7 @@ inherited_rows i =
     ∷ flag_row (codes "workspace") false i.workspace
     ∷ []
 
+-- how an inherited dependency is written
 abbrev pub inherited_way : Way InheritedMeaning
 inherited_way = plain_table_way inherited_rows (λ i. tt)
 
@@ -55,13 +57,15 @@ dependency_part (kind.simple r) = part requirement_way r
 dependency_part (kind.inherited i) = part inherited_way i
 dependency_part (kind.detailed x) = part detail_way x
 
+-- how a dependency is written
 abbrev pub dependency_way : Way DependencyMeaning
 dependency_way = by_part dependency_part false (λ is x. absurd (false≢true is))
 
--- the public readers of both tables
+-- the public reader of an inherited dependency's table
 abbrev pub inherited_reads : Data → Option InheritedMeaning
 inherited_reads d = option_and_then inherited_of (as_table d)
 
+-- the public reader of a detail's table
 abbrev pub detail_reads : Data → Option DetailMeaning
 detail_reads d = option_and_then detail_of_table (as_table d)
 
@@ -81,10 +85,11 @@ DependencyAgain (kind.inherited i) = i.workspace ≡ true
 DependencyAgain (kind.detailed d) =
     DetailAgain d × (required_at "workspace" as_bool (members_of d.unstable) ≡ None)
 
--- the dependencies by key, and those of some targets: all three tables are written, empty ones too
+-- how dependencies by key are written
 abbrev pub dependencies_way : Way (List (List ℕ × DependencyMeaning))
 dependencies_way = map_way dependency_way
 
+-- the rows of a target: all three tables are written, empty ones too
 abbrev pub target_rows : TargetMeaning → List Row
 target_rows t =
     required_row (codes "dependencies") dependencies_way t.dependencies
@@ -92,6 +97,7 @@ target_rows t =
     ∷ required_row (codes "build-dependencies") dependencies_way t.build_dependencies
     ∷ []
 
+-- how a target is written
 abbrev pub target_way : Way TargetMeaning
 target_way = table_way target_rows
 
@@ -103,6 +109,7 @@ told_rows f =
     ∷ optional_row (codes "doc") text_way f.1.doc
     ∷ []
 
+-- how a feature that has a detail is written
 abbrev pub told_way : Way (List (List ℕ) × Detail)
 told_way = plain_table_way told_rows (λ f. tt)
 
@@ -111,17 +118,18 @@ abbrev pub feature_part : List (List ℕ) → Option Detail → Part
 feature_part enables None = part texts_way enables
 feature_part enables (Some detail) = part told_way (enables, detail)
 
+-- nothing is asked of a feature
 pub feature_asked : (enables : List (List ℕ)) (o : Option Detail) → AsksOf (feature_part enables o)
 feature_asked enables None = texts_way.nothing refl enables
 feature_asked enables (Some detail) = tt
 
+-- how a feature is written
 abbrev pub feature_way : Way (List (List ℕ) × Option Detail)
 feature_way = by_part (λ f. feature_part f.0 f.1) true (λ is f. feature_asked f.0 f.1)
 
--- the detail of a name
+-- the detail of a name, if there is one
 abbrev pub detail_under : List ℕ → List (List ℕ × Detail) → Option Detail
-detail_under name [] = None
-detail_under name (e ∷ es) = if bytes_eq name e.0 then Some e.1 else detail_under name es
+detail_under name es = lookup (bytes_eq name) es
 
 -- each feature with its detail; those of other names are passed over
 abbrev pub told_features : FeaturesMeaning → List (List ℕ × (List (List ℕ) × Option Detail))

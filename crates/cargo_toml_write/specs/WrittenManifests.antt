@@ -35,5 +35,6 @@ manifest_rows metadata m =
     ∷ given_row (codes "lints") (inheritable_way lint_groups_way) m.lints
     ∷ []
 
+-- how a manifest is written, where its metadata are in the given way
 abbrev pub manifest_way : {M : Type 0} → Way M → Way (ManifestMeaning M)
 manifest_way metadata = table_way (manifest_rows metadata)

@@ -49,25 +49,28 @@ package_rows metadata p =
     ∷ optional_row (codes "metadata") metadata p.metadata
     ∷ []
 
+-- how a package is written, where its metadata are in the given way
 abbrev pub package_way : {M : Type 0} → Way M → Way (PackageMeaning M)
 package_way metadata = table_way (package_rows metadata)
 
--- a version is read again from its own text; the same of one that a workspace may give, and of a
--- template
+-- a version is read again from its own text
 abbrev pub IsVersionAgain : Parts → Type 0
 IsVersionAgain v = version_parts (parts_text v) ≡ Ok v
 
+-- the same of a version that a workspace may give
 abbrev pub VersionAgain : Inheritable Parts → Type 0
 VersionAgain v = IfSet IsVersionAgain v
 
+-- the same of a template's version
 abbrev pub TemplateAgain : TemplateMeaning → Type 0
 TemplateAgain t = IfSome t.version IsVersionAgain
 
--- every tree of metadata is read again as what these mean; the same of those of a package
+-- every tree of metadata is read again as what these mean
 abbrev pub AreReadAgain : {X W M : Type 0} → Way W → (X → W) → (X → M) → (Data → Option M) → Type 0
 AreReadAgain {X = X} way held meaning reads =
     (x : X) (d : Data) → way.trees (held x) d → reads d ≡ Some (meaning x)
 
+-- the same of the metadata of a package
 abbrev pub MetadataAgain : {X W M : Type 0} → Way W → (X → W) → (X → M) → (Data → Option M)
     → Option X → Type 0
 MetadataAgain way held meaning reads None = Unit {0}
@@ -95,6 +98,7 @@ template_rows t =
     ∷ optional_row (codes "version") version_way t.version
     ∷ []
 
+-- how a template is written
 abbrev pub template_way : Way TemplateMeaning
 template_way = plain_table_way template_rows (λ t. tt)
 
@@ -111,5 +115,6 @@ workspace_rows metadata w =
     ∷ given_row (codes "lints") lint_groups_way w.lints
     ∷ []
 
+-- how a workspace is written, where its metadata are in the given way
 abbrev pub workspace_way : {M : Type 0} → Way M → Way (WorkspaceMeaning M)
 workspace_way metadata = table_way (workspace_rows metadata)

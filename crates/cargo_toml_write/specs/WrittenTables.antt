@@ -25,17 +25,20 @@ use Rattle.cargo_toml_parts.specs.Products.{ProductMeaning}
 use Rattle.cargo_toml_parts.specs.Profiles.{ProfileMeaning, ProfilesMeaning, profile_keys}
 use Rattle.cargo_toml_parts.specs.Lints.{LintMeaning, lint_keys}
 use Rattle.cargo_toml_parts.specs.Badges.{BadgeMeaning, BadgesMeaning}
-use Rattle.cargo_toml_write.specs.Ways.{AsksOf, Part, by_part, exactly, part, text_way, texts_way}
+use Rattle.cargo_toml_write.specs.Ways.{Part, by_part, exactly, part, text_way, texts_way}
 use Rattle.cargo_toml_write.specs.Ways.{truth_way, word_way, flag_row, free_way, is_nil, map_way}
 use Rattle.cargo_toml_write.specs.Ways.{number_way, over_way, plain_table_way, small_way, table_way}
 use Rattle.cargo_toml_write.specs.Writes.{Way, Row, given_row, optional_row, required_row}
 
+-- how an edition is written
 abbrev pub edition_way : Way Edition
 edition_way = word_way edition_text
 
+-- how a resolver is written
 abbrev pub resolver_way : Way Resolver
 resolver_way = word_way resolver_text
 
+-- the word of a level
 abbrev pub level_text : LintLevel → List ℕ
 level_text Allow = codes "allow"
 level_text Warn = codes "warn"
@@ -43,9 +46,11 @@ level_text ForceWarn = codes "force-warn"
 level_text Deny = codes "deny"
 level_text Forbid = codes "forbid"
 
+-- how a level is written
 abbrev pub level_way : Way LintLevel
 level_way = word_way level_text
 
+-- the word of a status
 abbrev pub status_text : MaintenanceStatus → List ℕ
 status_text status.None = codes "none"
 status_text status.ActivelyDeveloped = codes "actively-developed"
@@ -55,6 +60,7 @@ status_text status.Experimental = codes "experimental"
 status_text status.LookingForMaintainer = codes "looking-for-maintainer"
 status_text status.Deprecated = codes "deprecated"
 
+-- how a status is written
 abbrev pub status_way : Way MaintenanceStatus
 status_way = word_way status_text
 
@@ -63,10 +69,12 @@ abbrev pub file_part : File → Part
 file_part (flag b) = part truth_way b
 file_part (path p) = part text_way p
 
+-- whether a file is on, as where its key is missing
 abbrev pub is_usual : File → Bool
 is_usual (flag b) = b
 is_usual _ = false
 
+-- how a file is written
 abbrev pub file_way : Way File
 file_way = record (by_part file_part true (λ is. elim [ flag b ↦ tt | path p ↦ tt ])) {
   left_out = is_usual;
@@ -77,10 +85,12 @@ abbrev pub publish_part : Registries → Part
 publish_part (everywhere b) = part truth_way b
 publish_part (among names) = part texts_way names
 
+-- whether it is everywhere, as where the key is missing
 abbrev pub is_unrestricted : Registries → Bool
 is_unrestricted (everywhere b) = b
 is_unrestricted _ = false
 
+-- how registries are written
 abbrev pub publish_way : Way Registries
 publish_way =
     record (by_part publish_part true
@@ -88,35 +98,42 @@ publish_way =
       left_out = is_unrestricted;
     }
 
+-- the tree of a setting of `debug`
 abbrev pub debug_tree : DebugSetting → Data
 debug_tree debug.None = boolean false
 debug_tree debug.Lines = integer (pos 1)
 debug_tree debug.Full = boolean true
 
+-- how a setting of `debug` is written
 abbrev pub debug_way : Way DebugSetting
 debug_way =
     exactly debug_tree (elim [ debug.None ↦ refl | debug.Lines ↦ refl | debug.Full ↦ refl ])
 
+-- the tree of a setting of `strip`
 abbrev pub strip_tree : StripSetting → Data
 strip_tree strip.None = boolean false
 strip_tree strip.Debuginfo = string (codes "debuginfo")
 strip_tree strip.Symbols = boolean true
 
+-- how a setting of `strip` is written
 abbrev pub strip_way : Way StripSetting
 strip_way =
     exactly strip_tree (elim [ strip.None ↦ refl | strip.Debuginfo ↦ refl | strip.Symbols ↦ refl ])
 
+-- the tree of a setting of `lto`
 abbrev pub lto_tree : LtoSetting → Data
 lto_tree lto.None = string (codes "off")
 lto_tree lto.ThinLocal = boolean false
 lto_tree lto.Thin = string (codes "thin")
 lto_tree lto.Fat = boolean true
 
+-- how a setting of `lto` is written
 abbrev pub lto_way : Way LtoSetting
 lto_way =
     exactly lto_tree
     (elim [ lto.None ↦ refl | lto.ThinLocal ↦ refl | lto.Thin ↦ refl | lto.Fat ↦ refl ])
 
+-- the rows of a product
 abbrev pub product_rows : ProductMeaning → List Row
 product_rows p =
     optional_row (codes "path") text_way p.path
@@ -133,9 +150,11 @@ product_rows p =
     ∷ required_row (codes "required-features") texts_way p.required_features
     ∷ []
 
+-- how a product is written
 abbrev pub product_way : Way ProductMeaning
 product_way = plain_table_way product_rows (λ p. tt)
 
+-- the rows of a profile
 abbrev pub profile_rows : ProfileMeaning → List Row
 profile_rows p =
     optional_row (codes "opt-level") free_way p.opt_level
@@ -154,6 +173,7 @@ profile_rows p =
     ∷ optional_row (codes "inherits") text_way p.inherits
     ∷ []
 
+-- how a profile is written
 abbrev pub profile_way : Way ProfileMeaning
 profile_way = table_way profile_rows
 
@@ -198,6 +218,7 @@ lint_rows l =
     ∷ required_row (codes "priority") small_way l.priority
     ∷ []
 
+-- how a lint is written as a table
 abbrev pub table_lint_way : Way LintMeaning
 table_lint_way = over_way free_way (λ l. l.config) lint_rows
 
@@ -206,6 +227,7 @@ abbrev pub lint_part : Bool → LintMeaning → Part
 lint_part true l = part level_way l.level
 lint_part false l = part table_lint_way l
 
+-- how a lint is written
 abbrev pub lint_way : Way LintMeaning
 lint_way = by_part (λ l. lint_part (is_level_alone l) l) false (λ is l. absurd (false≢true is))
 
@@ -217,6 +239,7 @@ lint_groups_way = map_way (map_way lint_way)
 abbrev pub IsApart : LintMeaning → Type 0
 IsApart l = All (λ m. is_among lint_keys m.0 ≡ false) l.config
 
+-- the rows of a badge
 abbrev pub badge_rows : BadgeMeaning → List Row
 badge_rows b =
     required_row (codes "repository") text_way b.repository
@@ -226,15 +249,19 @@ badge_rows b =
     ∷ optional_row (codes "project-name") text_way b.project_name
     ∷ []
 
+-- how a badge is written
 abbrev pub badge_way : Way BadgeMeaning
 badge_way = plain_table_way badge_rows (λ b. tt)
 
+-- the rows of the maintenance
 abbrev pub maintenance_rows : MaintenanceStatus → List Row
 maintenance_rows s = required_row (codes "status") status_way s ∷ []
 
+-- how the maintenance is written
 abbrev pub maintenance_way : Way MaintenanceStatus
 maintenance_way = plain_table_way maintenance_rows (λ s. tt)
 
+-- the rows of badges
 abbrev pub badges_rows : BadgesMeaning → List Row
 badges_rows b =
     optional_row (codes "appveyor") badge_way b.appveyor
@@ -249,11 +276,12 @@ badges_rows b =
     ∷ required_row (codes "maintenance") maintenance_way b.maintenance
     ∷ []
 
--- a status that says nothing, no badge of a service, and no badge at all
+-- whether a status says nothing
 abbrev pub is_unstated : MaintenanceStatus → Bool
 is_unstated status.None = true
 is_unstated _ = false
 
+-- whether there is no badge of a service
 abbrev pub has_no_service : BadgesMeaning → Bool
 has_no_service b =
     is_none b.appveyor
@@ -263,6 +291,7 @@ has_no_service b =
     && is_none b.codecov
     && is_none b.coveralls
 
+-- whether there is no badge at all
 abbrev pub has_no_badge : BadgesMeaning → Bool
 has_no_badge b =
     has_no_service b
@@ -270,5 +299,6 @@ has_no_badge b =
     && is_none b.is_it_maintained_open_issues
     && is_unstated b.maintenance
 
+-- how badges are written; they are left out where there is none
 abbrev pub badges_way : Way BadgesMeaning
 badges_way = record (plain_table_way badges_rows (λ b. tt)) { left_out = has_no_badge }

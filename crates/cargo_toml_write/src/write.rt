@@ -53,7 +53,8 @@ pub trait LeftOut: ToValue {
         ensures { result ≡ Self.way.left_out (Self.meaning self.now) };
 }
 
-/// Puts a value at a key. It fails only where memory runs out.
+/// Puts a value at a key, in place of one that stood there, which is dropped. Other keys stay. It
+/// fails only where memory runs out; no clause says what it then leaves.
 pub fn put(table: &mut Table, alloc: Global, key: &str, value: Value) -> Result<(), Error>
     ensures ok { OnOk result (table_view table.new
         ≡ put_member key.now (view value) (table_view table.old)) }

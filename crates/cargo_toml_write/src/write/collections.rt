@@ -37,7 +37,7 @@ impl<T: ToValue> LeftOut for Vec<T> {
     }
 }
 
-// The table of a map: its keys, each with the tree of its value.
+/// The table of a map: its keys, each with the tree of its value.
 pub(crate) fn table_of<T: ToValue>(alloc: Global, map: &BTreeMap<String, T>) -> Result<Table, Error>
     ensures { MakesTable T.way (map_meaning T.meaning map.now) result }
 {
@@ -68,7 +68,7 @@ impl<T: ToValue> LeftOut for BTreeMap<String, T> {
     }
 }
 
-/// The table `{ workspace = true }`, which says that the workspace gives a value.
+// The table `{ workspace = true }`, which says that the workspace gives a value.
 fn inherited_value(alloc: Global) -> Result<Value, Error>
     ensures { IsWriting left_way tt result }
 {

@@ -165,7 +165,7 @@ fn table_of(alloc: Global, lists: &FeatureSet, details: &FeatureDetails) -> Resu
     Ok(map_of_pairs(alloc, pairs)?)
 }
 
-// The features of a manifest.
+/// The features of a manifest.
 #[derive(Drop)]
 pub(crate) struct Features<'m> {
     pub(crate) lists: &'m FeatureSet,
@@ -180,6 +180,7 @@ impl ToValue for Features<'_> {
     ghost way = { features_way };
 
     fn to_value(&self, alloc: Global) -> Result<Value, Error> {
+        // called for its contract: the names of details ascend
         let _details_ascend = self.details.len();
         Ok(Value::Table(table_of(alloc, self.lists, self.details)?))
     }

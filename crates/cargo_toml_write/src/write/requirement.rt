@@ -9,7 +9,7 @@ ghost use Rattle.cargo_toml_write.specs.Requirements.{sign_of, comparator_text, 
 use semver::{Comparator, Op, Prerelease, VersionReq};
 use std::alloc::{AllocError, Global};
 
-/// The text of a requirement: `*` is any version.
+/// The text of a requirement: `*` is any version. It fails only where memory runs out.
 pub fn requirement_text(alloc: Global, requirement: &VersionReq) -> Result<String, AllocError>
     ensures { IfOk result (λ text. string_bytes text
         ≡ requirement_text (requirement_meaning requirement.now)) }
@@ -27,6 +27,7 @@ pub fn requirement_text(alloc: Global, requirement: &VersionReq) -> Result<Strin
     Ok(text)
 }
 
+// Writes a comparator: its operator's sign, and its numbers.
 fn push_comparator(text: &mut String, comparator: &Comparator) -> Result<(), AllocError>
     ensures { OnOk result (string_bytes text.new ≡ string_bytes text.old
         ++ comparator_text (comparator_view comparator.now)) }
@@ -37,6 +38,7 @@ fn push_comparator(text: &mut String, comparator: &Comparator) -> Result<(), All
     push_after_major(text, comparator)
 }
 
+// What stands before the first number.
 fn sign(op: Op) -> &'static str
     ensures { result.now ≡ sign_of op }
 {
@@ -52,7 +54,7 @@ fn sign(op: Op) -> &'static str
     }
 }
 
-/// What stands for the numbers that are left out.
+// What stands for the numbers that are left out.
 fn star(op: Op) -> &'static str
     ensures { result.now ≡ star_of op }
 {
@@ -62,7 +64,7 @@ fn star(op: Op) -> &'static str
     }
 }
 
-/// Writes what follows the first number.
+// Writes what follows the first number.
 fn push_after_major(text: &mut String, comparator: &Comparator) -> Result<(), AllocError>
     ensures { OnOk result (string_bytes text.new ≡ string_bytes text.old
         ++ after_major (star_of comparator.now.op) comparator.now.minor comparator.now.patch
@@ -79,6 +81,7 @@ fn push_after_major(text: &mut String, comparator: &Comparator) -> Result<(), Al
     push_pre(text, &comparator.pre)
 }
 
+// Writes what marks a version before its release, if anything does.
 fn push_pre(text: &mut String, pre: &Prerelease) -> Result<(), AllocError>
     ensures { OnOk result (string_bytes text.new ≡ string_bytes text.old
         ++ marked 45 (pre_text pre.now)) }

@@ -122,7 +122,7 @@ impl LeftOut for Profiles {
     }
 }
 
-/// Whether the level says all of a lint.
+// Whether the level says all of a lint.
 fn is_level_alone(lint: &Lint) -> bool
     ensures { result ≡ is_level_alone (lint_meaning lint.now) }
 {
@@ -227,7 +227,7 @@ impl ToValue for Badges {
     }
 }
 
-/// Whether there is no badge of a service.
+// Whether there is no badge of a service.
 fn has_no_service(badges: &Badges) -> bool
     ensures { result ≡ has_no_service (badges_meaning badges.now) }
 {
@@ -239,7 +239,7 @@ fn has_no_service(badges: &Badges) -> bool
         && badges.coveralls.is_none()
 }
 
-/// Whether the status says nothing of the maintenance.
+// Whether the status says nothing of the maintenance.
 fn is_unstated(status: MaintenanceStatus) -> bool
     ensures { result ≡ is_unstated status }
 {

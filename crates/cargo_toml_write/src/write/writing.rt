@@ -21,12 +21,12 @@ use toml::{Table, Value};
 /// nothing more is written.
 #[derive(Drop)]
 pub struct Writing {
-    /// Where memory is taken from.
-    pub alloc: Global,
-    /// What was written so far.
-    pub table: Table,
-    /// The first fault that was met.
-    pub fault: Option<Error>,
+    // where memory is taken from
+    alloc: Global,
+    // what was written so far
+    table: Table,
+    // the first fault that was met
+    fault: Option<Error>,
 }
 
 #[tactic(auto, unfolding(crate::specs::Writes::WritesFrom))]

@@ -1,5 +1,5 @@
 use Rattle.std.proofs.Common.{◌≡◌, [], map, sym, ap, rules, ◌∙◌}
-use Rattle.cargo_toml_graph.{specs.Admitted.Listed, specs.Admitted.admitted, proofs.Cut.Ascends, proofs.Cut.admitted_once, proofs.Cut.cut, proofs.Cut.cut_is_admitted}
+use Rattle.cargo_toml_graph.{specs.Admitted.Listed, specs.Admitted.admitted, proofs.Cut.admitted_once, proofs.Cut.cut, proofs.Cut.cut_is_admitted}
 use Rattle.cargo_toml_features.{specs.Views.listed_of, proofs.Listings.looked_up, proofs.Listings.sorted_ascends, proofs.Listings.sorted_entry, proofs.Listings.names_listed, proofs.Listings.one_listing}
 use Rattle.cargo_toml_features.proofs.admit.hashed_listings.Goals as goal
 

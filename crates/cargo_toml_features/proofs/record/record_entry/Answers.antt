@@ -1,9 +1,9 @@
 -- Entries recorded one after another.
-use Rattle.std.proofs.Common.{◌≡◌, ◌||◌, Bool, true, false, cond, Option, Some, None, is_some, option_map, unwrap_or, bytes_eq, refl, ap, subst, ◌∙◌, arith, rules}
+use Rattle.std.proofs.Common.{◌≡◌, ◌||◌, Bool, true, false, cond, Option, Some, is_some, bytes_eq, subst, arith, rules}
 use Rattle.std.{proofs.lemmas.Slice.Eq.bytes_eq-Decides, proofs.lemmas.Grind.common_steps, proofs.Math.Bool.or-true}
-use Rattle.cargo_toml_features.specs.{declared.features.FeatureDependency.FeatureDependency, Recorded.Entry, Views.recorded_in, FullGraph.recorded_after, FullGraph.recorded_at, FullGraph.recorded_nowhere, FullGraph.recorded_next}
+use Rattle.cargo_toml_features.specs.{declared.features.FeatureDependency.FeatureDependency, Recorded.Entry, FullGraph.recorded_after, FullGraph.recorded_at}
 use Rattle.cargo_toml_features.{specs.FullGraph.recorded_with, specs.Slots.held_in, specs.declared.slots.Slots.Slots, proofs.Placed.unfound, proofs.Placed.value_found, proofs.record.record_entry.Goals.then-is_counted-via-then-is_counted}
-use Rattle.cargo_toml_graph.{specs.Action.Text, proofs.Texts.bytes_eq_sym}
+use Rattle.cargo_toml_graph.{specs.Action.Text}
 use Rattle.cargo_toml_package.specs.Dependencies.{is_optional}
 use Rattle.cargo_toml_features.proofs.record.record_entry.Goals as goal
 

@@ -1,21 +1,37 @@
-use Rattle.std.proofs.Common.{rules, ◌≡◌, ◌<◌, ℕ, List, [], Bor, below_more, get_or, length, map, arith}
+use Rattle.std.proofs.Common.{rules, ◌≡◌, ◌<◌, ◌∙◌, sym, ℕ, List, [], Bor, None, Some, IfSome, MatchOption, get_or, length, map, arith, Option}
 use Rattle.std.proofs.lemmas.{List.get_or-map, List.length-map, Slice.Eq.bytes_eq-Decides}
-use Rattle.cargo_toml_graph.specs.Action.{Text}
+use Rattle.std.proofs.lemmas.Iterator.{YieldsList-from_slice, IsFirst-from_position}
+use Rattle.std.specs.List.{AllWithin, HoldsAt}
+use Rattle.cargo_toml_graph.specs.{Action.Text, Reach.Among}
 use Rattle.cargo_toml_features.{specs.Places.nth_text, proofs.ByPlace.at_among}
 use Rattle.cargo_toml_features.proofs.texts.first_of.Goals as goal
 
--- the text at a place, as the loop reads it
-read : (ts : List (Bor Text)) (i : ℕ) → i < length ts → nth_text (map (λ t. t.now) ts) i ≡ (get_or ts i (record { ref_ptr = (0, 0); now = [] })).now
-read ts i below = get_or-map (λ (t : Bor Text). t.now) ts i (record { ref_ptr = (0, 0); now = [] }) [] below
+abbrev nowhere : Bor Text
+nowhere = record { ref_ptr = (0, 0); now = [] }
 
-pub returns-then-is_same-clause-found : goal.returns-then-is_same-clause-found
-returns-then-is_same-clause-found c = search (rules, read, bytes_eq-Decides)
+-- the first place of the text, if there is one
+abbrev IsFirstPlace : List (Bor Text) → Text → Option ℕ → Type 0
+IsFirstPlace ts text o =
+    MatchOption o (AllWithin (λ (t : Bor Text). ¬ (t.now ≡ text)) ts 0 (length ts))
+    (λ i. (i < length ts) × HoldsAt (λ (t : Bor Text). t.now ≡ text) ts i × AllWithin (λ (t : Bor Text). ¬ (t.now ≡ text)) ts 0 i)
 
-pub loop-i-preserved : goal.loop-i-preserved
-loop-i-preserved c = search (rules, below_more, bytes_eq-Decides, read)
+text_at : (ts : List (Bor Text)) (i : ℕ) → i < length ts → nth_text (map (λ t. t.now) ts) i ≡ (get_or ts i nowhere).now
+text_at ts i below = get_or-map (λ (t : Bor Text). t.now) ts i nowhere [] below
 
-pub returns-clause-missing : goal.returns-clause-missing
-returns-clause-missing c = λ _ there.
+there_is : (ts : List (Bor Text)) (text : Text) (o : Option ℕ) → IsFirstPlace ts text o → IfSome o (λ i. (i < length ts) × (nth_text (map (λ t. t.now) ts) i ≡ text))
+there_is ts text None first = tt
+there_is ts text (Some i) first = (first.0, text_at ts i first.0 ∙ first.1 nowhere)
+
+there_is_none : (ts : List (Bor Text)) (text : Text) (o : Option ℕ) → IsFirstPlace ts text o → o ≡ None → ¬ Among (map (λ t. t.now) ts) text
+there_is_none ts text None first is there =
+    let k = at_among (map (λ (t : Bor Text). t.now) ts) text [] there in
+    let below : k.0 < length ts = (let inside = k.1 in omega (arith, inside, length-map ts (λ (t : Bor Text). t.now))) in
+    first k.0 nowhere (omega arith) below (sym (text_at ts k.0 below) ∙ k.2)
+there_is_none ts text (Some i) first is there = absurd cc
+
+pub returns : goal.returns
+returns c =
     let ts = c.args.texts.now in
-    let k = at_among (map (λ t. t.now) ts) c.args.text.now [] there in
-    c.loop-i.invariant k.0 (let below = k.1 in let end = c.loop-i-test.false in omega (arith, below, end, length-map ts (λ (t : Bor Text). t.now))) k.2
+    let text = c.args.text.now in
+    let first : IsFirstPlace ts text c.position.result = IsFirst-from_position _ _ c.position.result (λ (t : Bor Text). t.now ≡ text) (λ (t : Bor Text). ¬ (t.now ≡ text)) c.position.ensures.ran (YieldsList-from_slice ts c.iter.ensures.rest) (λ x q k. search (rules, bytes_eq-Decides)) (λ x q k. search (rules, bytes_eq-Decides)) in
+    record { found = there_is ts text c.position.result first; missing = there_is_none ts text c.position.result first }

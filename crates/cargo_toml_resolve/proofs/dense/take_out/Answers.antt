@@ -4,7 +4,7 @@ use Rattle.cargo_toml_graph.specs.Reach.{Among, GathersLabel, Reaches}
 use Rattle.cargo_toml_resolve.specs.{Bits.Holds, Numbers.IsRedirect, Numbers.IsWanted, Numbers.Leads}
 use Rattle.cargo_toml_resolve.proofs.RowsInOrder.{Labels, Paths, Redirect, all_labels, all_paths, first_labels, first_paths, more_labels, more_paths, none_finished, redirect_row, same_labels, same_paths, table_alike, table_gains, all_moved}
 use Rattle.cargo_toml_resolve.proofs.{RowsInOrder.one_more_finished, RowsInOrder.still_finished, Steps.has_row, Tabled.holds_inside, NumberRows.IsFilled, NumberRows.none_filled, NumberRows.one_more_filled}
-use Rattle.cargo_toml_resolve.proofs.dense.take_out.Goals.{then-is_removed-r+in_ok-row+in_ok-push+in_ok-parents+in_ok-pass_on+in_ok-pass_on-2, else-is_removed-r+in_ok-push-2}
+use Rattle.cargo_toml_resolve.proofs.dense.take_out.Goals.{then-is_removed-r+in_ok-row+in_ok-push+in_ok-parents+in_ok-pass_on+in_ok-pass_on-2, else-is_removed-r+in_ok-push_none}
 use Rattle.cargo_toml_resolve.proofs.dense.take_out.Goals as goal
 
 pub loop-r-init : goal.loop-r-init
@@ -73,7 +73,7 @@ loop-r-preserved c =
             rows = subst (IsFilled (Redirect es ls removed) (r + 1)) (sym (rw w.as_slice-then-is_removed-r-2.ensures.value at w.in_ok-push.ensures))
                 (one_more_filled (Redirect es ls removed) r c.loop-r.rows w.in_ok-row.row.items old.rows (λ x. (λ i. (gone, (row x).0 i), λ p. (row x).1 p.1)));
           })
-      | else-is_removed-r+in_ok-push-2 w ↦
+      | else-is_removed-r+in_ok-push_none w ↦
           let kept : IsWanted removed false c.loop-r.r = search rules in
           rw (w.rows-is, w.finished-is, w.paths-is, w.gathered-is) (record {
             paths = table_alike (Paths removed es ls r) (Paths removed es ls (r + 1)) width n c.loop-r.paths.items (same_paths removed es ls r kept) old.paths;

@@ -1,5 +1,5 @@
 use Rattle.std.proofs.Common.{arith, ◌≡◌, ◌↔◌, ◌<◌, ◌∙◌, ℕ, List, Bor, true, false, length, [], refl, ap, sym, subst}
-use Rattle.{std.proofs.lemmas.Grind.common_steps, std.proofs.lemmas.Bool.false≢true, cargo_toml_features.specs.Places.nth_text, cargo_toml_resolve.specs.Parts.but_enablers}
+use Rattle.{std.proofs.lemmas.Result.on_ok_weaker, std.proofs.lemmas.Grind.common_steps, std.proofs.lemmas.Bool.false≢true, cargo_toml_features.specs.Places.nth_text, cargo_toml_resolve.specs.Parts.but_enablers}
 use Rattle.cargo_toml_graph.specs.{Action.Text, Reach.Among, Reach.Reaches, Reach.Reaches.edge}
 use Rattle.cargo_toml_resolve.specs.{Numbers.IsPassed, Numbers.IsWanted, Numbers.KeepsLabel, Numbers.Leads, Numbers.PassesAny, Numbers.row_items, Enabling.GainEnabler, Holding.HasTextsOf, Holding.ComesToHold, Texts.texts_now}
 use Rattle.cargo_toml_resolve.proofs.{InPlace.alike_len, TakenOver.directly, TakenOver.passes_none, TakenOver.source_is, TakenOver.stays_as_it_is, TakenOver.takes_over, Steps.path_inside}
@@ -24,9 +24,11 @@ returns-then-not-has_flagged-clause-kept c =
     let is : (b : ℕ) → Among [] b ↔ IsPassed g.edges fs own b = passes_none g.edges fs own clean in
     let here : own < length g.texts.items = let lt = c.requires.own in let n = g.features_count in omega (arith, lt, n) in
     let source : c.index-source.result.now.now ≡ nth_text ts own = source_is g.texts.items own c.place.result c.index-source.result.now here c.place.ensures c.index-source.ensures in
-    let gain : GainEnabler (Among (row_items g.edges own)) (nth_text ts own) vs ws =
-    subst (λ e. GainEnabler (Among (row_items g.edges own)) e vs ws) source (subst (λ l. GainEnabler (Among l) c.index-source.result.now.now vs ws) c.row-row.ensures c.in_ok-enable_along.ensures) in
-    stays_as_it_is g.edges g.names fs ts own c.requires.kept [] is (Among (row_items g.edges own)) (directly g.edges g.names fs ts own c.requires.kept [] is refl) vs ws gain refl
+    let gain : GainEnabler (Among c.row-row.result.now) c.index-source.result.now.now vs ws → GainEnabler (Among (row_items g.edges own)) (nth_text ts own) vs ws =
+    λ gained. subst (λ e. GainEnabler (Among (row_items g.edges own)) e vs ws) source (subst (λ l. GainEnabler (Among l) c.index-source.result.now.now vs ws) c.row-row.ensures gained) in
+    on_ok_weaker c.enable_along.result
+    (λ gained. stays_as_it_is g.edges g.names fs ts own c.requires.kept [] is (Among (row_items g.edges own)) (directly g.edges g.names fs ts own c.requires.kept [] is refl) vs ws (gain gained) refl)
+    c.enable_along.ensures
 
 pub enable_along-requires-2 : goal.enable_along-requires-2
 enable_along-requires-2 c = λ y i.
@@ -41,13 +43,13 @@ pub set_of_nodes-requires : goal.set_of_nodes-requires
 set_of_nodes-requires c = grind (arith, common_steps, c.in_ok-name.ensures.names)
 
 pub hold-requires-clause-at : goal.hold-requires-clause-at
-hold-requires-clause-at c = subst (λ n. c.args.own < n) (c.requires.count ∙ sym (alike_len but_enablers c.args.features.now.items c.enable_along-2.new.features.items c.in_ok-enable_along-2.ensures.same)) c.requires.own
+hold-requires-clause-at c = subst (λ n. c.args.own < n) (c.requires.count ∙ sym (alike_len but_enablers c.args.features.now.items c.enable_along-2.new.features.items c.in_ok-enable_along.ensures.same)) c.requires.own
 
 pub hold-requires-clause-passed : goal.hold-requires-clause-passed
 hold-requires-clause-passed c = λ b i.
     let g = c.args.graph.now in
     let same : c.as_slice-5.result.now ≡ c.pass.new.self.walk.passed.items = c.as_slice-5.ensures.value ∙ ap (λ v. v.items) (c.in_ok-name.ensures.passed ∙ c.in_ok-target.ensures.passed) in
-    subst (λ n. b < n) (c.requires.count ∙ sym (alike_len but_enablers c.args.features.now.items c.enable_along-2.new.features.items c.in_ok-enable_along-2.ensures.same)) (path_inside (length g.edges) g.edges_inside ((c.in_ok-pass.ensures.passed b).0 (subst (λ l. Among l b) same i)).1)
+    subst (λ n. b < n) (c.requires.count ∙ sym (alike_len but_enablers c.args.features.now.items c.enable_along-2.new.features.items c.in_ok-enable_along.ensures.same)) (path_inside (length g.edges) g.edges_inside ((c.in_ok-pass.ensures.passed b).0 (subst (λ l. Among l b) same i)).1)
 
 pub hold-requires-clause-apart : goal.hold-requires-clause-apart
 hold-requires-clause-apart c = grind (arith, common_steps, c.in_ok-pass.ensures.passed)
@@ -75,7 +77,9 @@ returns-clause-kept c =
     let n : (x : ℕ) → Among named x ↔ KeepsLabel g.edges fs g.names own x = subst (λ l. (x : ℕ) → Among l x ↔ KeepsLabel g.edges fs g.names own x) (sym c.as_slice-3.ensures.value) c.in_ok-name.ensures.names in
     let here : own < length g.texts.items = let lt = c.requires.own in let k = g.features_count in omega (arith, lt, k) in
     let source : c.index-source.result.now.now ≡ nth_text ts own = source_is g.texts.items own c.place.result c.index-source.result.now here c.place.ensures c.index-source.ensures in
-    let gain : GainEnabler (Among targets) (nth_text ts own) vs ws = subst (λ e. GainEnabler (Among targets) e vs ws) source c.in_ok-enable_along-2.ensures in
+    let gain : GainEnabler (Among targets) (nth_text ts own) vs ws = subst (λ e. GainEnabler (Among targets) e vs ws) source c.in_ok-enable_along.ensures in
     let has : HasTextsOf ts named set = subst (λ (us : List (Bor Text)). HasTextsOf (texts_now us) named set) c.as_slice-4.ensures.value c.in_ok-names.ensures in
-    takes_over g.edges g.names fs ts own c.requires.kept passed is (Among targets) t vs ws gain any named n set has us
-    (subst (λ p. ComesToHold own p set ws us) same c.in_ok-hold.ensures)
+    on_ok_weaker c.hold.result
+    (λ held. takes_over g.edges g.names fs ts own c.requires.kept passed is (Among targets) t vs ws gain any named n set has us
+    (subst (λ p. ComesToHold own p set ws us) same held))
+    c.hold.ensures

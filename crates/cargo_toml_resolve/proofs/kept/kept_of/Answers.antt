@@ -144,28 +144,28 @@ module _ (t : Table) (removed : Text → Bool) (old new : List Feature) (g : Gra
         }
 
 pub hashed_apart-requires-clause-in_order : goal.hashed_apart-requires-clause-in_order
-hashed_apart-requires-clause-in_order g c = subst Ascend (sym (names_alike said_of c.args.features.items c.place.new.features.items c.in_ok-walked.ensures.same)) c.requires.in_order
+hashed_apart-requires-clause-in_order g c = subst Ascend (sym (names_alike said_of c.args.features.items c.remove.new.features.items c.in_ok-walked.ensures.same)) c.requires.in_order
 
 pub hashed_apart-requires-clause-own : goal.hashed_apart-requires-clause-own
 hashed_apart-requires-clause-own g c =
     let vs = c.args.features.items in
-    own_sets (table_among vs) (flag_at vs c.args.flags.now) vs c.place.new.features.items c.in_ok-graph.graph c.in_ok-walked.walked
+    own_sets (table_among vs) (flag_at vs c.args.flags.now) vs c.remove.new.features.items c.in_ok-graph.graph c.in_ok-walked.walked
     ((rw c.as_slice.ensures.value at c.in_ok-graph.ensures.numbered) (table_among vs) (flag_at vs c.args.flags.now) (own_table vs) (flag_is vs c.args.flags.now)) c.in_ok-walked.ensures
 
 pub hashed_apart-requires-clause-count : goal.hashed_apart-requires-clause-count
-hashed_apart-requires-clause-count g c = c.in_ok-walked.ensures.count ∙ sym (alike_len said_of c.args.features.items c.place.new.features.items c.in_ok-walked.ensures.same)
+hashed_apart-requires-clause-count g c = c.in_ok-walked.ensures.count ∙ sym (alike_len said_of c.args.features.items c.remove.new.features.items c.in_ok-walked.ensures.same)
 
 pub returns-in_ok-walked : goal.returns-in_ok-walked
 returns-in_ok-walked g c = if_ok_weaker c.hashed_apart.result _ _ (λ l hashed t removed same removed_is.
-    are_kept t removed c.args.features.items c.place.new.features.items c.in_ok-graph.graph c.in_ok-walked.walked
+    are_kept t removed c.args.features.items c.remove.new.features.items c.in_ok-graph.graph c.in_ok-walked.walked
     ((rw c.as_slice.ensures.value at c.in_ok-graph.ensures.numbered) t removed same removed_is) c.in_ok-walked.ensures l.features l.hidden hashed) c.hashed_apart.ensures
 
-pub keep_all-requires : goal.keep_all-requires
-keep_all-requires g c = in_order_still c.args.features.items c.set_enablers.new.features.items c.in_ok-set_enablers.ensures.same c.requires.in_order
+pub all_hashed-requires : goal.all_hashed-requires
+all_hashed-requires g c = in_order_still c.args.features.items c.set_enablers.new.features.items c.in_ok-set_enablers.ensures.same c.requires.in_order
 
 pub returns-in_ok-set_enablers : goal.returns-in_ok-set_enablers
-returns-in_ok-set_enablers g c = if_ok_weaker c.keep_all.result _ _ (λ l h t removed made removed_is.
+returns-in_ok-set_enablers g c = if_ok_weaker c.all_hashed.result _ _ (λ l h t removed made removed_is.
     kept_still c.args.features.items c.set_enablers.new.features.items c.in_ok-set_enablers.ensures.same t removed l.features l.hidden (h t removed (c.in_ok-set_enablers.ensures.unremoved t made) (λ f gone.
     let flagged = (removed_is f).0 gone in
     let below : flagged.0 < length c.args.flags.now = subst (λ n. flagged.0 < n) (sym c.requires.count) flagged.1 in
-    false≢true (sym (c.if-contains.ensures.cases flagged.0 false (omega arith) below) ∙ ap (λ b. beq b true) flagged.3)))) c.keep_all.ensures
+    false≢true (sym (c.if-contains.ensures.cases flagged.0 false (omega arith) below) ∙ ap (λ b. beq b true) flagged.3)))) c.all_hashed.ensures

@@ -1,4 +1,4 @@
-use Rattle.{std.proofs.Common.false, std.proofs.Common.length, std.proofs.Common.arith, cargo_toml_graph.specs.Reach.Among}
+use Rattle.{std.proofs.lemmas.Result.on_ok_weaker, std.proofs.Common.false, std.proofs.Common.length, std.proofs.Common.arith, cargo_toml_graph.specs.Reach.Among}
 use Rattle.cargo_toml_resolve.proofs.{Steps.reached, Steps.path_inside, Tabled.flagged_row, Tabled.row_below, Tabled.row_wide}
 use Rattle.cargo_toml_resolve.proofs.finder.Finder.target.Goals as goal
 
@@ -19,9 +19,12 @@ returns-in_ok-self-in-Some-clause-targets c =
 pub label-requires-clause-passed : goal.label-requires-clause-passed
 label-requires-clause-passed c = λ b i. path_inside (length c.args.graph.now.edges) c.args.graph.now.edges_inside ((c.requires.passed b).0 i).1
 
-pub returns-in_ok-label-in-None-clause-targets : goal.returns-in_ok-label-in-None-clause-targets
-returns-in_ok-label-in-None-clause-targets c = λ x.
+pub returns-in-None-clause-targets : goal.returns-in-None-clause-targets
+returns-in-None-clause-targets c =
     let g = c.args.graph.now in
+    on_ok_weaker c.label.result
+    (λ labels x.
     let r = reached g.edges g.flags.items (Among c.args.self.now.walk.passed.items) c.args.own c.requires.passed x in
-    let l = (rw c.as_slice-flags.ensures.value at c.in_ok-label-in-None.ensures.labels) x in
-    (λ i. r.0 (l.0 i), λ p. l.1 (r.1 p))
+    let l = labels x in
+    (λ i. r.0 (l.0 i), λ p. l.1 (r.1 p)))
+    (rw c.as_slice-flags.ensures.value at c.label.ensures.labels)

@@ -1,5 +1,5 @@
 use Rattle.std.proofs.Common.{◌≡◌, ◌<◌, ◌↔◌, IsTrue, ℕ, Bor, length, take, refl, sym, subst, [], arith}
-use Rattle.{std.proofs.lemmas.List.length-take-le, std.proofs.lemmas.List.take-map, cargo_toml_resolve.specs.Numbering.Gains, cargo_toml_resolve.specs.Texts.texts_now}
+use Rattle.{std.proofs.lemmas.Result.on_ok_weaker, std.proofs.lemmas.List.length-take-le, std.proofs.lemmas.List.take-map, cargo_toml_resolve.specs.Numbering.Gains, cargo_toml_resolve.specs.Texts.texts_now}
 use Rattle.cargo_toml_graph.specs.{Action.Text, Ascending.Ascend, Reach.Among, Graph.IsPlain}
 use Rattle.cargo_toml_features.specs.{Places.nth_text, Views.action_at, Views.set_has}
 use Rattle.cargo_toml_resolve.proofs.NumberRows.{both_gained, gained_alike, named_gained, fits_now, front_still, front_text, nth_still, texts_longer}
@@ -29,9 +29,11 @@ returns-clause-edges c =
     (λ x lt. subst (λ k. IsTrue (set_has v.enables_features (nth_text (texts_now new) x)) ↔ IsTrue (set_has v.enables_features k)) (still x lt) (λ i. i, λ i. i))
     (named_gained n own (texts_now new) (λ k. IsTrue (set_has v.enables_features k)) c.name_row.new.row.items [] mid c.in_ok-name_row.ensures.names
     (subst (λ xs. Gains n own (Among xs) [] mid) c.as_slice.ensures.value (subst (λ xs. Gains n own (Among c.as_slice.result.now) xs mid) c.clear.ensures.items c.in_ok-push_keys.ensures))) in
-    let acted : Gains n own (λ x. IsPlain (action_at v.enables_deps (nth_text (texts_now old) x))) mid edges =
+    let acted : Gains (length (take n new)) own (λ x. IsPlain (action_at v.enables_deps (nth_text (texts_now (take n new)) x))) mid edges
+    → Gains n own (λ x. IsPlain (action_at v.enables_deps (nth_text (texts_now old) x))) mid edges =
     gained_alike (length (take n new)) n own (λ x. IsPlain (action_at v.enables_deps (nth_text (texts_now (take n new)) x))) (λ x. IsPlain (action_at v.enables_deps (nth_text (texts_now old) x))) mid edges
     (length-take-le n new (texts_longer n old new c.requires.fits more))
-    (λ x lt. subst (λ k. IsPlain (action_at v.enables_deps (nth_text (texts_now (take n new)) x)) ↔ IsPlain (action_at v.enables_deps k)) (front_text n old new c.requires.fits more x lt) (λ i. i, λ i. i))
-    (rw c.deref.ensures.value at c.in_ok-push_actions.ensures) in
-    both_gained n own (λ x. IsTrue (set_has v.enables_features (nth_text (texts_now old) x))) (λ x. IsPlain (action_at v.enables_deps (nth_text (texts_now old) x))) [] mid edges named acted
+    (λ x lt. subst (λ k. IsPlain (action_at v.enables_deps (nth_text (texts_now (take n new)) x)) ↔ IsPlain (action_at v.enables_deps k)) (front_text n old new c.requires.fits more x lt) (λ i. i, λ i. i)) in
+    on_ok_weaker c.push_actions.result
+    (λ gained. both_gained n own (λ x. IsTrue (set_has v.enables_features (nth_text (texts_now old) x))) (λ x. IsPlain (action_at v.enables_deps (nth_text (texts_now old) x))) [] mid edges named (acted gained))
+    (rw c.deref.ensures.value at c.push_actions.ensures)

@@ -9,7 +9,7 @@ use Rattle.cargo_toml_resolve.specs.{NumberedTables.HasNumber, Numbers.IsWanted,
 use Rattle.cargo_toml_resolve.specs.{Passing.bins_of, Passing.passed_below, Passing.AreSameButBins, Holding.AllTakeOver, Dense.AreRedirects, Parts.but_bins, Parts.deeds_of, Parts.Said, Texts.texts_now}
 use Rattle.cargo_toml_resolve.proofs.{BinTurns.stands_true, BinTurns.true_stands, Answered.is_kept_feature, InPlace.found_at, InPlace.no_enabler, InPlace.alike_at, InPlace.alike_len, InPlace.alike_place, InPlace.stood, InPlace.alike_too}
 use Rattle.cargo_toml_resolve.proofs.Answered as numbered
-use Rattle.cargo_toml_resolve.proofs.removal.place.Goals as goal
+use Rattle.cargo_toml_resolve.proofs.removal.remove.Goals as goal
 
 -- the texts of the flagged numbers below n
 abbrev names_below : List Text → List Bool → ℕ → List Text

@@ -38,9 +38,11 @@ use Rattle.cargo_toml_lint.specs.declared.finding.Level.TheVariants.{Error, Hint
 abbrev pub About : Type 0
 About = Code × Text × Text
 
+-- the code, if that is so
 abbrev pub when : Bool → Code → Option Code
 when b c = if b then Some c else None
 
+-- the code of the feature f and its text t, if there is one
 abbrev pub told : Text → Text → Option Code → List About
 told f t None = []
 told f t (Some c) = (c, f, t) ∷ []
@@ -60,6 +62,7 @@ abbrev pub action_fault : Names → Text → Bool → Option Code
 action_fault n k marked =
     if not (n.dependency k) then Some Unknown else when (marked && not (n.optional k)) NotOptional
 
+-- with an item in the list of f
 abbrev pub item_fault : Names → Text → Item → Option Code
 item_fault n f (Name x) = name_fault n f x
 item_fault n f (On k a) = action_fault n k (a.is_dep_only || a.is_conditional)
@@ -108,6 +111,7 @@ asked_of (simple r) = []
 asked_of (inherited i) = i.features
 asked_of (detailed d) = d.features
 
+-- of the texts that are asked for of the dependency k
 abbrev pub request_findings : Text → List Text → List About
 request_findings k ts = flat_map (λ t. told k t (when (not (is_feature_name t)) BadRequest)) ts
 
@@ -123,6 +127,7 @@ table_findings dev n [] = []
 table_findings dev n (e ∷ es) =
     entry_findings dev (n == 0) e.0 e.1 ++ table_findings dev (n - 1) es
 
+-- of the three tables of a target
 abbrev pub target_findings : ℕ → TargetMeaning → List About
 target_findings limit t =
     table_findings false limit t.dependencies
@@ -224,6 +229,7 @@ code_level OverLimit = Warning
 code_level Unreachable = Warning
 code_level _ = Error
 
+-- what a finding is about
 abbrev pub about : Finding → About
 about x = (x.code, x.feature.now, x.text.now)
 

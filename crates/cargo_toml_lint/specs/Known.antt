@@ -14,9 +14,11 @@ use Rattle.cargo_toml.specs.Targets.{TargetMeaning}
 abbrev pub Marked : Type 0
 Marked = List (Text × Bool)
 
+-- whether the key is among them
 abbrev pub has_key : Marked → Text → Bool
 has_key ks k = list_any (λ p. bytes_eq k p.0) ks
 
+-- whether it is among them, and marked
 abbrev pub has_marked : Marked → Text → Bool
 has_marked ks k = list_any (λ p. bytes_eq k p.0 && p.1) ks
 
@@ -24,6 +26,7 @@ has_marked ks k = list_any (λ p. bytes_eq k p.0 && p.1) ks
 abbrev pub keys_in : Entries → Marked
 keys_in entries = map (λ e. (e.0, is_optional e.1)) entries
 
+-- the keys of the three tables of a target
 abbrev pub target_keys : TargetMeaning → Marked
 target_keys t =
     keys_in t.dependencies ++ (keys_in t.build_dependencies ++ keys_in t.dev_dependencies)
@@ -41,6 +44,7 @@ acted_in (On k a) = (k, a.is_dep_only) ∷ []
 abbrev pub acted_by : List Text → Marked
 acted_by texts = flat_map (λ t. acted_in (item_of t)) texts
 
+-- the keys on which the lists of a table of features act
 abbrev pub acted_keys : Listed → Marked
 acted_keys listed = flat_map (λ e. acted_by e.1) listed
 
@@ -57,6 +61,7 @@ pub record Names : Type 0 where
   -- those that some text names by `dep:`
   pub reserved : Text → Bool
 
+-- whether the table of features has the name
 abbrev pub is_name : Listed → Text → Bool
 is_name listed f = list_any (λ e. bytes_eq f e.0) listed
 

@@ -15,13 +15,16 @@ use Rattle.cargo_toml_parts.specs.Products.{ProductMeaning}
 abbrev pub cell_text : Option Text → Text
 cell_text cell = codes " | " ++ unwrap_or cell (codes "-")
 
+-- the path of a product
 abbrev pub place_text : ProductMeaning → Text
 place_text p = cell_text p.name ++ cell_text p.path
 
+-- the line of the library
 abbrev pub library_text : Option ProductMeaning → Text
 library_text None = []
 library_text (Some p) = codes "lib" ++ (place_text p ++ (10 ∷ []))
 
+-- the features that a product requires
 abbrev pub required_text : ProductMeaning → Text
 required_text p = codes " | required: " ++ between_commas (λ t. t) p.required_features
 

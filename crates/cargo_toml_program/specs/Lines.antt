@@ -52,6 +52,7 @@ marks_by true false = codes "?"
 marks_by false true = codes "!"
 marks_by false false = []
 
+-- the marks of an action
 abbrev pub marks_text : DepAction → Text
 marks_text a = marks_by a.is_conditional a.is_dep_only
 
@@ -60,10 +61,12 @@ abbrev pub action_text : Bor Text × DepAction → Text
 action_text e =
     e.0.now ++ (marks_text e.1 ++ flat_map (λ f. codes "/" ++ f.now) e.1.dep_features.keys)
 
+-- whether the manifest lists the feature
 abbrev pub origin_by : Bool → Text
 origin_by true = codes " | explicit"
 origin_by false = codes " | implied"
 
+-- the same of a feature
 abbrev pub origin_text : Feature → Text
 origin_text v = origin_by v.explicit
 
@@ -71,10 +74,12 @@ origin_text v = origin_by v.explicit
 abbrev pub head_text : Feature → Text
 head_text v = codes "feature " ++ (v.key.now ++ origin_text v)
 
+-- a mark where the feature is private
 abbrev pub privacy_by : Bool → Text
 privacy_by true = []
 privacy_by false = codes " | private"
 
+-- the same of a feature
 abbrev pub privacy_text : Feature → Text
 privacy_text v = privacy_by v.public
 

@@ -15,7 +15,7 @@ use Rattle.cargo_toml_parts.specs.Products.{ProductMeaning}
 abbrev pub cell_text : Option Text → Text
 cell_text cell = codes " | " ++ unwrap_or cell (codes "-")
 
--- the path of a product
+-- the cells of the name and the path of a product
 abbrev pub place_text : ProductMeaning → Text
 place_text p = cell_text p.name ++ cell_text p.path
 

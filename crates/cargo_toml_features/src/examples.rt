@@ -6,8 +6,8 @@ ghost use Rattle.std.specs.Prelude.{◌≡◌, ◌↔◌, ◌⊎◌, ◌∷◌, 
 ghost use Rattle.std.specs.Prelude.{option_map, true, IsFalse, IsSome, IsTrue};
 ghost use Rattle.std.specs.Option.{IsSomeAnd};
 ghost use Rattle.cargo_toml_package.specs.Dependencies.{simple};
-ghost use Rattle.cargo_toml_graph.specs.{Action.Text, Admitted.Listed, Examples.features_alone};
-ghost use Rattle.cargo_toml_graph.specs.{Examples.left_of, Graph.Edge, Reach.Among};
+ghost use Rattle.cargo_toml_graph.specs.{Action.Text, Admitted.Listed, SmallTables.features_alone};
+ghost use Rattle.cargo_toml_graph.specs.{SmallTables.left_of, Graph.Edge, Reach.Among};
 ghost use Rattle.cargo_toml_graph.specs.Recursive.{Enables};
 ghost use Rattle.cargo_toml_features.specs.declared.features.Kind.TheVariants.{Build, Dev, Normal};
 ghost use Rattle.cargo_toml_features.specs.Examples.{detail, hidden_conditional, hidden_dep_only};

@@ -2,7 +2,7 @@
 use Rattle.std.proofs.Common.{◌≡◌, ◌≢◌, ◌⊎◌, ◌↔◌, false, ◌||◌, IsTrue, [], ◌∷◌, map, is_some, codes, bytes_eq, refl, sym, subst, inl, inr, ◌∙◌, rules}
 use Rattle.std.proofs.lemmas.{Bool.false≢true, Bool.or_cases, Slice.Eq.bytes_eq-Decides}
 use Rattle.std.{specs.Map.lookup, specs.List.AllByRecursion, proofs.Common.arith}
-use Rattle.cargo_toml_graph.specs.{Action.Text, Admitted.Listed, Admitted.is_explicit, Admitted.is_below, Examples.features_alone, Examples.left_of, Examples.ring}
+use Rattle.cargo_toml_graph.specs.{Action.Text, Admitted.Listed, Admitted.is_explicit, Admitted.is_below, SmallTables.features_alone, SmallTables.left_of, SmallTables.ring}
 use Rattle.cargo_toml_graph.specs.{Graph.Table, Graph.KeepsName, Graph.IsEnabledBy, Graph.IsResolved, Graph.IsKept, Reach.Among, Recursive.Enables}
 use Rattle.cargo_toml_graph.specs.{Recursive.Enables.itself, Recursive.Enables.further, Redirects.RedirectsTo, Removal.unremoved}
 use Rattle.cargo_toml_graph.proofs.{Texts.same, Edges.unremoved_is, Elimination.all_taken_out, RedirectsInOrder.redirect_by_bytes, SortedTexts.all_among, SortedTexts.one_ascends}

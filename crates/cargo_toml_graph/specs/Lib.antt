@@ -10,4 +10,4 @@ pub mod Kept
 pub mod Admitted
 pub mod Ascending
 -- worked examples, which compute: nothing here has to be believed
-pub mod Examples
+pub mod SmallTables

@@ -10,7 +10,7 @@ ghost use Rattle.cargo_toml_program.specs.Printing.{IsOfManifest};
 use crate::features::feature_lines;
 use cargo_toml_manifest::Manifest;
 use cargo_toml_parts::Error;
-use cargo_toml_resolver::features::Resolver;
+use cargo_toml_resolver::resolving::Resolver;
 use std::alloc::Global;
 use std::io::{Read, Write};
 

@@ -8,12 +8,12 @@ ghost use Rattle.cargo_toml_resolve.specs.{KeptFeatures.AreKept, Numbering.IsFla
 ghost use Rattle.cargo_toml_resolve.specs.{Numbers.IsWanted, Numbers.row_items, Placed.AreHashed};
 ghost use Rattle.cargo_toml_resolve.specs.{Placed.PutsRedirect, Texts.texts_now};
 
-use crate::elimination::place;
 use crate::enabling::set_enablers;
 use crate::graph::Walked;
 use crate::hashing::{hashed_features, put};
 use crate::node_sets::set_of_nodes;
 use crate::numbering::number;
+use crate::removal::place;
 use cargo_toml_features::features::Feature;
 use cargo_toml_features::node::Node;
 use std::alloc::{AllocError, Global};

@@ -6,7 +6,6 @@
 
 pub mod bits;
 pub mod dense;
-pub mod elimination;
 pub mod enabling;
 pub mod filter;
 mod finder;
@@ -21,6 +20,7 @@ pub mod node_sets;
 pub mod numbering;
 pub mod passing;
 pub mod redirects;
+pub mod removal;
 pub mod resolution;
 pub mod rows;
 pub mod span;

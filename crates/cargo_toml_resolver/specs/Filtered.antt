@@ -1,6 +1,6 @@
 -- What a resolver was made with.
 use Rattle.std.specs.{Prelude.ℕ, Prelude.Option, Borrow.Bor}
-use Rattle.cargo_toml_resolver.specs.declared.features.Resolver.{Resolver}
+use Rattle.cargo_toml_resolver.specs.declared.resolving.Resolver.{Resolver}
 
 module _ {F S : Type 0} (r : Resolver F S) where
   -- the filter, if any

@@ -13,7 +13,7 @@ ghost use Rattle.cargo_toml_resolver.specs.Lent.{IsLentAfter, IsLentAs, IsLentOn
 ghost use Rattle.cargo_toml_resolver.specs.Lent.{IsResolvedAfter, with_lent};
 ghost use Rattle.cargo_toml_resolver.specs.Parsed.{IsResolvedFor};
 
-use crate::features::{Features, Resolver};
+use crate::resolving::{Features, Resolver};
 use cargo_toml_manifest::{AbstractFilesystem, Manifest};
 use cargo_toml_parts::Error;
 use std::alloc::Global;

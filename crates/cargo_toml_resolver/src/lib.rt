@@ -4,6 +4,6 @@
 #![tactic(auto)]
 
 mod complete_and_parse;
-pub mod features;
 mod heap;
 pub mod requirements;
+pub mod resolving;

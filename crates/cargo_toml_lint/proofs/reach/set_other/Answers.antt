@@ -2,5 +2,8 @@ use Rattle.std.proofs.Common.{arith}
 use Rattle.cargo_toml_lint.proofs.Rows.{flag_set}
 use Rattle.cargo_toml_lint.proofs.reach.set_other.Goals as goal
 
-pub returns-clause-put : goal.returns-clause-put
-returns-clause-put c = λ y. grind (arith, flag_set c.args.flags.now.items c.args.x c.requires)
+pub returns-then-x-own-clause-put : goal.returns-then-x-own-clause-put
+returns-then-x-own-clause-put c = λ y. grind (arith, flag_set c.args.flags.now.items c.args.x c.requires y, c.if-x-own.true)
+
+pub returns-else-x-own-clause-put : goal.returns-else-x-own-clause-put
+returns-else-x-own-clause-put c = λ y. grind (arith, c.if-x-own.false)

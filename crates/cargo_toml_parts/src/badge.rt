@@ -53,8 +53,8 @@ pub struct Badges {
     pub is_it_maintained_issue_resolution: Option<Badge>,
     /// The badge `is-it-maintained-open-issues`.
     pub is_it_maintained_open_issues: Option<Badge>,
-    /// How the package is maintained: the badge `maintenance`, of status none where it is missing or
-    /// doesn't read.
+    /// How the package is maintained: the badge `maintenance`, of status none where it is missing
+    /// or doesn't read.
     pub maintenance: Maintenance,
 }
 

@@ -145,8 +145,8 @@ impl Dependency {
         self.detail()?.git.as_deref()
     }
 
-    /// The revision that a detail names by the key `rev`; `None` without a detail, or where it names
-    /// none.
+    /// The revision that a detail names by the key `rev`; `None` without a detail, or where it
+    /// names none.
     pub fn git_rev(&self) -> Option<&str>
         ensures { option_map (λ t. t.now) result ≡ rev_of (dependency_meaning self.now) }
     {

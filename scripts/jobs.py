@@ -171,7 +171,7 @@ class Run:
         self.name, self.crate, self.words = f"{what} of {crate}", crate, words
         self.folder, self.below = f"{CRATES}/{crate}", below(crate)
         self.data = files_below(f"{self.folder}/data")
-        self.sources = [f"{self.folder}/{it}" for it in ("args", "stdout", "status")] + self.data
+        self.sources = [f"{self.folder}/{it}" for it in ("args", "stdin", "stdout", "status")] + self.data
         self.passed, self.failed, self.skipped = 0, {}, {}
 
 
@@ -254,7 +254,8 @@ fn main(rt: HostRuntime) -> ExitCode {
 
 class Programs(Job):
     """Runs of several programs, built as one by `rt try`. In a copy of their sources each program
-    is a library with a public `main`, and a case of `rt try --cases` for each names it."""
+    is a library with a public `main`, and a case of `rt try --cases` for each names it, before what
+    it reads itself."""
 
     is_heavy = True
 
@@ -285,7 +286,7 @@ class Programs(Job):
         os.mkdir(f"{top}/.git")
         self.folder, self.words = f"{top}/crates/one_of_them", [*TRY, "--cases", f"{at}/cases"]
         for run in self.runs:
-            put(f"{at}/cases/{run.crate}", run.crate)
+            put(f"{at}/cases/{run.crate}", run.crate, *lines_of(f"{run.folder}/stdin"))
             put(f"{at}/cases/{run.crate}.args", *run.words)
             for path in filter(is_utf8, run.data):
                 self.words += ["--data", f"{os.path.relpath(path, f'{run.folder}/data')}={path}"]

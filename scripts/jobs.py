@@ -241,7 +241,9 @@ ONE_OF_THEM = """//! Runs the program that the first line of standard input name
 use std::process::{ExitCode, Termination};
 
 fn main(rt: HostRuntime) -> ExitCode {
-    match rt.lines(rt.alloc()).next() {
+    // what is read ahead goes back where the reader ends: the program reads on behind the name
+    let first = rt.lines(rt.alloc()).next();
+    match first {
         Some(Ok(name)) => match name.as_str() {
 %s
             _ => ExitCode::from(2),

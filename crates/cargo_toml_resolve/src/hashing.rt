@@ -13,6 +13,8 @@ use std::collections::HashMap;
 use std::hash::BuildHasher;
 
 /// The value is put under the key. It fails only where memory runs out.
+// as a call it takes 2,047 empty lists 4 % more
+#[inline(always)]
 pub(crate) fn put<'a, V: Drop, S: BuildHasher>(
     map: &mut HashMap<&'a str, V, S>,
     key: &'a str,

@@ -5,7 +5,7 @@ use cargo_toml_check::check::{check_lines, refusal_lines};
 use cargo_toml_check::files::{features_of, json_of, toml_of};
 use cargo_toml_check::lint::lint_lines;
 use cargo_toml_check::registry::{add_to_index, checksums};
-use cargo_toml_tools::escape::{Escaped, Format};
+use cargo_toml_tools::escape::{Format, push_escaped};
 use cargo_toml_tools::files::{document_text, index_of, text_in};
 use cargo_toml_tools::{Inputs, Outcome, Request, Wanted};
 use std::collections::BTreeMap;
@@ -139,12 +139,13 @@ impl<'a, R: Files + Input + Print + Eprint + RandomSource + Clock + AllocGlobal>
                 Err(fault) => self.refuse(folder, "", fault),
             };
         }
+        let mut line = String::new(self.rt.alloc());
         if wanted.with_names {
-            let file = Escaped(file, Format::Line);
-            let line = format!(in self.rt.alloc(); "{file}\t{}", made.line)?;
-            return self.put(line.as_str(), false);
+            push_escaped(&mut line, file, Format::Line)?;
+            line.push_str("\t")?;
         }
-        self.put(made.line.as_str(), false)
+        line.push_str(made.line.as_str())?;
+        self.put(line.as_str(), false)
     }
 
     /// The report on the workspace around a folder.

@@ -1,11 +1,13 @@
-use Rattle.std.proofs.{Common.rules, lemmas.Result.err_from_is_err_and}
+use Rattle.std.proofs.{Common.inl, lemmas.Result.err_from_is_err_and}
 use Rattle.cargo_toml_check.specs.FromFiles.{IsListed}
 use Rattle.cargo_toml_tools.specs.FromFiles.{IsOfInput}
 use Rattle.cargo_toml_check.proofs.Completed.{refused_of, shown_of}
 use Rattle.cargo_toml_check.proofs.files.features_of.Goals as goal
 
 pub returns-in_err-held-clause-refused : goal.returns-in_err-held-clause-refused
-returns-in_err-held-clause-refused g c = search (rules, err_from_is_err_and)
+returns-in_err-held-clause-refused g c =
+    let p = err_from_is_err_and c.from_residual.result c.from_residual.ensures.1 in
+    rw (p.1, p.2) (inl c.in_err-held.ensures.refused)
 
 pub returns-clause-listed : goal.returns-clause-listed
 returns-clause-listed g c = shown_of _ _ _ _ c.in_ok-held.ensures.completed c.deref.ensures _ (IsListed) c.listing_of.ensures.listed

@@ -1,4 +1,4 @@
-use Rattle.std.proofs.{Common.rules, lemmas.Result.err_from_is_err_and}
+use Rattle.std.proofs.{Common.inl, lemmas.Result.err_from_is_err_and}
 use Rattle.toml.specs.View.{view}
 use Rattle.cargo_toml.specs.Manifests.{manifest_meaning}
 use Rattle.cargo_toml_check.specs.Shown.{IsShown, IsUnshown}
@@ -6,7 +6,9 @@ use Rattle.cargo_toml_check.proofs.Completed.{refused_of, shown_of}
 use Rattle.cargo_toml_check.proofs.files.toml_of.Goals as goal
 
 pub returns-in_err-completed-clause-refused : goal.returns-in_err-completed-clause-refused
-returns-in_err-completed-clause-refused g c = search (rules, err_from_is_err_and)
+returns-in_err-completed-clause-refused g c =
+    let p = err_from_is_err_and c.from_residual.result c.from_residual.ensures.1 in
+    rw (p.1, p.2) (inl c.in_err-completed.ensures.refused)
 
 pub returns-clause-shown : goal.returns-clause-shown
 returns-clause-shown g c = shown_of _ _ _ _ c.in_ok-completed.ensures.completed c.deref.ensures _ (λ m. IsShown (manifest_meaning view m)) c.manifest_toml.ensures.shown

@@ -1,10 +1,28 @@
-use Rattle.std.proofs.Common.{refl}
+use Rattle.std.proofs.Common.{◌∙◌, Some, ap, map, option_map, sym}
+use Rattle.cargo_toml.specs.{Manifests.manifest_meaning, Packages.package_meaning}
+use Rattle.cargo_toml_tools.specs.Indexed.{dependency_tables, package_refusal, refusal_if_any, written}
+use Rattle.cargo_toml_tools.specs.{IndexEntries.line_data, Sections.refused, Sections.table_of, Sections.wanted_of}
 use Rattle.cargo_toml_tools.proofs.index.index_entry.Goals as goal
 
 pub returns-clause-taken : goal.returns-clause-taken
 returns-clause-taken g c =
-    rw (c.in-Some.is, ← c.in_ok-document.ensures, ← c.in_ok-sections.ensures, ← c.as_slice-sections.ensures.value, ← c.package_refusal.ensures, c.in_default-package_refusal.is) refl
+    let m = manifest_meaning (λ m. m) c.args.manifest.now in
+    let p = package_meaning (λ m. m) c.in-Some.package in
+    let w = wanted_of c.args.options in
+    let findings = c.args.findings.now in
+    let document = written c.args.text.now in
+    let tables = ap (map table_of) c.as_slice-sections.ensures.value ∙ c.in_ok-sections.ensures ∙ ap (λ d. dependency_tables d m) c.in_ok-document.ensures in
+    ap (refusal_if_any w findings document (dependency_tables document m)) (ap (option_map (package_meaning (λ m. m))) c.in-Some.is)
+    ∙ sym (ap (λ d. package_refusal w findings d (map table_of c.as_slice-sections.result.now) p) c.in_ok-document.ensures
+    ∙ ap (λ ts. package_refusal w findings document ts p) tables)
+    ∙ sym c.package_refusal.ensures ∙ ap (option_map refused) c.in_default-package_refusal.is
 
 pub returns-clause-entry : goal.returns-clause-entry
 returns-clause-entry g c =
-    rw (c.in-Some.is, ← c.in_ok-document.ensures, ← c.in_ok-sections.ensures, ← c.as_slice-sections.ensures.value, c.in_ok-line_of.ensures) refl
+    let m = manifest_meaning (λ m. m) c.args.manifest.now in
+    let p = package_meaning (λ m. m) c.in-Some.package in
+    let w = wanted_of c.args.options in
+    let document = written c.args.text.now in
+    let tables = ap (map table_of) c.as_slice-sections.ensures.value ∙ c.in_ok-sections.ensures ∙ ap (λ d. dependency_tables d m) c.in_ok-document.ensures in
+    ap Some (c.in_ok-line_of.ensures ∙ ap (λ ts. line_data w ts m.features p) tables)
+    ∙ sym (ap (option_map (line_data w (dependency_tables document m) m.features)) (ap (option_map (package_meaning (λ m. m))) c.in-Some.is))

@@ -1,8 +1,8 @@
 -- A row of tests with one more character of the pattern.
-use Rattle.std.proofs.Common.{◌≡◌, ◌==◌, ◌-◌, ◌+◌, arith, map, ◌++◌, ◌&&◌, ◌||◌, ◌∙◌, ℕ, Bool, List, [], ◌∷◌, true, false, refl, sym, ap, append_assoc, inl, inr, ◌⊎◌, ◌<◌, add-one, drop, drop-cons, length, get_or, replicate, reverse, nat_eq, nat_le, if◌then◌else◌, ap₂, take, length-drop, ◌≢◌}
+use Rattle.std.proofs.Common.{◌≡◌, ◌==◌, ◌-◌, ◌+◌, arith, map, ◌++◌, ◌&&◌, ◌||◌, ◌∙◌, ℕ, Bool, List, [], ◌∷◌, true, false, refl, sym, ap, append_assoc, inl, inr, ◌⊎◌, ◌<◌, drop, length, get_or, replicate, reverse, nat_eq, nat_le, if◌then◌else◌, ap₂, take, ◌≢◌}
 use Rattle.std.proofs.Math.Bool.{and_comm, or_comm}
 use Rattle.std.proofs.lemmas.Bool.{false≢true}
-use Rattle.std.proofs.lemmas.List.{append-nil, take_all}
+use Rattle.std.proofs.lemmas.List.{append-nil, take_rest}
 use borrow.Author.Tests.{ne_eqb}
 use Rattle.cargo_toml_audit.specs.Patterns.{Part, accepts, after_any, after_one, begins, is_among, is_empty, is_range, matches, next, scan, shift}
 use Rattle.cargo_toml_tools.proofs.Grown.{left_next}
@@ -76,16 +76,13 @@ back_next f xs i k x within is at =
     ap (λ n. map f (drop n xs)) here ∙ left_next f xs k x inside at ∙ ap (λ n. f x ∷ map f (drop n xs)) behind
 
 -- what stands in brackets, behind a range or a character that comes first
-from_there : (n : ℕ) (xs : List ℕ) → take (length xs - n) (drop n xs) ≡ drop n xs
-from_there n xs = take_all _ (drop n xs) (omega (arith, length-drop n xs))
-
 pub among_range : (xs : List ℕ) (c x z : ℕ) → is_range xs ≡ true → x ≡ get_or xs 0 x → z ≡ get_or xs 2 z → (nat_le x c && nat_le c z) ≡ false
     → is_among (take (length xs - 3) (drop 3 xs)) c ≡ is_among xs c
 among_range [] c x z range first last out = absurd (false≢true range)
 among_range (a ∷ []) c x z range first last out = absurd (false≢true range)
 among_range (a ∷ b ∷ []) c x z range first last out = absurd (false≢true range)
 among_range (a ∷ b ∷ e ∷ rest) c x z range first last out =
-    ap (λ t. is_among t c) (from_there 3 (a ∷ b ∷ e ∷ rest))
+    ap (λ t. is_among t c) (take_rest (a ∷ b ∷ e ∷ rest) 3)
     ∙ sym (ap (λ t. if t then (nat_le a c && nat_le c e) || is_among rest c else nat_eq a c || is_among (b ∷ e ∷ rest) c) range
     ∙ ap (λ t. t || is_among rest c) (ap₂ (λ p q. nat_le p c && nat_le c q) (sym first) (sym last) ∙ out))
 
@@ -96,6 +93,6 @@ among_one (a ∷ []) c x single some first other = sym (ap (λ t. nat_eq t c || 
 among_one (a ∷ b ∷ []) c x single some first other =
     sym (ap (λ t. nat_eq t c || (nat_eq b c || false)) (sym first) ∙ ap (λ t. t || (nat_eq b c || false)) (ne_eqb x c other))
 among_one (a ∷ b ∷ e ∷ rest) c x single some first other =
-    ap (λ t. is_among t c) (from_there 1 (a ∷ b ∷ e ∷ rest))
+    ap (λ t. is_among t c) (take_rest (a ∷ b ∷ e ∷ rest) 1)
     ∙ sym (ap (λ t. if t then (nat_le a c && nat_le c e) || is_among rest c else nat_eq a c || is_among (b ∷ e ∷ rest) c) single
     ∙ ap (λ t. nat_eq t c || is_among (b ∷ e ∷ rest) c) (sym first) ∙ ap (λ t. t || is_among (b ∷ e ∷ rest) c) (ne_eqb x c other))

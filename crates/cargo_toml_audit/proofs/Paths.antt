@@ -14,5 +14,6 @@ pub use Rattle.cargo_toml_audit.specs.Places.{included, is_in, is_nothing, lies_
 pub use Rattle.cargo_toml_audit.{specs.declared.members.patterns.Token.Token, specs.declared.members.walk.Listing.Listing, specs.declared.members.walk.Looks.Looks, specs.declared.members.walk.There.There}
 pub use Rattle.cargo_toml_audit.{specs.declared.members.walk.There.TheVariants.Nothing}
 pub use Rattle.cargo_toml_graph.{proofs.Texts.bytes_eq_sym}
+pub use Rattle.cargo_toml_parts.{proofs.SameCopies.zip_same}
 pub use Rattle.cargo_toml_tools.{proofs.Grown.drop_next, proofs.Grown.left_next}
 pub use mathlib.Core.List.{reverse_aux}

@@ -1,38 +1,34 @@
 -- What `audit` answers, by what was read: the answers of the system, and a manifest at each place.
-use Rattle.std.specs.Prelude.{◌≡◌, ◌≢◌, ◌⊎◌, ◌++◌, ◌&&◌, ◌||◌, ◌==◌, Bool, true, false, List}
-use Rattle.std.specs.Prelude.{[], ◌∷◌, Option, Some, IsTrue, bytes_eq, codes, filter, if◌then◌else◌}
+use Rattle.std.specs.Prelude.{◌≡◌, ◌≢◌, ◌⊎◌, ◌++◌, ◌&&◌, ◌||◌, ◌==◌, Bool, true, false, List, []}
+use Rattle.std.specs.Prelude.{◌∷◌, Option, Some, IsTrue, bytes_eq, codes, filter, if◌then◌else◌}
 use Rattle.std.specs.Prelude.{is_none, map, not, option_map, string_bytes}
-use Rattle.std.specs.{BTreeMap.btree_map_len, BTreeMap.get_by_text, IoError.error_kind}
-use Rattle.std.specs.{List.flat_map, List.list_any, Option.option_map_or}
+use Rattle.std.specs.BTreeMap.{btree_map_len, get_by_text}
+use Rattle.std.specs.{IoError.error_kind, List.flat_map, List.list_any, Option.option_map_or}
 use Rattle.toml.specs.declared.value.Value.{Value}
 use Rattle.cargo_toml.specs.Dependencies.{DependencyMeaning, dependency_meaning, detailed}
-use Rattle.cargo_toml.specs.Dependencies.{inherited, simple}
-use Rattle.cargo_toml.specs.Error.{Error, Memory, out-Error}
 use Rattle.cargo_toml.specs.RealFiles.{IsCompletionFault, is_absent, real_folders, real_roots}
-use Rattle.cargo_toml.specs.{Action.Text, Choosing.MayFind, Completed.IsCompleted, Faults.IsOther}
-use Rattle.cargo_toml.specs.{InheritedDependencies.is_left, Manifest.Manifest, Manifests.held}
-use Rattle.cargo_toml.specs.{Reads.map_meaning, Sharing.shared_of}
-use Rattle.cargo_toml.specs.{Templates.template_meaning, Workspace.Workspace}
+use Rattle.cargo_toml.specs.Error.{Error, Memory, out-Error}
+use Rattle.cargo_toml.specs.{Completed.IsCompleted, Dependencies.inherited, Dependencies.simple}
+use Rattle.cargo_toml.specs.{Action.Text, InheritedDependencies.is_left, Templates.template_meaning}
+use Rattle.cargo_toml.specs.{Choosing.MayFind, Manifest.Manifest, Workspace.Workspace}
+use Rattle.cargo_toml.specs.{Faults.IsOther, Manifests.held, Reads.map_meaning, Sharing.shared_of}
 use Rattle.cargo_toml_parts.specs.declared.error.Error.TheOpen.{Error-F}
 use Rattle.cargo_toml_lint.specs.{declared.finding.Finding.Finding, Findings.code_level}
 use Rattle.cargo_toml_tools.specs.FromFiles.{IsManifestIn, IsUnreadable}
-use Rattle.cargo_toml_tools.specs.{Indexed.is_error, Linted.AreFindingsOf}
-use Rattle.cargo_toml_audit.specs.Audited.{IsMemberOf, is_untold}
+use Rattle.cargo_toml_tools.specs.{Linted.AreFindingsOf, Indexed.is_error}
 use Rattle.cargo_toml_audit.specs.Entries.{Listed, asked_in, asking_of, entries_of, inherited_in}
-use Rattle.cargo_toml_audit.specs.Entries.{left_keys}
 use Rattle.cargo_toml_audit.specs.MemberFolders.{Disk, disk_of, is_wrong, places_if_right, repeats}
-use Rattle.cargo_toml_audit.specs.MemberFolders.{unseen}
 use Rattle.cargo_toml_audit.specs.Oddities.{Gain, Oddity, both, differences, found_each, found_if}
 use Rattle.cargo_toml_audit.specs.Oddities.{found_in, has_no_target, oddities_of, only_found}
 use Rattle.cargo_toml_audit.specs.Oddities.{overall_oddities, refusals}
 use Rattle.cargo_toml_audit.specs.Places.{excludes, is_in, lies_in, manifest_path, place_of}
-use Rattle.cargo_toml_audit.specs.declared.audit.Code.TheVariants.{Absent, BadPattern}
-use Rattle.cargo_toml_audit.specs.declared.audit.Code.TheVariants.{DefaultMember, Incomplete}
-use Rattle.cargo_toml_audit.specs.declared.audit.Code.TheVariants.{ListedTwice, NoTarget, Unlisted}
-use Rattle.cargo_toml_audit.specs.declared.audit.Code.TheVariants.{Unseen}
-use Rattle.cargo_toml_audit.specs.{declared.audit.Audit.Audit, declared.audit.Code.Code}
-use Rattle.cargo_toml_audit.specs.{declared.audit.Member.Member, declared.audit.root.Root.Root}
-use Rattle.cargo_toml_audit.specs.{declared.members.walk.Looks.Looks}
+use Rattle.cargo_toml_audit.specs.declared.audit.Code.TheVariants.{Absent, BadPattern, Incomplete}
+use Rattle.cargo_toml_audit.specs.declared.audit.Code.TheVariants.{DefaultMember, ListedTwice}
+use Rattle.cargo_toml_audit.specs.declared.audit.Code.TheVariants.{NoTarget, Unlisted, Unseen}
+use Rattle.cargo_toml_audit.specs.{Entries.left_keys, MemberFolders.unseen, Audited.IsMemberOf}
+use Rattle.cargo_toml_audit.specs.{Audited.is_untold, declared.audit.Code.Code}
+use Rattle.cargo_toml_audit.specs.{declared.audit.Audit.Audit, declared.audit.Member.Member}
+use Rattle.cargo_toml_audit.specs.{declared.audit.root.Root.Root, declared.members.walk.Looks.Looks}
 
 -- ---- a place
 

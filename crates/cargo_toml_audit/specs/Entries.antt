@@ -1,8 +1,7 @@
 -- The dependencies of a manifest, one after the other, what it leaves to its workspace, and what it
 -- asks for.
 use Rattle.std.specs.Prelude.{◌++◌, Bool, List, [], ◌∷◌, codes, if◌then◌else◌, map, string_bytes}
-use Rattle.std.specs.Prelude.{unwrap_or}
-use Rattle.std.specs.{List.flat_map, Option.option_map_or}
+use Rattle.std.specs.{Prelude.unwrap_or, List.flat_map, Option.option_map_or}
 use Rattle.cargo_toml.specs.Dependencies.{DependencyMeaning, dependency_meaning, package_of}
 use Rattle.cargo_toml.specs.InheritedDependencies.{Entries, is_left}
 use Rattle.cargo_toml.specs.InheritedPackages.{field_is_left, leavable_rows}
@@ -12,8 +11,8 @@ use Rattle.cargo_toml.specs.{Requirements.requirement_text, Targets.TargetMeanin
 use Rattle.cargo_toml_package.specs.Replacing.{entries_meaning}
 use Rattle.cargo_toml_tools.specs.Indexed.{all_by_kind, target_by_kind, with_kinds}
 use Rattle.cargo_toml_tools.specs.IndexEntries.{required_version}
+use Rattle.cargo_toml_audit.specs.declared.audit.dependencies.Tables.{Tables}
 use Rattle.cargo_toml_audit.specs.{declared.audit.Use.Use, declared.audit.dependencies.Entry.Entry}
-use Rattle.cargo_toml_audit.specs.{declared.audit.dependencies.Tables.Tables}
 
 -- which table lists a dependency, and what stands there under its key
 abbrev pub Listed : Type 0

@@ -2,19 +2,18 @@
 use Rattle.std.specs.Prelude.{◌≡◌, ◌++◌, ◌&&◌, ◌||◌, ◌==◌, ℕ, suc, zero, Bool, true, false, List}
 use Rattle.std.specs.Prelude.{[], Some, ◌∷◌, Err, Ok, Result, String, codes, filter, if◌then◌else◌}
 use Rattle.std.specs.Prelude.{is_none, length, map, nat_eq, not, string_bytes, unwrap_or}
+use Rattle.std.specs.declared.io.Error.{Error as IoError}
 use Rattle.std.specs.{BTreeMap.get_by_text, Fs.file_type, IoError.error_kind, List.flat_map}
 use Rattle.std.specs.{List.list_any, Option.option_map_or, Path.path_join, Str.chars}
 use Rattle.std.specs.{declared.alloc.Global.Global, declared.fs.attrs.Metadata.Metadata}
-use Rattle.std.specs.declared.io.Error.{Error as IoError}
 use Rattle.cargo_toml.specs.{Action.Text, RealFiles.is_absent}
-use Rattle.cargo_toml_audit.specs.Patterns.{Part, begins_with_dot, is_deep, is_pattern, matches}
-use Rattle.cargo_toml_audit.specs.Patterns.{parts_of}
 use Rattle.cargo_toml_audit.specs.Places.{is_in, is_rooted, normalized, pieces, place_of}
 use Rattle.cargo_toml_audit.specs.declared.members.walk.There.TheVariants.{Folder, Nothing, Other}
 use Rattle.cargo_toml_audit.specs.declared.members.walk.There.TheVariants.{Unseen}
-use Rattle.cargo_toml_audit.specs.{declared.members.walk.Listing.Listing}
-use Rattle.cargo_toml_audit.specs.{declared.members.walk.Looks.Looks}
-use Rattle.cargo_toml_audit.specs.{declared.members.walk.There.There}
+use Rattle.cargo_toml_audit.specs.{Patterns.begins_with_dot, declared.members.walk.Listing.Listing}
+use Rattle.cargo_toml_audit.specs.{Patterns.is_pattern, declared.members.walk.Looks.Looks}
+use Rattle.cargo_toml_audit.specs.{Patterns.parts_of, declared.members.walk.There.There}
+use Rattle.cargo_toml_audit.specs.{Patterns.Part, Patterns.is_deep, Patterns.matches}
 
 -- what lies at a path, by what the system answers of it
 abbrev pub by_found : Metadata → There

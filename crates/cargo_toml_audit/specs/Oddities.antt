@@ -3,19 +3,17 @@ use Rattle.std.specs.Prelude.{◌++◌, ◌&&◌, ◌||◌, ◌==◌, Bool, true
 use Rattle.std.specs.Prelude.{Some, None, Vec, bytes_eq, codes, if◌then◌else◌, is_none, is_some}
 use Rattle.std.specs.Prelude.{length, map, not, option_and_then, option_map, string_bytes}
 use Rattle.std.specs.List.{flat_map, list_any}
-use Rattle.std.specs.{Option.option_map_or, declared.alloc.Global.Global}
-use Rattle.cargo_toml.specs.{Action.Text, Dependencies.DependencyMeaning, Dependencies.detailed}
-use Rattle.cargo_toml.specs.{Dependencies.inherited, Dependencies.is_optional, Dependencies.simple}
+use Rattle.std.specs.{declared.alloc.Global.Global, Option.option_map_or}
+use Rattle.cargo_toml.specs.Dependencies.{DependencyMeaning, is_optional, simple, detailed}
 use Rattle.cargo_toml.specs.{InheritedDependencies.Entries, InheritedPackages.field_is_left}
-use Rattle.cargo_toml.specs.{Manifests.ManifestMeaning, Packages.PackageMeaning}
-use Rattle.cargo_toml.specs.{Settings.edition_text, Templates.TemplateMeaning}
-use Rattle.cargo_toml_audit.specs.declared.audit.Code.TheVariants.{Features, NoLints, NotInherited}
-use Rattle.cargo_toml_audit.specs.declared.audit.Code.TheVariants.{OptionalShared, OtherEdition}
-use Rattle.cargo_toml_audit.specs.declared.audit.Code.TheVariants.{OtherLicense, OtherWorkspace}
-use Rattle.cargo_toml_audit.specs.declared.audit.Code.TheVariants.{Outside, SameName}
-use Rattle.cargo_toml_audit.specs.declared.audit.Code.TheVariants.{SeveralRequirements}
-use Rattle.cargo_toml_audit.specs.declared.audit.Code.TheVariants.{TwoWorkspaces, UnusedDependency}
-use Rattle.cargo_toml_audit.specs.declared.audit.Code.TheVariants.{WorkspaceWithin}
+use Rattle.cargo_toml.specs.{Action.Text, Manifests.ManifestMeaning, Templates.TemplateMeaning}
+use Rattle.cargo_toml.specs.{Dependencies.inherited, Packages.PackageMeaning, Settings.edition_text}
+use Rattle.cargo_toml_audit.specs.declared.audit.Code.TheVariants.{Features, SeveralRequirements}
+use Rattle.cargo_toml_audit.specs.declared.audit.Code.TheVariants.{OptionalShared, UnusedDependency}
+use Rattle.cargo_toml_audit.specs.declared.audit.Code.TheVariants.{OtherWorkspace, WorkspaceWithin}
+use Rattle.cargo_toml_audit.specs.declared.audit.Code.TheVariants.{NotInherited, TwoWorkspaces}
+use Rattle.cargo_toml_audit.specs.declared.audit.Code.TheVariants.{OtherEdition, OtherLicense}
+use Rattle.cargo_toml_audit.specs.declared.audit.Code.TheVariants.{NoLints, Outside, SameName}
 use Rattle.cargo_toml_audit.specs.{Entries.Asking, Entries.Listed, Entries.entries_of, Places.is_in}
 use Rattle.cargo_toml_audit.specs.{Places.place_of, MemberFolders.repeats, declared.audit.Code.Code}
 use Rattle.cargo_toml_audit.specs.{declared.audit.Finding.Finding, declared.audit.Member.Member}

@@ -1,15 +1,14 @@
 -- Which names a pattern matches.
 use Rattle.std.specs.Prelude.{◌++◌, ◌&&◌, ◌||◌, ◌==◌, ℕ, Bool, List, [], ◌∷◌, Option, Some, None}
 use Rattle.std.specs.Prelude.{true, false, if◌then◌else◌, bytes_eq, codes, fold, length, map}
-use Rattle.std.specs.Prelude.{nat_eq, nat_le, not}
-use Rattle.std.specs.List.{list_any}
+use Rattle.std.specs.{Prelude.nat_eq, Prelude.nat_le, Prelude.not, List.list_any}
 use Rattle.cargo_toml_audit.specs.declared.members.patterns.Mode.TheVariants.{Brackets, Others}
 use Rattle.cargo_toml_audit.specs.declared.members.patterns.Mode.TheVariants.{Plain, Star, Wrong}
 use Rattle.cargo_toml_audit.specs.declared.members.patterns.Token.TheVariants.{Just, Many, One}
 use Rattle.cargo_toml_audit.specs.declared.members.patterns.Token.TheVariants.{OneOf}
-use Rattle.cargo_toml_audit.specs.{declared.members.patterns.Mode.Mode}
-use Rattle.cargo_toml_audit.specs.{declared.members.patterns.Reading.Reading}
-use Rattle.cargo_toml_audit.specs.{declared.members.patterns.Token.Token}
+use Rattle.cargo_toml_audit.specs.declared.members.patterns.Mode.{Mode}
+use Rattle.cargo_toml_audit.specs.declared.members.patterns.Reading.{Reading}
+use Rattle.cargo_toml_audit.specs.declared.members.patterns.Token.{Token}
 
 -- a part of a pattern: any text, any character, one, or one of those in brackets or of all others
 pub data Part : Type 0 where

@@ -1,21 +1,20 @@
 -- What the steps of `audit`, and its walk over places, add to a report: nothing here has to be
 -- believed.
-use Rattle.std.specs.Prelude.{◌≡◌, ◌++◌, Bool, List, String, Vec, map, string_bytes, ◌⊎◌}
-use Rattle.std.specs.Prelude.{◌&&◌, ◌||◌, bytes_eq, false, true}
+use Rattle.std.specs.Prelude.{◌≡◌, ◌++◌, Bool, List, String, Vec, map, string_bytes, ◌⊎◌, ◌&&◌}
+use Rattle.std.specs.Prelude.{◌||◌, bytes_eq, false, true}
 use Rattle.std.specs.{BTreeSet.contains_text, declared.alloc.Global.Global}
 use Rattle.toml.specs.declared.value.Value.{Value}
 use Rattle.cargo_toml.specs.{Action.Text, Manifest.Manifest, Manifests.held}
-use Rattle.cargo_toml_audit.specs.AuditedFiles.{Base, Content, HasErrors, IsContent, IsMade, Knows}
-use Rattle.cargo_toml_audit.specs.AuditedFiles.{Made, Takes, belongs, entered_places, first_places}
-use Rattle.cargo_toml_audit.specs.AuditedFiles.{found_in_lists, gain_made, gain_of}
-use Rattle.cargo_toml_audit.specs.AuditedFiles.{is_member, listed_places, needs_of, told}
-use Rattle.cargo_toml_audit.specs.AuditedFiles.{AreRead, Reading, gain_of_all, is_excluded}
-use Rattle.cargo_toml_audit.specs.AuditedFiles.{IsCompletedThere, member_places}
+use Rattle.cargo_toml_audit.specs.AuditedFiles.{IsCompletedThere, entered_places, found_in_lists}
+use Rattle.cargo_toml_audit.specs.AuditedFiles.{Content, first_places, listed_places, member_places}
+use Rattle.cargo_toml_audit.specs.AuditedFiles.{HasErrors, IsContent, gain_of_all, is_excluded}
+use Rattle.cargo_toml_audit.specs.AuditedFiles.{belongs, gain_made, gain_of, is_member, needs_of}
+use Rattle.cargo_toml_audit.specs.AuditedFiles.{AreRead, Base, IsMade, Knows, Made, Reading, Takes}
+use Rattle.cargo_toml_audit.specs.declared.auditing.walk.Walk.{Walk}
 use Rattle.cargo_toml_audit.specs.{Entries.left_keys, MemberFolders.Disk, Oddities.oddities_of}
 use Rattle.cargo_toml_audit.specs.{Places.is_in, declared.audit.Audit.Audit}
 use Rattle.cargo_toml_audit.specs.{declared.audit.Finding.Finding, declared.auditing.Known.Known}
 use Rattle.cargo_toml_audit.specs.{declared.auditing.Lists.Lists, declared.auditing.place.Seen.Seen}
-use Rattle.cargo_toml_audit.specs.{declared.auditing.walk.Walk.Walk}
 
 abbrev pub known_of : Known → Knows
 known_of k = record {

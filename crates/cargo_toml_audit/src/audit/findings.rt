@@ -1,18 +1,15 @@
 //! What is found: of a place, a dependency or an entry; what members have otherwise than their
 //! workspace; and what Cargo refuses of a member's manifest where it stands.
 ghost use Rattle.std.specs.Prelude.{◌≡◌, ◌++◌, OnOk, map, string_bytes, true, IfOk, option_map};
-ghost use Rattle.std.specs.Prelude.{◌==◌};
-ghost use Rattle.std.specs.{BTreeSet.contains_text, List.flat_map, Option.option_copied};
-ghost use Rattle.std.specs.{BTreeMap.btree_map_len};
-ghost use Rattle.cargo_toml.specs.{Dependencies.dependency_meaning, Settings.edition_text};
-ghost use Rattle.cargo_toml.specs.{Templates.template_meaning, Manifests.held};
-ghost use Rattle.cargo_toml.specs.{Packages.held_package};
+ghost use Rattle.std.specs.{Prelude.◌==◌, BTreeMap.btree_map_len, BTreeSet.contains_text};
+ghost use Rattle.std.specs.{List.flat_map, Option.option_copied};
+ghost use Rattle.cargo_toml.specs.{Dependencies.dependency_meaning, Templates.template_meaning};
+ghost use Rattle.cargo_toml.specs.{Manifests.held, Packages.held_package, Settings.edition_text};
 ghost use Rattle.cargo_toml_package.specs.Replacing.{entries_meaning};
 ghost use Rattle.cargo_toml_audit.specs.Oddities.{found_each, found_if, found_in, oddities_of};
-ghost use Rattle.cargo_toml_audit.specs.Oddities.{differences, has_given, other_of};
-ghost use Rattle.cargo_toml_audit.specs.Oddities.{shared_oddities, has_no_target, is_false};
-ghost use Rattle.cargo_toml_audit.specs.Oddities.{is_not_inherited, leads_elsewhere, named_by};
-ghost use Rattle.cargo_toml_audit.specs.Oddities.{refusals};
+ghost use Rattle.cargo_toml_audit.specs.Oddities.{differences, has_given, has_no_target, other_of};
+ghost use Rattle.cargo_toml_audit.specs.Oddities.{is_false, is_not_inherited, shared_oddities};
+ghost use Rattle.cargo_toml_audit.specs.Oddities.{leads_elsewhere, named_by, refusals};
 ghost use Rattle.cargo_toml_audit.specs.Entries.{entries_of, listed_of};
 
 use super::dependencies::{Entry, entries};

@@ -16,7 +16,8 @@ use std::collections::{BTreeMap, BTreeSet};
 pub fn lines(alloc: Global, audit: &Audit) -> AllocResult<String> {
     let mut text = String::new(alloc);
     for (folder, member) in &shown_members(alloc, audit)? {
-        push_member(alloc, &mut text, folder.as_str(), member)?;
+        let inherits = member.inherits.as_slice().join(alloc, ", ")?;
+        push_member(&mut text, folder.as_str(), member, inherits.as_str())?;
     }
     for finding in &shown_findings(alloc, audit)? {
         let subject = finding.subject.as_str();
@@ -100,8 +101,12 @@ fn push_use(words: &mut String, one: &Use, last: &str) -> AllocResult<()> {
     words.push_str(one.folder.as_str())
 }
 
-fn push_member(alloc: Global, text: &mut String, folder: &str, member: &Member) -> AllocResult<()> {
-    let inherits = member.inherits.as_slice().join(alloc, ", ")?;
+fn push_member<'a>(
+    text: &mut String,
+    folder: &'a str,
+    member: &'a Member,
+    inherits: &'a str,
+) -> AllocResult<()> {
     let cells = [
         folder,
         member.name.as_str(),
@@ -110,11 +115,7 @@ fn push_member(alloc: Global, text: &mut String, folder: &str, member: &Member) 
         member.rust_version.as_deref().unwrap_or("-"),
         member.license.as_deref().unwrap_or("-"),
         member.publish.as_str(),
-        if inherits.is_empty() {
-            "-"
-        } else {
-            inherits.as_str()
-        },
+        if inherits.is_empty() { "-" } else { inherits },
     ];
     push_line(text, "member", &cells)
 }

@@ -1,7 +1,6 @@
 //! What a report takes of one place: a member, or that it was refused.
 ghost use Rattle.std.specs.Prelude.{◌≡◌, ◌≢◌, ◌++◌, [], IfErr, IfOk, IsTrue, OnOk, Option, map};
-ghost use Rattle.std.specs.Prelude.{string_bytes};
-ghost use Rattle.std.specs.Option.{option_map_or};
+ghost use Rattle.std.specs.{Prelude.string_bytes, Option.option_map_or};
 ghost use Rattle.cargo_toml.specs.{Action.Text, Error.Error, Error.Memory};
 ghost use Rattle.cargo_toml_tools.specs.FromFiles.{IsManifestIn, IsUnreadable};
 ghost use Rattle.cargo_toml_audit.specs.Steps.{AddsCompleted, AddsMade, AddsMemberAt, AddsPlace};

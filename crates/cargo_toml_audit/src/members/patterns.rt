@@ -1,13 +1,11 @@
 //! Patterns of names, as Cargo's globs have them: `*` is any text, `?` any one character, `[ab]`,
 //! `[a-c]` and `[!a]` one of some characters. `**` is none of these: it stands for any folders.
-ghost use Rattle.std.specs.Prelude.{◌≡◌, ◌∷◌, IfOk, OnOk, false, get_or, map, option_map};
-ghost use Rattle.std.specs.Str.{chars};
+ghost use Rattle.std.specs.Prelude.{◌≡◌, ◌∷◌, IfOk, OnOk, false, get_or, map, option_map, ◌&&◌};
+ghost use Rattle.std.specs.{Prelude.nat_le, Str.chars};
 ghost use Rattle.cargo_toml_audit.specs.Patterns.{accepts, is_among, is_deep, is_many, is_pattern};
-ghost use Rattle.cargo_toml_audit.specs.Patterns.{is_sign, matches, part_of, read_all};
-ghost use Rattle.cargo_toml_audit.specs.Patterns.{read_in_brackets, read_more, read_of, read_plain};
-ghost use Rattle.cargo_toml_audit.specs.Patterns.{parts_of, whole_parts, next, scan, shift};
-ghost use Rattle.std.specs.Prelude.{◌&&◌, nat_le};
-ghost use Rattle.cargo_toml_audit.specs.Patterns.{is_range};
+ghost use Rattle.cargo_toml_audit.specs.Patterns.{is_sign, matches, part_of, read_all, read_more};
+ghost use Rattle.cargo_toml_audit.specs.Patterns.{parts_of, read_in_brackets, read_of, read_plain};
+ghost use Rattle.cargo_toml_audit.specs.Patterns.{is_range, next, scan, shift, whole_parts};
 
 use crate::AllocResult;
 use std::alloc::Global;

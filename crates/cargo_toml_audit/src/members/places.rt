@@ -8,7 +8,7 @@ ghost use Rattle.cargo_toml_audit.specs.Places.{root_of, with_names};
 
 use crate::AllocResult;
 use cargo_toml::Workspace;
-use cargo_toml_parts::paths::join;
+use cargo_toml_parts::paths::{ancestors, join};
 use std::alloc::Global;
 
 fn is_rooted(path: &str) -> bool
@@ -171,23 +171,18 @@ pub fn excludes(alloc: Global, root: &str, workspace: &Workspace, place: &str) -
 /// its whole path.
 pub fn seen_from(alloc: Global, root: &str, place: &str) -> AllocResult<String> {
     let mut up = String::new(alloc);
-    let mut outer = root;
-    for _ in 0..root.len() {
+    for above in ancestors(root) {
+        let outer = above.as_str();
+        if matches!(outer, "" | "/") && !up.is_empty() {
+            break;
+        }
         if place == outer {
-            return if up.is_empty() {
-                String::from_str(alloc, ".")
-            } else {
-                Ok(up)
-            };
+            return or_dot(alloc, up);
         }
         let front = join(alloc, outer, "")?;
         if let Some(rest) = place.strip_prefix(front.as_str()) {
             return join(alloc, up.as_str(), rest);
         }
-        outer = match outer.rsplit_once('/') {
-            Some((parent, _)) if !parent.is_empty() => parent,
-            _ => break,
-        };
         up = join(alloc, up.as_str(), "..")?;
     }
     String::from_str(alloc, place)

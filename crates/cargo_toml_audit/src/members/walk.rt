@@ -5,12 +5,11 @@
 ghost use Rattle.std.specs.Prelude.{◌≡◌, ◌&&◌, IfOk, map, not, string_bytes};
 ghost use Rattle.std.specs.{BTreeMap.IsEmpty, List.flat_map};
 ghost use Rattle.cargo_toml.specs.RealFiles.{is_absent};
-ghost use Rattle.cargo_toml_audit.specs.MemberFolders.{Tells, all_below, begins_at, below};
-ghost use Rattle.cargo_toml_audit.specs.MemberFolders.{by_found, by_link, ended, further};
-ghost use Rattle.cargo_toml_audit.specs.MemberFolders.{further_in, is_plain, is_there, led, led_to};
-ghost use Rattle.cargo_toml_audit.specs.MemberFolders.{matched, named_so, own_if, path_if};
-ghost use Rattle.cargo_toml_audit.specs.MemberFolders.{place_if, places_if_right, places_of, skips};
-ghost use Rattle.cargo_toml_audit.specs.MemberFolders.{subfolders, with_dots};
+ghost use Rattle.cargo_toml_audit.specs.MemberFolders.{further_in, places_if_right, subfolders};
+ghost use Rattle.cargo_toml_audit.specs.MemberFolders.{all_below, begins_at, places_of, with_dots};
+ghost use Rattle.cargo_toml_audit.specs.MemberFolders.{by_found, is_plain, is_there, led, named_so};
+ghost use Rattle.cargo_toml_audit.specs.MemberFolders.{by_link, further, led_to, matched, place_if};
+ghost use Rattle.cargo_toml_audit.specs.MemberFolders.{Tells, below, ended, own_if, path_if, skips};
 ghost use Rattle.cargo_toml_audit.specs.Patterns.{begins_with_dot, part_of};
 
 use super::is_wrong;
@@ -94,10 +93,10 @@ impl<'a, R: Files + AllocGlobal> Looking<'a, R> {
             self.old.looks self.new.looks (map string_bytes names.items)) }
     {
         if let Some(listing) = self.looks.names.get(folder) {
-            return copied(self.rt.alloc(), listing.names.as_slice());
+            return listing.names.clone();
         }
         let listing = listed_in(self.rt, folder)?;
-        let names = copied(self.rt.alloc(), listing.names.as_slice())?;
+        let names = listing.names.clone()?;
         self.looks
             .names
             .insert(String::from_str(self.rt.alloc(), folder)?, listing)?;
@@ -371,16 +370,6 @@ fn listed_in<R: Files + AllocGlobal>(rt: &R, folder: &str) -> AllocResult<Listin
         }
     }
     Ok(Listing { names, is_whole })
-}
-
-fn copied(alloc: Global, texts: &[String]) -> AllocResult<Vec<String>>
-    ensures { IfOk result (λ v. map string_bytes v.items ≡ map string_bytes texts.now) }
-{
-    let mut all = Vec::new(alloc);
-    for text in texts {
-        all.push(String::from_str(alloc, text.as_str())?)?;
-    }
-    Ok(all)
 }
 
 /// The place of an entry that stands for itself.

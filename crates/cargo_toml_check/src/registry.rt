@@ -33,7 +33,6 @@ pub fn add_to_index<R: Files + AllocGlobal>(
         return Err(io::Error::from(ErrorKind::InvalidInput));
     }
     let (above, name) = place_of(alloc, folder, indexed.name.as_str())?;
-    fs::create_dir_all(rt, above.as_str())?;
     let path = format!(in alloc; "{above}/{name}")?;
     let fresh = format!(in alloc; "{above}/.{name}.new")?;
     let mut text = match fs::read_to_string(rt, path.as_str()) {
@@ -42,7 +41,15 @@ pub fn add_to_index<R: Files + AllocGlobal>(
         Err(fault) => return Err(fault),
     };
     text.push_str(indexed.line.as_str())?;
-    let mut file = fs::create(rt, fresh.as_str())?;
+    // of most crates the folder is there
+    let mut file = match fs::create(rt, fresh.as_str()) {
+        Ok(file) => file,
+        Err(fault) if fault.kind() == ErrorKind::NotFound => {
+            fs::create_dir_all(rt, above.as_str())?;
+            fs::create(rt, fresh.as_str())?
+        }
+        Err(fault) => return Err(fault),
+    };
     file.write_all(text.as_bytes())?;
     file.flush()?;
     fs::rename(rt, fresh.as_str(), path.as_str())

@@ -3,5 +3,3 @@ mod Unreferenced
 mod ToldAt
 mod Taken
 mod Resolving
-pub mod Filtered
-pub mod Holding

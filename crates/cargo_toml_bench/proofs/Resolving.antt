@@ -12,7 +12,8 @@ use Rattle.cargo_toml_features.specs.{Marks.NamedDetails, Recorded.Entry, Resolv
 use Rattle.cargo_toml_resolve.specs.Texts.{texts_now}
 use Rattle.cargo_toml_resolve.proofs.{AgainstAll.resolved_same, ByFilter.answer_alike}
 use Rattle.cargo_toml_bench.specs.Removing.{AreNames, AreTakenOut, HasNames, HaveRedirects, Redirected, bins_at, is_hidden, key_at}
-use Rattle.cargo_toml_bench.proofs.{Filtered.those_among, Filtered.those_ascend, Unreferenced.nothing_removed}
+use Rattle.cargo_toml_graph.proofs.Filtered.{those_among, those_ascend}
+use Rattle.cargo_toml_bench.proofs.Unreferenced.{nothing_removed}
 
 abbrev Below : Text → Text → Type 0
 Below a b = IsTrue (is_below a b)

@@ -3,7 +3,7 @@ use Rattle.std.proofs.Common.{arith, ◌≡◌, ◌↔◌, ◌++◌, ◌∙◌, 
 use Rattle.std.proofs.lemmas.List.{append-nil, map-append}
 use Rattle.std.specs.{HashMap.HashMap, List.AllByRecursion, Prelude.filter}
 use Rattle.cargo_toml.specs.{Action.Text, Ascending.Ascend, Feature.Feature, Graph.Table, Reach.Among, Views.table_in, Views.value_at}
-use Rattle.cargo_toml_bench.proofs.Filtered.{filter_next, filter_past, those_among, those_ascend}
+use Rattle.cargo_toml_graph.proofs.Filtered.{filter_next, filter_past, those_among, those_ascend}
 use Rattle.cargo_toml_tools.specs.{Documented.AreRows, Documented.IsRowOf, Documented.told_at, declared.document.listing.Row.Row}
 
 module _ {S : Type 0} (t : Table) (m : HashMap (Bor Text) Feature S) (has_default : Bool) where

@@ -16,8 +16,8 @@ use crate::audit::{
 };
 use crate::members::{is_absent, manifest_path};
 use cargo_toml::{Error, Manifest};
-use cargo_toml_bench::HeldManifest;
 use cargo_toml_lint::{Finding as Fault, Level};
+use cargo_toml_manifest::HeldManifest;
 use cargo_toml_tools::files::{findings_of, manifest_in};
 use std::alloc::Global;
 use std::random::RandomSource;

@@ -8,9 +8,9 @@ ghost use Rattle.cargo_toml_bench.specs.Printing.{RefusesToPrint, line_with, lin
 ghost use Rattle.cargo_toml_bench.{specs.Printing.report_text, specs.Reports.texts};
 ghost use Rattle.cargo_toml_resolve.specs.Texts.{texts_now};
 
-use crate::HeldManifest;
 use crate::report::{Report, make_report};
 use cargo_toml::Error;
+use cargo_toml_manifest::HeldManifest;
 use std::alloc::{AllocError, Global};
 use std::io::Write;
 

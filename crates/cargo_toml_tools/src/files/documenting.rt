@@ -7,7 +7,7 @@ ghost use Rattle.cargo_toml_tools.specs.FromFiles.{IsDocumented, IsOfInput, IsUn
 use crate::document::{Page, TakesRows, graph, rows};
 use cargo_toml::features::{Features, Resolver};
 use cargo_toml::{Error, Manifest};
-use cargo_toml_bench::HeldManifest;
+use cargo_toml_manifest::HeldManifest;
 use std::hash::RandomState;
 use std::random::RandomSource;
 use toml::Value;

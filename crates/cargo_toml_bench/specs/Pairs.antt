@@ -5,15 +5,11 @@ use Rattle.cargo_toml.specs.{Dependencies.DependencyMeaning, Graph.Table, Graph.
 use Rattle.cargo_toml.specs.{Graph.KeepsName, Limits.MAX_ITEMS, Manifests.ManifestMeaning}
 use Rattle.cargo_toml.specs.{Parsed.parsed_entries, Parsed.parsed_table, Reach.Among, Reach.IsOnce}
 use Rattle.cargo_toml.specs.{Recorded.Entry, Recorded.entries_at, Recorded.first_target}
-use Rattle.cargo_toml.specs.{Recursive.Enables, Removal.is_removed, Resolved.table_of}
+use Rattle.cargo_toml.specs.{Removal.is_removed, Resolved.table_of}
 
 -- a hidden feature
 abbrev pub IsHidden : Table → Text → Type 0
 IsHidden t f = IsTrue (is_removed t (λ _. false) f)
-
--- the table has the feature f, which enables g
-abbrev pub HasEnabling : Table → Text → Text → Type 0
-HasEnabling t f g = IsTrue (t.has f) × Enables t f g
 
 -- f is left without the hidden features, and it or a hidden one that it reaches names x
 abbrev pub LeavesName : Table → Text → Text → Type 0
@@ -25,10 +21,6 @@ IsNamed listed entries f x answer =
     IsTrue answer ↔ LeavesName (table_of (admitted MAX_ITEMS listed) entries) f x
 
 module _ {M : Type 0} (m : ManifestMeaning M) where
-  -- the answer says whether f enables g
-  abbrev pub IsEnabling : Text → Text → Bool → Type 0
-  IsEnabling f g answer = IsTrue answer ↔ HasEnabling (parsed_table MAX_ITEMS m) f g
-
   -- the first of the entries of the key that count; nothing where none does
   abbrev pub first_under : Text → Option DependencyMeaning
   first_under key =

@@ -5,7 +5,7 @@ ghost use Rattle.cargo_toml.specs.{Admitted.Listed, Choosing.handed_of, Choosing
 ghost use Rattle.cargo_toml.specs.{Completed.IsCompleted, Dependencies.is_optional, Error.Memory};
 ghost use Rattle.cargo_toml.specs.{Hashed.IsListingOf, Manifests.held, Products.product_meaning};
 ghost use Rattle.cargo_toml.specs.{Refusing.IsRefusedBy, Refusing.MayLose, Views.entry_of};
-ghost use Rattle.cargo_toml_bench.specs.Pairs.{IsEnabling, IsFeatureCount, IsNamed, first_under};
+ghost use Rattle.cargo_toml_bench.specs.Pairs.{IsFeatureCount, IsNamed, first_under};
 
 use crate::whole::resolve_whole;
 use cargo_toml::features::{ParseDependency, Resolver, complete_and_parse_into};
@@ -13,25 +13,6 @@ use cargo_toml::{AbstractFilesystem, Error, FromValue, Manifest, Product, ToValu
 use std::alloc::Global;
 use std::collections::HashMap;
 use std::hash::BuildHasher;
-
-/// Whether a manifest has the feature `name`, and asking for it enables the feature `other`: it is
-/// resolved, and asked for what the feature enables. The one refusal is [`Error::Memory`].
-pub fn enables<M>(
-    alloc: Global,
-    manifest: &Manifest<M>,
-    name: &str,
-    other: &str,
-) -> Result<bool, Error>
-    ensures answer { IfOk result (IsEnabling (held manifest.now) name.now other.now) }
-    ensures refused { IfErr result (λ e. e ≡ Memory) }
-{
-    let resolved = resolve_whole(alloc, manifest)?;
-    let Some(feature) = resolved.features.get(name) else {
-        return Ok(false);
-    };
-    let (features, _dependencies) = feature.enables_recursive(alloc, &resolved.features)?;
-    Ok(features.contains_key(other))
-}
 
 /// Whether the dependency that stands first under the key is optional; `None` where features can't
 /// speak of the key. The one refusal is [`Error::Memory`].

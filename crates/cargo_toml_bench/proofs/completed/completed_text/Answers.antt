@@ -4,7 +4,7 @@ use Rattle.toml.specs.{Parse.parse_document, View.view, declared.value.Value.Val
 use Rattle.cargo_toml.specs.{Asked.WorkspaceMeets, Choosing.from, Manifest.Manifest, Manifests.held, Manifests.manifest_meaning, Reread.SharedIsTold}
 use Rattle.cargo_toml.specs.{Reread.told, Sharing.shared_of}
 use Rattle.cargo_toml_package.specs.{declared.workspace.Workspace.Workspace, Workspaces.workspace_meaning}
-use Rattle.cargo_toml_bench.specs.{Printing.Spells, Versioned.IsPrinted}
+use Rattle.cargo_toml_bench.specs.{Spelled.Spells, Versioned.IsPrinted}
 use Rattle.cargo_toml_bench.proofs.completed.completed_text.Goals as goal
 
 -- what a workspace that is told gives is told

@@ -5,7 +5,7 @@ use Rattle.toml.specs.{Data.Data, View.view, declared.value.Value.Value, Parse.p
 use Rattle.cargo_toml.specs.Manifests.{ManifestMeaning, by_zero_rule, is_zero, manifest_meaning}
 use Rattle.cargo_toml.specs.{Inheritable.TheVariants.Set, Manifest.Manifest, Package.Package, Packages.PackageMeaning, Packages.package_meaning, Reread.IsTold}
 use Rattle.cargo_toml.specs.{Reread.reread, Versions.Parts, WrittenPackages.IsVersionAgain, WrittenPackages.VersionAgain}
-use Rattle.cargo_toml_bench.specs.{Versioned.with_version, Versioned.IsPrinted, Versioned.IsVersioned, Printing.Spells}
+use Rattle.cargo_toml_bench.specs.{Versioned.with_version, Versioned.IsPrinted, Versioned.IsVersioned, Spelled.Spells}
 use Rattle.cargo_toml_bench.proofs.versioned.with_version.Goals as goal
 
 -- A manifest with another version of its package: it is still told, and read again as it is.

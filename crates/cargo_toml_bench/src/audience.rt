@@ -1,8 +1,8 @@
 //! Metadata of a caller's own, for `package.metadata` and `workspace.metadata`: who may rely on a
 //! package.
-ghost use Rattle.std.specs.Prelude.{◌≡◌, codes, IfErr, IfOk};
+ghost use Rattle.std.specs.Prelude.{◌≡◌, IfErr, IfOk};
 ghost use Rattle.toml.specs.View.{view};
-ghost use Rattle.cargo_toml.specs.{Faults.IsOther, Manifests.held};
+ghost use Rattle.cargo_toml.specs.Manifests.{held};
 ghost use Rattle.cargo_toml_bench.specs.Audiences.{IsAudienceOf, IsRewrittenOwn, Refuses};
 ghost use Rattle.cargo_toml_bench.specs.Audiences.{RefusesRewriting, AudienceRefuses, audience_in};
 ghost use Rattle.cargo_toml_bench.specs.Audiences.{audience_reads, audience_way};

@@ -52,9 +52,8 @@ fn set_version(manifest: &mut Manifest, version: SemVer)
 
 // The text that a manifest is written as.
 pub(crate) fn manifest_text(alloc: Global, manifest: &Manifest) -> Result<String, Error>
-    requires { IsTold (manifest_meaning view manifest.now) }
-    ensures { IfOk result
-        (λ text. IsPrinted (manifest_meaning view manifest.now) (string_bytes text)) }
+    ensures { IfOk result (λ text. IsTold (manifest_meaning view manifest.now)
+        → IsPrinted (manifest_meaning view manifest.now) (string_bytes text)) }
 {
     value_metadata(&None);
     match manifest.to_value(alloc)? {

@@ -50,11 +50,7 @@ impl From<AllocError> for Fault {
 
 /// The words of the fault inside.
 impl fmt::Display for Fault {
-    ghost use Rattle.cargo_toml_tools.specs.IndexedFiles.{WritesOwnWords};
-
-    fn fmt<W: fmt::Write>(&self, f: &mut fmt::Formatter<W>) -> fmt::Result
-        ensures words { WritesOwnWords W.write_str_gives f.old result self.now f.new }
-    {
+    fn fmt<W: fmt::Write>(&self, f: &mut fmt::Formatter<W>) -> fmt::Result {
         match self {
             Fault::Manifest(fault) => fault.fmt(f),
             Fault::Index(fault) => fault.fmt(f),

@@ -25,11 +25,6 @@ is_shown has_default f =
 abbrev pub is_told_beside : Text → Feature → Bool
 is_told_beside name f = not (bytes_eq f.key.now name) && not (is_internal f)
 
--- these texts and no others, each once, in byte order
-pub record AreTexts (P : Text → Type 0) (texts : List Text) : Type 0 where
-  pub exact : (x : Text) → Among texts x ↔ P x
-  pub in_order : Ascend texts
-
 -- the feature x is told of beside that of this name
 abbrev pub is_beside : {S : Type 0} → HashMap (Bor Text) Feature S → Text → Text → Bool
 is_beside m name x = option_map_or (is_told_beside name) (value_at m x) false
@@ -66,7 +61,8 @@ module _ {S : Type 0} (t : Table) (m : HashMap (Bor Text) Feature S) where
 
   -- the rows are those of all features that are told of, in byte order of their names
   pub record AreRows (has_default : Bool) (rows : List Row) : Type 0 where
-    pub names : AreTexts (λ f. IsSome (told_at m has_default f)) (map (λ r. r.name.now) rows)
+    pub names : (x : Text) → Among (map (λ r. r.name.now) rows) x ↔ IsSome (told_at m has_default x)
+    pub in_order : Ascend (map (λ r. r.name.now) rows)
     pub each : AllByRecursion (λ r. IfSome (told_at m has_default r.name.now) (IsRowOf r)) rows
 
 -- the manifest has a list of `default`

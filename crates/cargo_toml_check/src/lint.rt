@@ -14,7 +14,7 @@ use cargo_toml_tools::files::findings_of;
 use cargo_toml_tools::json::put_text;
 use serde_json::{Map, Value as Json, put};
 use std::alloc::{AllocError, Global};
-use std::collections::{BTreeMap, BTreeSet};
+use std::collections::BTreeSet;
 use std::fmt::Write;
 use std::random::RandomSource;
 
@@ -162,19 +162,10 @@ fn places_of(
     let found = places(alloc, text, &wanted)?;
     let mut all = Vec::new(alloc);
     for paths in &keys {
-        all.push(first_of(&found, paths.as_slice()))?;
+        let first = paths.iter().find_map(|path| found.get(path.as_str()).copied());
+        all.push(first.unwrap_or((1, 1)))?;
     }
     Ok(all)
-}
-
-/// The first of these paths that has a place.
-fn first_of(found: &BTreeMap<String, Place>, paths: &[String]) -> Place {
-    for path in paths {
-        if let Some(place) = found.get(path.as_str()) {
-            return *place;
-        }
-    }
-    (1, 1)
 }
 
 /// The paths of the keys that a finding may be of: the text in the feature's list, the feature, the

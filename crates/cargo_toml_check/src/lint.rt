@@ -118,11 +118,7 @@ fn counts(level: Level, denies_hints: bool) -> bool
 fn allowed_by<'m>(alloc: Global, manifest: &'m Manifest) -> Result<Vec<&'m str>, AllocError> {
     let mut allowed = Vec::new(alloc);
     if let Some(Value::Array(items)) = own_allow(manifest) {
-        for item in items {
-            if let Value::String(text) = item {
-                allowed.push(text.as_str())?;
-            }
-        }
+        allowed.extend(items.iter().filter_map(|item| item.as_str()))?;
     }
     Ok(allowed)
 }
@@ -134,13 +130,10 @@ fn own_allow(manifest: &Manifest) -> Option<&Value> {
 
 /// Whether one of the texts is the finding's code, or `CODE=FEATURE` of it.
 fn is_allowed(allowed: &[&str], finding: &Finding<'_>) -> bool {
-    for text in allowed {
+    allowed.iter().any(|text| {
         let (code, feature) = text.split_once('=').unwrap_or((*text, finding.feature));
-        if code == finding.code.name() && feature == finding.feature {
-            return true;
-        }
-    }
-    false
+        code == finding.code.name() && feature == finding.feature
+    })
 }
 
 /// The places of these findings: of each the first of its keys that has one.

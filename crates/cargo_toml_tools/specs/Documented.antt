@@ -21,13 +21,10 @@ abbrev pub is_shown : Bool → Feature → Bool
 is_shown has_default f =
     not (is_internal f) && (has_default || not (bytes_eq f.key.now (codes "default")))
 
--- another feature than the one of this name, neither hidden nor private
-abbrev pub is_told_beside : Text → Feature → Bool
-is_told_beside name f = not (bytes_eq f.key.now name) && not (is_internal f)
-
--- the feature x is told of beside that of this name
+-- the feature x is told of beside that of this name: it is another one, neither hidden nor private
 abbrev pub is_beside : {S : Type 0} → HashMap (Bor Text) Feature S → Text → Text → Bool
-is_beside m name x = option_map_or (is_told_beside name) (value_at m x) false
+is_beside m name x = option_map_or
+    (λ f. not (bytes_eq f.key.now name) && not (is_internal f)) (value_at m x) false
 
 -- the feature of a name, if it is told of
 abbrev pub told_at : {S : Type 0} → HashMap (Bor Text) Feature S → Bool → Text → Option Feature

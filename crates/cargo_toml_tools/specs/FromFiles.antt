@@ -46,19 +46,16 @@ IsUncompleted path text =
     IsTextFault path text (manifest_meaning view) (manifest_reads any_tree)
     (ManifestRefuses any_tree AnyRefuses)
 
--- the rows are those of this manifest's features, resolved with none removed
-pub record AreRowsIn (m : Manifest Value) (rows : List Row) : Type 0 where
-  pub features : Features RandomState DefaultHasher
-  pub whole : IsParsed MAX_ITEMS (held m) (λ _. true) (answer_of features)
-  pub exact : AreRowsOf (held m) features.features rows
-
--- the text reads as a manifest, and just the rows of that were taken
+-- the text reads as a manifest, and just the rows of that were taken: those of its features,
+-- resolved with none removed
 pub record IsDocumented {T : Type 0} (took : T → List Row → T → Type 0) (text : Text) (old new : T)
     : Type 0 where
   pub manifest : Manifest Value
   pub read : IsManifestIn text manifest
+  pub features : Features RandomState DefaultHasher
+  pub whole : IsParsed MAX_ITEMS (held manifest) (λ _. true) (answer_of features)
   pub rows : List Row
-  pub exact : AreRowsIn manifest rows
+  pub exact : AreRowsOf (held manifest) features.features rows
   pub taken : took old rows new
 
 -- why nothing is documented of a text

@@ -137,14 +137,12 @@ list_rows false f = (f.0, text_array (if is_extended f.1 then [] else f.1)) ∷ 
 abbrev pub lists_object : Bool → List (Text × List Text) → Data
 lists_object extended fs = object (with_rows (flat_map (list_rows extended) fs) no_members)
 
--- what is there where some list is extended: those lists, and the second version
-abbrev pub second_rows : List (Text × List Text) → List (Text × Data)
-second_rows fs =
-    if list_any (λ f. is_extended f.1) fs
-    then (codes "features2", lists_object true fs) ∷ (codes "v", number (unsigned 2)) ∷ [] else []
-
+-- where some list is extended, those lists are there, too, and the second version
 abbrev pub feature_rows : List (Text × List Text) → List (Text × Data)
-feature_rows fs = (codes "features", lists_object false fs) ∷ second_rows fs
+feature_rows fs =
+    (codes "features", lists_object false fs)
+    ∷ (if list_any (λ f. is_extended f.1) fs
+    then (codes "features2", lists_object true fs) ∷ (codes "v", number (unsigned 2)) ∷ [] else [])
 
 -- ---- the line
 

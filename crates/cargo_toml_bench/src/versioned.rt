@@ -32,10 +32,7 @@ pub fn with_version(alloc: Global, bytes: &[u8], version: &str) -> Result<String
 fn read_version(alloc: Global, text: &str) -> Result<SemVer, Error>
     ensures { IfOk result (λ v. version_parts text.now ≡ Ok (parts_of v)) }
 {
-    match SemVer::parse(alloc, text) {
-        Ok(version) => Ok(version),
-        Err(_) => Err(Error::Other("no version")),
-    }
+    SemVer::parse(alloc, text).map_err(|_| Error::Other("no version"))
 }
 
 // Puts the version into the package, if there is one.

@@ -124,14 +124,10 @@ fn action_json(alloc: Global, action: &DepAction<'_>) -> Result<Value, AllocErro
 {
     let features = set_json(alloc, &action.dep_features)?;
     let conditional = Value::from(action.is_conditional);
+    let dep_only = Value::from(action.is_dep_only);
     let mut members = Map::new(alloc);
     put(&mut members, alloc, "conditional", conditional)?;
-    put(
-        &mut members,
-        alloc,
-        "dep_only",
-        Value::from(action.is_dep_only),
-    )?;
+    put(&mut members, alloc, "dep_only", dep_only)?;
     put(&mut members, alloc, "features", features)?;
     Ok(Value::from(members))
 }

@@ -202,8 +202,7 @@ impl Paths<'_> {
             self.add_text(path.clone()?, texts.as_slice())?;
             return self.add(path, "enables", texts.as_slice());
         }
-        self.all.push(path)?;
-        Ok(())
+        self.all.push(path)
     }
 
     fn add_target(&mut self, name: &str, target: &Target) -> Result<(), AllocError> {
@@ -234,11 +233,8 @@ impl Paths<'_> {
             if product.name.as_deref() == Some(self.finding.feature) {
                 let mut path = below(self.alloc, "", kind)?;
                 push_item(&mut path, index)?;
-                self.add(
-                    path,
-                    "required-features",
-                    product.required_features.as_slice(),
-                )?;
+                let texts = product.required_features.as_slice();
+                self.add(path, "required-features", texts)?;
             }
         }
         Ok(())
@@ -247,16 +243,14 @@ impl Paths<'_> {
     /// Adds that of the text in the list of this key, if it is there, and the path itself.
     fn add(&mut self, path: String, list: &str, texts: &[String]) -> Result<(), AllocError> {
         self.add_text(below(self.alloc, path.as_str(), list)?, texts)?;
-        self.all.push(path)?;
-        Ok(())
+        self.all.push(path)
     }
 
-    fn add_text(&mut self, list: String, texts: &[String]) -> Result<(), AllocError> {
+    fn add_text(&mut self, mut list: String, texts: &[String]) -> Result<(), AllocError> {
         let text = self.finding.text;
         if let Some(index) = texts.iter().position(|other| other.as_str() == text) {
-            let mut path = list;
-            push_item(&mut path, index)?;
-            self.all.push(path)?;
+            push_item(&mut list, index)?;
+            self.all.push(list)?;
         }
         Ok(())
     }

@@ -250,10 +250,8 @@ impl<'t> Walk<'t> {
         };
         push_item(&mut path, index)?;
         self.note(&path, self.at)?;
-        self.open.push(Open {
-            path: open.path,
-            index: Some(index.saturating_add(1)),
-        })?;
+        let index = Some(index.saturating_add(1));
+        self.open.push(Open { index, ..open })?;
         self.begin(path)
     }
 
@@ -268,8 +266,7 @@ impl<'t> Walk<'t> {
             }
         };
         self.skip(1);
-        self.open.push(Open { path, index })?;
-        Ok(())
+        self.open.push(Open { path, index })
     }
 
     /// Notes that a path is mentioned at this index.

@@ -174,9 +174,9 @@ fn paths_of(
         all: Vec::new(alloc),
     };
     paths.add_feature(manifest)?;
-    paths.add_dependency("", "dependencies", &manifest.dependencies)?;
-    paths.add_dependency("", "build-dependencies", &manifest.build_dependencies)?;
-    paths.add_dependency("", "dev-dependencies", &manifest.dev_dependencies)?;
+    paths.add_entry("", "dependencies", &manifest.dependencies)?;
+    paths.add_entry("", "build-dependencies", &manifest.build_dependencies)?;
+    paths.add_entry("", "dev-dependencies", &manifest.dev_dependencies)?;
     for (name, target) in &manifest.target {
         paths.add_target(name.as_str(), target)?;
     }
@@ -208,17 +208,12 @@ impl Paths<'_> {
     fn add_target(&mut self, name: &str, target: &Target) -> Result<(), AllocError> {
         let path = below(self.alloc, "target", name)?;
         let place = path.as_str();
-        self.add_dependency(place, "dependencies", &target.dependencies)?;
-        self.add_dependency(place, "build-dependencies", &target.build_dependencies)?;
-        self.add_dependency(place, "dev-dependencies", &target.dev_dependencies)
+        self.add_entry(place, "dependencies", &target.dependencies)?;
+        self.add_entry(place, "build-dependencies", &target.build_dependencies)?;
+        self.add_entry(place, "dev-dependencies", &target.dev_dependencies)
     }
 
-    fn add_dependency(
-        &mut self,
-        above: &str,
-        kind: &str,
-        table: &DepsSet,
-    ) -> Result<(), AllocError> {
+    fn add_entry(&mut self, above: &str, kind: &str, table: &DepsSet) -> Result<(), AllocError> {
         let feature = self.finding.feature;
         if let Some(dependency) = table.get(feature) {
             let table = below(self.alloc, above, kind)?;

@@ -1,5 +1,5 @@
 -- What a resolver answers, by its filter and at its limit.
-use Rattle.std.proofs.Common.{arith, ◌≡◌, ℕ, Bool, Option, None, false, is_some, Bor, refl, subst}
+use Rattle.std.proofs.Common.{arith, ◌≡◌, ℕ, Bool, Option, None, false, is_some, Bor, subst}
 use Rattle.cargo_toml_graph.proofs.Texts.{by_true}
 use Rattle.cargo_toml.specs.Filter.{Asked, FilterTells}
 use Rattle.cargo_toml.specs.Parsed.{AreBinsComplete, IsParsed, parsed_table}
@@ -8,9 +8,6 @@ use Rattle.cargo_toml.specs.{Action.Text, Manifests.ManifestMeaning, Removal.is_
 -- without a filter no hidden name is kept
 pub tells_none : {F : Type 0} (g : Asked F) (filter : Option (Bor F)) (keep : Text → Bool) → filter ≡ None → ((n : Text) → keep n ≡ false) → FilterTells g filter keep
 tells_none g filter keep e none = grind arith
-
-pub keeps_none : {F : Type 0} (g : Asked F) (filter : Option (Bor F)) → filter ≡ None → FilterTells g filter (λ _. false)
-keeps_none g filter e = tells_none g filter (λ _. false) e (λ n. refl)
 
 module _ (keep : Text → Bool) (a : Answer) {n k : ℕ} (limit : n ≡ k) where
   pub parsed_at : {M : Type 0} (m : ManifestMeaning M) → IsParsed n m keep a → IsParsed k m keep a

@@ -1,9 +1,8 @@
 -- What a resolver answers, by its filter and at its limit.
-use Rattle.std.proofs.Common.{arith, ◌≡◌, ℕ, Bool, Option, None, false, is_some, Bor, subst}
-use Rattle.cargo_toml_graph.proofs.Texts.{by_true}
-use Rattle.cargo_toml.specs.Filter.{Asked, FilterTells}
+use Rattle.std.proofs.Common.{◌≡◌, Bool, Bor, None, Option, arith, false, is_some, subst, ℕ}
 use Rattle.cargo_toml.specs.Parsed.{AreBinsComplete, IsParsed, parsed_table}
-use Rattle.cargo_toml.specs.{Action.Text, Manifests.ManifestMeaning, Removal.is_removed, Resolved.Answer}
+use Rattle.{cargo_toml.specs.Action.Text, cargo_toml.specs.Filter.Asked, cargo_toml.specs.Filter.FilterTells, cargo_toml.specs.Manifests.ManifestMeaning}
+use Rattle.{cargo_toml.specs.Removal.is_removed, cargo_toml.specs.Resolved.Answer, cargo_toml_graph.proofs.Texts.by_true}
 
 -- without a filter no hidden name is kept
 pub tells_none : {F : Type 0} (g : Asked F) (filter : Option (Bor F)) (keep : Text → Bool) → filter ≡ None → ((n : Text) → keep n ≡ false) → FilterTells g filter keep

@@ -2,10 +2,9 @@
 use Rattle.std.specs.Prelude.{◌≡◌, ◌⊎◌, ℕ, List, Option, Some, None, IsUtf8, codes}
 use Rattle.std.specs.declared.io.Error.{Error as IoError}
 use Rattle.toml.specs.{Data.Data, Parse.parse_document}
-use Rattle.cargo_toml.specs.Error.{Error, Io, Memory}
-use Rattle.cargo_toml.specs.Manifests.{ManifestMeaning, manifest_reads, ManifestRefuses}
-use Rattle.cargo_toml.specs.Texts.{any_tree, AnyRefuses, document_reads, DocumentRefuses}
-use Rattle.cargo_toml.specs.Faults.{IsOther}
+use Rattle.cargo_toml.specs.Manifests.{ManifestMeaning, ManifestRefuses, manifest_reads}
+use Rattle.cargo_toml.specs.Texts.{AnyRefuses, DocumentRefuses, any_tree, document_reads}
+use Rattle.cargo_toml.specs.{Error.Error, Error.Io, Error.Memory, Faults.IsOther}
 
 module _ {M : Type 0} (tree_reads : Data → Option M) where
   -- the bytes are the text of a manifest that holds m, with metadata that are read so

@@ -7,8 +7,7 @@ use Rattle.serde_json.specs.Data.{Data, boolean, no_members, object}
 use Rattle.cargo_toml.specs.{Action.Text, Feature.Feature, Limits.MAX_ITEMS}
 use Rattle.cargo_toml.specs.{Manifests.ManifestMeaning, Targets.TargetMeaning}
 use Rattle.cargo_toml.specs.{Views.set_has, Views.value_at}
-use Rattle.cargo_toml_features.specs.{declared.features.DepAction.DepAction}
-use Rattle.cargo_toml_features.specs.{declared.features.Features.Features}
+use Rattle.cargo_toml_features.specs.declared.features.{DepAction.DepAction, Features.Features}
 use Rattle.cargo_toml_tools.specs.IndexEntries.{text_array, text_or_null, with_rows}
 
 abbrev pub texts_json : List (Bor Text) → Data

@@ -9,8 +9,7 @@ use Rattle.cargo_toml.specs.Views.{action_at, set_has, table_in, value_at}
 use Rattle.cargo_toml.specs.{Ascending.Ascend, Feature.Feature, Graph.Table}
 use Rattle.cargo_toml.specs.{Manifests.ManifestMeaning, Reach.Among, Recursive.Enables}
 use Rattle.cargo_toml_lint.specs.Turning.{turning}
-use Rattle.cargo_toml_tools.specs.declared.document.listing.Row.{Row}
-use Rattle.cargo_toml_tools.specs.declared.document.reached.Reached.{Reached}
+use Rattle.cargo_toml_tools.specs.declared.document.{listing.Row.Row, reached.Reached.Reached}
 
 -- hidden by its name, or private by its table
 abbrev pub is_internal : Feature → Bool

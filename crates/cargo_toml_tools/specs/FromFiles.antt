@@ -1,15 +1,13 @@
 -- Manifests in files, what is documented of a text, and why a file gives none. What a file holds,
 -- nothing says.
-use Rattle.std.specs.Prelude.{◌≡◌, ◌⊎◌, None, Err, IsUtf8, List, true}
-use Rattle.std.specs.{declared.hash.DefaultHasher.DefaultHasher}
-use Rattle.std.specs.{declared.hash.RandomState.RandomState}
+use Rattle.std.specs.Prelude.{◌≡◌, ◌⊎◌, Err, IsUtf8, List, None, true}
+use Rattle.std.specs.declared.hash.{DefaultHasher.DefaultHasher, RandomState.RandomState}
 use Rattle.toml.specs.{View.view, declared.value.Value.Value}
-use Rattle.cargo_toml.specs.Manifests.{ManifestRefuses, manifest_meaning, manifest_reads, held}
+use Rattle.cargo_toml.specs.Manifests.{ManifestRefuses, held, manifest_meaning, manifest_reads}
 use Rattle.cargo_toml.specs.RealFiles.{IsTextFault, ReadsAs, any_root, real_folders, real_roots}
-use Rattle.cargo_toml.specs.Texts.{AnyRefuses, IsFromText, any_tree}
 use Rattle.cargo_toml.specs.{Action.Text, Completed.IsCompleted, Disk.IsInput, Error.Error}
-use Rattle.cargo_toml.specs.{Error.Memory, Manifest.Manifest, Limits.MAX_ITEMS, Parsed.IsParsed}
-use Rattle.cargo_toml.specs.{Views.answer_of}
+use Rattle.cargo_toml.specs.{Error.Memory, Limits.MAX_ITEMS, Manifest.Manifest, Parsed.IsParsed}
+use Rattle.cargo_toml.specs.{Texts.AnyRefuses, Texts.IsFromText, Texts.any_tree, Views.answer_of}
 use Rattle.cargo_toml_features.specs.declared.features.Features.{Features}
 use Rattle.cargo_toml_tools.specs.{Documented.AreRowsOf, declared.document.listing.Row.Row}
 

@@ -1,9 +1,8 @@
-use Rattle.std.proofs.Common.{arith, Result, Err, inl, inr}
+use Rattle.{std.specs.Prelude.IfErr, std.specs.Prelude.IfOk, toml.specs.View.view, toml.specs.declared.value.Value.Value, cargo_toml.specs.Error.Error}
+use Rattle.std.proofs.Common.{Err, Result, arith, inl, inr}
 use Rattle.std.proofs.lemmas.Result.{IfErr-weaker, IfOk-weaker, err_from_is_err_and}
-use Rattle.std.specs.Prelude.{IfErr, IfOk}
-use Rattle.toml.specs.{View.view, declared.value.Value.Value}
-use Rattle.cargo_toml.specs.{Error.Error, Manifests.held, Writes.Way, Writes.IsWriting, WrittenManifests.manifest_way}
 use Rattle.cargo_toml_bench.specs.Audiences.{IsRewrittenOwn, RefusesRewriting, audience_way}
+use Rattle.{cargo_toml.specs.Manifests.held, cargo_toml.specs.Writes.IsWriting, cargo_toml.specs.Writes.Way, cargo_toml.specs.WrittenManifests.manifest_way}
 use Rattle.cargo_toml_bench.proofs.audience.rewrite.Goals as goal
 
 -- What a writer answers.

@@ -1,9 +1,7 @@
-use Rattle.std.proofs.Common.{◌≡◌, ◌&&◌, ◌∙◌, rules, sym}
-use Rattle.std.proofs.lemmas.{Bool.and_from, Bool.and_parts, Fn.filter_same}
-use Rattle.cargo_toml.specs.{Action.Text, Views.set_has}
-use Rattle.cargo_toml_features.proofs.Thinning.{has_filtered}
-use Rattle.cargo_toml_graph.proofs.Joins.{join_alike}
-use Rattle.cargo_toml_tools.specs.Documented.{is_beside}
+use Rattle.{std.proofs.lemmas.Fn.filter_same, cargo_toml.specs.Action.Text, cargo_toml.specs.Views.set_has, cargo_toml_features.proofs.Thinning.has_filtered}
+use Rattle.std.proofs.Common.{◌&&◌, ◌∙◌, ◌≡◌, rules, sym}
+use Rattle.std.proofs.lemmas.Bool.{and_from, and_parts}
+use Rattle.{cargo_toml_graph.proofs.Joins.join_alike, cargo_toml_tools.specs.Documented.is_beside}
 use Rattle.cargo_toml_tools.proofs.document.reached.reach.Goals as goal
 
 pub returns : goal.returns

@@ -2,10 +2,10 @@
 pub use Rattle.std.proofs.Common.{[], ℕ, ◌&&◌, ◌++◌, ◌+◌, ◌-◌, ◌==◌, ◌||◌, ◌∙◌, ◌∷◌, ◌≡◌, Bool, Bor, Global, IsTrue, List, None, Option, Some, String, ap, append-nil, append_assoc, cond, drop, false, inl, inr, is_some, length, map, not, option_map, refl, rules, string_bytes, subst, sym, take, true}
 pub use Rattle.std.specs.Prelude.{MatchOption, Vec, bytes_eq, codes, filter, option_to_list}
 pub use Rattle.std.{proofs.Math.Bool.or-false, proofs.lemmas.Bool.false≢true, proofs.lemmas.Bool.or_left, proofs.lemmas.Bool.or_right, proofs.lemmas.Bool.Decides.Decides-eqb, proofs.lemmas.Bool.Decides.same_from_decides}
-pub use Rattle.std.{proofs.lemmas.List.map-append, proofs.lemmas.List.Concat.flat_map-append, proofs.lemmas.List.Elements.filter-append, proofs.lemmas.Map.Iter.rest_all}
-pub use Rattle.std.{proofs.lemmas.Map.Iter.rest_more, proofs.lemmas.Option.MatchOption-at_some, proofs.lemmas.Result.IfOk-weaker, proofs.lemmas.Result.err_from_is_err_and, proofs.lemmas.Result.on_ok_weaker}
+pub use Rattle.std.{proofs.lemmas.List.map-append, proofs.lemmas.List.Concat.flat_map-append, proofs.lemmas.List.Elements.filter-append}
+pub use Rattle.std.{proofs.lemmas.Option.MatchOption-at_some, proofs.lemmas.Result.IfOk-weaker, proofs.lemmas.Result.err_from_is_err_and, proofs.lemmas.Result.on_ok_weaker}
 pub use Rattle.std.{specs.BTreeMap.btree_map_len, specs.BTreeMap.is_at, specs.BTreeSet.contains_text, specs.Cmp.Lexicographic.slice_cmp, specs.List.flat_map, specs.List.join_by, specs.List.list_any}
-pub use Rattle.std.{specs.Map.Iter.TakesFirst, specs.Option.option_map_or, specs.Ordering.nat_cmp}
+pub use Rattle.std.{specs.Option.option_map_or, specs.Ordering.nat_cmp}
 pub use Rattle.cargo_toml.specs.RealFiles.{IsCompletionFault, any_root, real_folders, real_roots}
 pub use Rattle.cargo_toml.{specs.Action.Text, specs.Dependencies.dependency_meaning, specs.Inheritable.Inheritable, specs.Inheritable.TheVariants.Inherited, specs.Inheritable.TheVariants.Set}
 pub use Rattle.cargo_toml.{specs.InheritedPackages.field_is_left, specs.InheritedPackages.is_left_there, specs.Inherits.inheritable_map, specs.Manifest.Manifest, specs.Manifests.held, specs.Reads.map_meaning}

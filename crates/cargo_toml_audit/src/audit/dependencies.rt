@@ -59,7 +59,7 @@ pub fn entries<M>(alloc: Global, manifest: &Manifest<M>) -> AllocResult<Vec<Entr
     Ok(all)
 }
 
-#[tactic(auto, using(crate::proofs::Walks::left_next, crate::proofs::Walks::left_none))]
+#[tactic(auto, using(cargo_toml_tools::proofs::Grown::nested))]
 fn add_targets<'a>(targets: &'a TargetDepsSet, all: &mut Vec<Entry<'a>>) -> AllocResult<()>
     ensures { OnOk result (map listed_of all.new.items ≡ map listed_of all.old.items
         ++ flat_map in_target (map_meaning target_meaning targets.now)) }

@@ -147,7 +147,7 @@ fn other(alloc: Global, own: Option<&str>, given: &str) -> AllocResult<String> {
 }
 
 /// Adds the dependencies of the workspace that no member inherits, and those that are optional.
-#[tactic(auto, using(crate::proofs::Walks::left_next, crate::proofs::Walks::left_none))]
+#[tactic(auto, using(cargo_toml_tools::proofs::Grown::nested))]
 pub fn add_shared(
     dependencies: &DepsSet,
     inherited: &BTreeSet<String>,

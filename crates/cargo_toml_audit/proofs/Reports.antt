@@ -1,8 +1,8 @@
 -- The names that proofs of a report cite. Declares nothing.
-pub use Rattle.std.proofs.Common.{[], ℕ, ◌&&◌, ◌++◌, ◌+◌, ◌-◌, ◌==◌, ◌||◌, ◌∙◌, ◌∷◌, ◌≡◌, Bool, Bor, Global, IsTrue, List, None, Option, Some, String, ap, append-nil, append_assoc, cond, drop, false, inl, inr, is_some, length, map, not, option_map, refl, rules, string_bytes, subst, sym, take, true}
+pub use Rattle.std.proofs.Common.{[], ℕ, ◌&&◌, ◌++◌, ◌+◌, ◌-◌, ◌==◌, ◌||◌, ◌∙◌, ◌∷◌, ◌≡◌, Bool, Bor, Global, IsTrue, List, None, Option, Some, String, ap, append-nil, append_assoc, arith, cond, drop, false, inl, inr, is_some, length, map, not, option_map, refl, rules, string_bytes, subst, sym, take, true}
 pub use Rattle.std.specs.Prelude.{MatchOption, Vec, bytes_eq, codes, filter, option_to_list}
 pub use Rattle.std.{proofs.Math.Bool.or-false, proofs.lemmas.Bool.false≢true, proofs.lemmas.Bool.or_left, proofs.lemmas.Bool.or_right, proofs.lemmas.Bool.Decides.Decides-eqb, proofs.lemmas.Bool.Decides.same_from_decides}
-pub use Rattle.std.{proofs.lemmas.List.map-append, proofs.lemmas.List.Concat.flat_map-append, proofs.lemmas.List.Elements.filter-append}
+pub use Rattle.std.{proofs.lemmas.List.map-append, proofs.lemmas.Grind.common_steps, proofs.lemmas.List.Elements.filter-append}
 pub use Rattle.std.{proofs.lemmas.Option.MatchOption-at_some, proofs.lemmas.Result.IfOk-weaker, proofs.lemmas.Result.err_from_is_err_and, proofs.lemmas.Result.on_ok_weaker}
 pub use Rattle.std.{specs.BTreeMap.btree_map_len, specs.BTreeMap.is_at, specs.BTreeSet.contains_text, specs.Cmp.Lexicographic.slice_cmp, specs.List.flat_map, specs.List.join_by, specs.List.list_any}
 pub use Rattle.std.{specs.Option.option_map_or, specs.Ordering.nat_cmp}
@@ -21,6 +21,6 @@ pub use Rattle.cargo_toml_audit.{specs.declared.audit.Finding.Finding, specs.dec
 pub use Rattle.cargo_toml_discovery.{proofs.Faults.from_input}
 pub use Rattle.cargo_toml_manifest.{proofs.Meeting.completed_handed}
 pub use Rattle.cargo_toml_package.{specs.Replacing.entries_meaning}
-pub use Rattle.cargo_toml_tools.{proofs.Grown.flat_flat, proofs.Grown.left_next, proofs.Told.entry_of, proofs.Told.target_of, specs.FromFiles.IsManifestIn, specs.Indexed.target_by_kind, specs.Indexed.with_kinds}
+pub use Rattle.cargo_toml_tools.{proofs.Grown.flat_flat, proofs.Grown.left_next, proofs.Told.entry_of, proofs.Told.target_of, specs.FromFiles.IsManifestIn, specs.Indexed.target_by_kind}
 pub use Rattle.semver.{specs.Identifiers.parts_of}
 pub use Rattle.toml.{specs.declared.value.Value.Value}

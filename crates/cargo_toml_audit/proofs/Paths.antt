@@ -10,7 +10,7 @@ pub use Rattle.std.{specs.List.list_any, specs.Option.option_map_or, specs.Order
 pub use Rattle.cargo_toml.{specs.Action.Text}
 pub use Rattle.cargo_toml_audit.specs.MemberFolders.{Agrees, Disk, OnDisks, Tells, all_below, below, disk_of, ended, further, further_in, is_wrong, is_wrong_name, led, named_so, path_if, place_if, places_if_right, places_of, repeats, repeats_of, subfolders, unread_in, unseen, unseen_in}
 pub use Rattle.cargo_toml_audit.specs.Patterns.{Part, accepts, after_any, after_one, begins, is_empty, is_many, matches, next, part_of, read_all, read_more, read_of, scan, shift, whole_parts}
-pub use Rattle.cargo_toml_audit.specs.Places.{included, is_in, is_nothing, lies_in_some, one_further, pieces}
+pub use Rattle.cargo_toml_audit.specs.Places.{included, is_in, lies_in_some, one_further, pieces}
 pub use Rattle.cargo_toml_audit.{specs.declared.members.patterns.Token.Token, specs.declared.members.walk.Listing.Listing, specs.declared.members.walk.Looks.Looks, specs.declared.members.walk.There.There}
 pub use Rattle.cargo_toml_audit.{specs.declared.members.walk.There.TheVariants.Nothing}
 pub use Rattle.cargo_toml_graph.{proofs.Texts.bytes_eq_sym}

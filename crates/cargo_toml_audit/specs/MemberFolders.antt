@@ -32,16 +32,13 @@ pub record Disk : Type 0 where
 
 abbrev pub is_folder : There → Bool
 is_folder Folder = true
-is_folder Other = false
-is_folder Nothing = false
-is_folder Unseen = false
+is_folder _ = false
 
 -- something lies there, or a folder where one is wanted
 abbrev pub is_there : Bool → There → Bool
 is_there wanted Folder = true
-is_there wanted Other = not wanted
 is_there wanted Nothing = false
-is_there wanted Unseen = not wanted
+is_there wanted _ = not wanted
 
 -- ---- where an entry leads
 
@@ -172,9 +169,7 @@ repeats ts = repeats_of [] ts
 -- what couldn't be looked at, or read to its end
 abbrev pub is_unseen : There → Bool
 is_unseen Unseen = true
-is_unseen Folder = false
-is_unseen Other = false
-is_unseen Nothing = false
+is_unseen _ = false
 
 abbrev pub unseen_in : List (String Global × There) → List Text
 unseen_in es = map (λ e. string_bytes e.0) (filter (λ e. is_unseen e.1) es)

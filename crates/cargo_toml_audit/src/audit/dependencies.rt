@@ -244,47 +244,42 @@ fn add_use(folder: &str, entry: Entry<'_>, uses: &mut Vec<Use>) -> AllocResult<(
     Ok(())
 }
 
-/// What was asked for so far.
-#[derive(Drop)]
-struct Asked {
-    /// The names of crates.
-    names: BTreeSet<String>,
-    /// A requirement and the name, in one text.
-    keys: BTreeSet<String>,
-}
-
 /// What asks for a crate that was asked for before, and by a requirement that is new.
 pub fn further(alloc: Global, uses: &[Use]) -> AllocResult<Vec<Finding>>
     ensures { IfOk result (λ all. map oddity_of all.items
         ≡ further_from (λ t. false) (λ t. false) (map asking_of uses.now)) }
 {
     let mut all = Vec::new(alloc);
-    let mut asked = Asked {
-        names: BTreeSet::new(alloc),
-        keys: BTreeSet::new(alloc),
-    };
+    let mut names = BTreeSet::new(alloc);
+    let mut keys = BTreeSet::new(alloc);
     for one in uses {
-        add_further(one, &mut asked, &mut all)?;
+        add_further(one, &mut names, &mut keys, &mut all)?;
     }
     Ok(all)
 }
 
-fn add_further(one: &Use, asked: &mut Asked, all: &mut Vec<Finding>) -> AllocResult<()>
+/// Adds what asks for one of these names, but by none of these keys, which have a requirement and
+/// the name. Both are noted.
+fn add_further(
+    one: &Use,
+    names: &mut BTreeSet<String>,
+    keys: &mut BTreeSet<String>,
+    all: &mut Vec<Finding>,
+) -> AllocResult<()>
     ensures found { OnOk result (map oddity_of all.new.items ≡ map oddity_of all.old.items
-        ++ further_of (contains_text asked.old.names) (contains_text asked.old.keys)
-        (asking_of one.now)) }
-    ensures names { OnOk result ((t : List ℕ) → contains_text asked.new.names t
-        ≡ (contains_text asked.old.names t || bytes_eq (asking_of one.now).name t)) }
-    ensures keys { OnOk result ((t : List ℕ) → contains_text asked.new.keys t
-        ≡ (contains_text asked.old.keys t || bytes_eq (asking_key (asking_of one.now)) t)) }
+        ++ further_of (contains_text names.old) (contains_text keys.old) (asking_of one.now)) }
+    ensures names { OnOk result ((t : List ℕ) → contains_text names.new t
+        ≡ (contains_text names.old t || bytes_eq (asking_of one.now).name t)) }
+    ensures keys { OnOk result ((t : List ℕ) → contains_text keys.new t
+        ≡ (contains_text keys.old t || bytes_eq (asking_key (asking_of one.now)) t)) }
 {
     let alloc = *all.allocator();
     let name = one.name.as_str();
     let requirement = one.requirement.as_str();
     // there is no `|` in a requirement
     let key = format!(in alloc; "{requirement}|{name}")?;
-    let is_further = asked.names.contains(name) && !asked.keys.contains(key.as_str());
+    let is_further = names.contains(name) && !keys.contains(key.as_str());
     find_if(all, Code::SeveralRequirements, is_further, name)?;
-    note(alloc, &mut asked.names, name, true)?;
-    note(alloc, &mut asked.keys, key.as_str(), true)
+    note(alloc, names, name, true)?;
+    note(alloc, keys, key.as_str(), true)
 }

@@ -1,13 +1,15 @@
 -- What `index` answers of a text of a file.
-use Rattle.std.specs.Prelude.{◌≡◌, ◌⊎◌, ◌++◌, [], ◌∷◌, List, None, Option, Some, codes}
-use Rattle.std.specs.Prelude.{option_and_then}
+use Rattle.std.specs.Prelude.{◌≡◌, ◌⊎◌, ◌++◌, [], ◌∷◌, List, None, Option, Result, Some, ⊤}
+use Rattle.std.specs.Prelude.{codes, option_and_then}
 use Rattle.std.specs.{BTreeMap.BTreeMap, BTreeMap.get_by, Borrow.Bor, Cmp.Lexicographic.slice_cmp}
 use Rattle.std.specs.{Option.option_copied, Option.option_or, Ordering.nat_cmp}
+use Rattle.std.specs.declared.fmt.{Error.Error as FmtError, Formatter.Formatter}
 use Rattle.semver.specs.Identifiers.{parts_text}
 use Rattle.serde_json.specs.{Data.Data, Written.IsInOrder}
 use Rattle.toml.specs.declared.value.Value.{Value}
 use Rattle.cargo_toml.specs.{Action.Text, InheritableValues.value_of, Manifest.Manifest}
 use Rattle.cargo_toml.specs.{Manifests.held, Manifests.ManifestMeaning}
+use Rattle.cargo_toml_parts.specs.OwnWords.{HasOwnWords, WritesSome}
 use Rattle.cargo_toml_lint.specs.declared.finding.Finding.{Finding}
 use Rattle.cargo_toml_tools.specs.FromFiles.{IsCompletedIn, IsOfInput, IsUncompleted}
 use Rattle.cargo_toml_tools.specs.{IndexEntries.index_data, Indexed.Wanted, Indexed.refusal_of}
@@ -62,3 +64,9 @@ pub record IsUntaken (path text : Text) (w : Wanted) (e : IndexError) : Type 0 w
 abbrev pub IsIndexFault : Text → Text → Wanted → Fault → Type 0
 IsIndexFault path text w (fault.Manifest e) = IsOfInput e ⊎ IsUncompleted path text e
 IsIndexFault path text w (fault.Index e) = IsUntaken path text w e
+
+-- a manifest's fault writes its own words, whatever `toml` and input write after them
+abbrev pub WritesOwnWords : {W : Type 0} → (W → Text → W → Type 0) → Formatter W
+    → Result (Unit {0}) FmtError → Fault → Formatter W → Type 0
+WritesOwnWords took f r (fault.Manifest e) g = WritesSome took f r (HasOwnWords e) g
+WritesOwnWords took f r (fault.Index e) g = ⊤

@@ -50,7 +50,11 @@ impl From<AllocError> for Fault {
 
 /// The words of the fault inside.
 impl fmt::Display for Fault {
-    fn fmt<W: fmt::Write>(&self, f: &mut fmt::Formatter<W>) -> fmt::Result {
+    ghost use Rattle.cargo_toml_tools.specs.IndexedFiles.{WritesOwnWords};
+
+    fn fmt<W: fmt::Write>(&self, f: &mut fmt::Formatter<W>) -> fmt::Result
+        ensures words { WritesOwnWords W.write_str_gives f.old result self.now f.new }
+    {
         match self {
             Fault::Manifest(fault) => fault.fmt(f),
             Fault::Index(fault) => fault.fmt(f),

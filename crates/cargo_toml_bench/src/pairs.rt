@@ -2,13 +2,52 @@
 //! and what both together promise is told.
 ghost use Rattle.std.specs.Prelude.{◌≡◌, ◌⊎◌, IfErr, IfOk, OnOk, option_map};
 ghost use Rattle.cargo_toml.specs.{Choosing.handed_of, Choosing.roots_of, Completed.IsCompleted};
-ghost use Rattle.cargo_toml.specs.{Error.Memory, Manifests.held, Products.product_meaning};
-ghost use Rattle.cargo_toml.specs.{Refusing.IsRefusedBy, Refusing.MayLose};
-ghost use Rattle.cargo_toml_bench.specs.Pairs.{IsFeatureCount};
+ghost use Rattle.cargo_toml.specs.{Dependencies.is_optional, Error.Memory, Manifests.held};
+ghost use Rattle.cargo_toml.specs.{Products.product_meaning, Refusing.IsRefusedBy};
+ghost use Rattle.cargo_toml.specs.{Refusing.MayLose};
+ghost use Rattle.cargo_toml_bench.specs.Pairs.{IsEnabling, IsFeatureCount, first_under};
 
+use crate::whole::resolve_whole;
 use cargo_toml::features::{Resolver, complete_and_parse_into};
 use cargo_toml::{AbstractFilesystem, Error, FromValue, Manifest, Product, ToValue};
 use std::alloc::Global;
+
+/// Whether a manifest has the feature `name`, and asking for it enables the feature `other`: it is
+/// resolved, and asked for what the feature enables. The one refusal is [`Error::Memory`].
+pub fn enables<M>(
+    alloc: Global,
+    manifest: &Manifest<M>,
+    name: &str,
+    other: &str,
+) -> Result<bool, Error>
+    ensures answer { IfOk result (IsEnabling (held manifest.now) name.now other.now) }
+    ensures refused { IfErr result (λ e. e ≡ Memory) }
+{
+    let resolved = resolve_whole(alloc, manifest)?;
+    let Some(feature) = resolved.features.get(name) else {
+        return Ok(false);
+    };
+    let (features, _dependencies) = feature.enables_recursive(alloc, &resolved.features)?;
+    Ok(features.contains_key(other))
+}
+
+/// Whether the dependency that stands first under the key is optional; `None` where features can't
+/// speak of the key. The one refusal is [`Error::Memory`].
+pub fn is_optional_at<M>(
+    alloc: Global,
+    manifest: &Manifest<M>,
+    key: &str,
+) -> Result<Option<bool>, Error>
+    ensures answer { IfOk result (λ o. o
+        ≡ option_map is_optional (first_under (held manifest.now) key.now)) }
+    ensures refused { IfErr result (λ e. e ≡ Memory) }
+{
+    let resolved = resolve_whole(alloc, manifest)?;
+    let Some(dependency) = resolved.dependencies.get(key) else {
+        return Ok(None);
+    };
+    Ok(Some(dependency.dep().optional()))
+}
 
 /// Completes a member, and counts the features that it then has, without the hidden ones.
 ///

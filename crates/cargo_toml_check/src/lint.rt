@@ -155,7 +155,9 @@ fn places_of(
     let found = places(alloc, text, &wanted)?;
     let mut all = Vec::new(alloc);
     for paths in &keys {
-        let first = paths.iter().find_map(|path| found.get(path.as_str()).copied());
+        let first = paths
+            .iter()
+            .find_map(|path| found.get(path.as_str()).copied());
         all.push(first.unwrap_or((1, 1)))?;
     }
     Ok(all)

@@ -34,7 +34,13 @@ pub(super) fn entries(
     let mut entries = Vec::new(alloc);
     for section in sections {
         for (key, dependency) in section.entries {
-            push_dependency(alloc, &mut entries, options, section, key.as_str(), dependency)?;
+            push_dependency(
+                alloc,
+                &mut entries,
+                options,
+                section,
+                (key.as_str(), dependency),
+            )?;
         }
     }
     Ok(entries)
@@ -47,13 +53,13 @@ fn push_dependency(
     entries: &mut Vec<Value>,
     options: Options<'_>,
     section: &Section<'_>,
-    key: &str,
-    dependency: &Dependency,
+    dependency: (&str, &Dependency),
 ) -> Result<(), AllocError>
     ensures { OnOk result (map view entries.new.items ≡ map view entries.old.items
         ++ index_entries (wanted_of options.entry) (table_of section.now)
-        (key.now, dependency_meaning dependency.now)) }
+        (dependency.entry.0.now, dependency_meaning dependency.entry.1.now)) }
 {
+    let (key, dependency) = dependency;
     if lacks_version(dependency) {
         return Ok(());
     }

@@ -1,12 +1,6 @@
 -- Findings of single codes, for the features of which something holds.
-use Rattle.std.proofs.Common.{◌≡◌, ◌⊎◌, ◌↔◌, ◌<◌, ◌+◌, ℕ, Bool, true, false, List, [], ◌++◌, Bor, IsTrue, arith, refl, sym, ap, subst, inl, inr}
-use Rattle.cargo_toml_lint.specs.declared.finding.Code.TheVariants.{Implied, PrivateDefault, Cycle, Unreachable}
-use Rattle.std.{proofs.lemmas.Bool.cases_eq, proofs.lemmas.Bool.false≢true, specs.HashMap.HashMap}
-use Rattle.cargo_toml.specs.{Action.Text, Feature.Feature, Graph.Table, Reach.Among}
-use Rattle.cargo_toml_lint.specs.Findings.{About, IsFound, told, when}
-use Rattle.cargo_toml_lint.specs.Steps.{CountsBy, Finds}
-use Rattle.cargo_toml_lint.specs.{declared.finding.Code.Code, declared.finding.Finding.Finding}
-use Rattle.cargo_toml_graph.proofs.BinLists.{among-either, among-first, among-second}
+use Rattle.cargo_toml_lint.proofs.Cited.{◌++◌, ◌+◌, ◌<◌, ◌↔◌, ◌≡◌, ◌⊎◌, [], About, Among, among-either, among-first, among-second, ap, arith, Bool, Bor, cases_eq, Code, CountsBy, Cycle, false, false≢true, Feature, Finding, Finds, HashMap}
+use Rattle.cargo_toml_lint.proofs.Cited.{Implied, inl, inr, IsFound, IsTrue, List, PrivateDefault, refl, subst, sym, Table, Text, told, true, Unreachable, when, ℕ}
 
 -- what is found after something was added
 found_after : (a b : List Finding) (xs : List About) → Finds xs a b → (c : Code) (f t : Text)

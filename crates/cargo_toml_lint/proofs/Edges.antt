@@ -1,14 +1,7 @@
 -- What the lists of features turn on, as rows of places.
-use Rattle.std.proofs.Common.{◌≡◌, ◌↔◌, ◌||◌, cond, ◌&&◌, ◌<◌, ℕ, Bool, true, false, List, length, map, Option, is_some, not, option_map, Bor, String, Vec, Global, IsTrue, bytes_eq, string_bytes, refl, sym, ap, subst, ◌∙◌, [], ◌∷◌, arith}
-use Rattle.std.specs.{BTreeMap.BTreeMap, BTreeMap.get_by_text, BTreeMap.is_at, Cmp.Lexicographic.slice_cmp, Map.lookup, Ordering.nat_cmp}
-use Rattle.cargo_toml.specs.{Action.Text, Action.Item.Name, Action.Item.On, Action.item_of, Ascending.Ascend, Reach.Among, Views.listed_in}
-use Rattle.std.proofs.lemmas.Bool.{and_from, and_parts, false≢true}
-use Rattle.std.proofs.{Math.Bool.and-true, lemmas.Grind.common_steps, lemmas.List.length-map}
-use Rattle.std.proofs.{lemmas.Map.Text.is_eq-slice_cmp, lemmas.Slice.Eq.bytes_eq-Decides}
-use Rattle.cargo_toml_features.proofs.ByPlace.{among_at, once}
-use Rattle.cargo_toml_features.specs.ActionText.{action_in, item_in}
-use Rattle.cargo_toml_features.specs.{Places.nth_text, declared.action.ActionText.ActionText}
-use Rattle.cargo_toml_lint.specs.{Linked.Passes, Reached.Leads, Turning.turns_to}
+use Rattle.cargo_toml_lint.proofs.Cited.{◌&&◌, ◌<◌, ◌||◌, ◌↔◌, ◌∙◌, ◌∷◌, ◌≡◌, [], action_in, ActionText, Among, among_at, and-true, and_from, and_parts, ap, arith, Ascend, Bool, Bor, BTreeMap, bytes_eq, bytes_eq-Decides, common_steps, cond}
+use Rattle.cargo_toml_lint.proofs.Cited.{false, false≢true, get_by_text, Global, is_at, is_eq-slice_cmp, is_some, IsTrue, item_in, item_of, Leads, length, length-map, List, listed_in, lookup, map, Name, nat_cmp, not, nth_text, On, once}
+use Rattle.cargo_toml_lint.proofs.Cited.{Option, option_map, Passes, refl, slice_cmp, String, string_bytes, subst, sym, Text, true, turns_to, Vec, ℕ}
 
 pub length_now : (names : List (Bor Text)) → length (map (λ t. t.now) names) ≡ length names
 length_now names = length-map names (λ t. t.now)

@@ -1,12 +1,7 @@
 -- What a loop over a list gathers.
-use Rattle.std.proofs.Common.{arith, ◌≡◌, ◌⊎◌, ◌↔◌, ◌||◌, ◌&&◌, ◌<◌, ◌+◌, ℕ, Bool, true, false, is_some, List, [], ◌∷◌, ◌++◌, map, take, length, get_or, Bor, String, Vec, Global, IsTrue, bytes_eq, string_bytes, refl, sym, ap, inl, inr, ◌∙◌}
-use Rattle.std.proofs.lemmas.Bool.{false≢true, or_cases, or_left, or_right}
-use Rattle.std.proofs.{Math.Bool.or-false, lemmas.List.map_push, lemmas.List.take_more}
-use Rattle.std.proofs.{lemmas.Grind.common_steps, lemmas.List.Folds.list_any-append}
-use Rattle.std.proofs.{lemmas.Map.Text.is_eq-slice_cmp, lemmas.Slice.Eq.bytes_eq-Decides}
-use Rattle.std.specs.{BTreeMap.is_at, Cmp.Lexicographic.slice_cmp, List.list_any, Map.lookup}
-use Rattle.std.specs.Ordering.{nat_cmp}
-use Rattle.cargo_toml.specs.{Action.Text, Reach.Among}
+use Rattle.cargo_toml_lint.proofs.Cited.{◌&&◌, ◌++◌, ◌+◌, ◌<◌, ◌||◌, ◌↔◌, ◌∙◌, ◌∷◌, ◌≡◌, ◌⊎◌, [], Among, ap, arith, Bool, Bor, bytes_eq, bytes_eq-Decides, common_steps, false, false≢true, get_or, Global, inl, inr, is_at, is_eq-slice_cmp}
+use Rattle.cargo_toml_lint.proofs.Cited.{is_some, IsTrue, length, List, list_any, list_any-append, lookup, map, map_push, nat_cmp, or-false, or_cases, or_left, or_right, refl, slice_cmp, String, string_bytes, sym, take, take_more, Text}
+use Rattle.cargo_toml_lint.proofs.Cited.{true, Vec, ℕ}
 
 -- some of the keys is f
 abbrev pub has_in : List (Bor Text) → Text → Bool

@@ -1,13 +1,7 @@
 -- A search, one vertex after another.
-use Rattle.std.proofs.Common.{◌≡◌, ◌≢◌, ◌⊎◌, ◌↔◌, ◌<◌, ℕ, Bool, true, false, Vec, List, [], ◌∷◌, ◌++◌, ◌==◌, length, get_or, set, refl, sym, subst, inl, inr, ◌∙◌, arith, length-set}
-use Rattle.cargo_toml_lint.specs.Reached.{IsFlagged, IsInRing, IsWhole, Leads, Path, Searches, Stands, row_at}
-use Rattle.std.proofs.{lemmas.Bool.cases_eq, lemmas.Bool.Decides.Decides-eqb}
-use Rattle.cargo_toml.specs.Reach.{Among, Gathers, Reaches}
-use Rattle.cargo_toml.specs.Reach.Reaches.{edge, through}
-use Rattle.cargo_toml_features.proofs.ByPlace.{among_at}
-use Rattle.cargo_toml_graph.proofs.Closure.{chained}
-use Rattle.cargo_toml_graph.proofs.BinLists.{among-either, among-first, among-second}
-use Rattle.cargo_toml_lint.{specs.declared.reach.Reach.Reach, proofs.Rows.flag_set}
+use Rattle.cargo_toml_lint.proofs.Cited.{◌++◌, ◌<◌, ◌==◌, ◌↔◌, ◌∙◌, ◌∷◌, ◌≡◌, ◌≢◌, ◌⊎◌, [], Among, among-either, among-first, among-second, among_at, arith, Bool, cases_eq, chained, Decides-eqb, edge, false, Gathers, get_or, inl, inr}
+use Rattle.cargo_toml_lint.proofs.Cited.{IsFlagged, IsInRing, IsWhole, Leads, length, length-set, List, Path, Reach, Reaches, refl, row_at, Searches, set, Stands, subst, sym, through, true, Vec, ℕ}
+use Rattle.cargo_toml_lint.proofs.Rows.{flag_set}
 
 abbrev All : ℕ → Type 0
 All v = Unit {0}

@@ -1,6 +1,4 @@
-use Rattle.std.proofs.Common.{◌≡◌, map, take}
-use Rattle.cargo_toml.specs.{Action.Text, Views.set_has}
-use Rattle.cargo_toml_lint.specs.{Known.has_key, Names.key_of}
+use Rattle.cargo_toml_lint.proofs.Cited.{◌≡◌, has_key, key_of, map, set_has, take, Text}
 use Rattle.cargo_toml_lint.proofs.known.all_of.Given as goal
 
 abbrev pub invariant-loop-key : goal.invariant-loop-key

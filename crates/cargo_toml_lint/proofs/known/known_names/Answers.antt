@@ -1,8 +1,4 @@
-use Rattle.std.proofs.Common.{◌≡◌, ◌∙◌, Bool, List, ap, map}
-use Rattle.cargo_toml.specs.Action.{Text}
-use Rattle.cargo_toml_lint.specs.Known.{Marked, Names, has_key, has_marked}
-use Rattle.cargo_toml_lint.specs.Names.{key_of}
-use Rattle.cargo_toml_lint.specs.declared.known.Key.{Key}
+use Rattle.cargo_toml_lint.proofs.Cited.{◌∙◌, ◌≡◌, ap, Bool, has_key, has_marked, Key, key_of, List, map, Marked, Names, Text}
 use Rattle.cargo_toml_lint.proofs.known.known_names.Goals as goal
 
 held_as : {ks : Marked} (test : Marked → Text → Bool) (has : Text → Bool) (xs ys : List Key)

@@ -1,7 +1,4 @@
-use Rattle.std.proofs.Common.{◌≡◌, ◌&&◌, ◌⊎◌, ◌↔◌, ◌∷◌, [], Bool, bytes_eq, inl, inr}
-use Rattle.cargo_toml.specs.Action.{Text, item_of}
-use Rattle.cargo_toml_graph.proofs.BinLists.{among-either, among-first, among-second}
-use Rattle.cargo_toml_lint.specs.{Names.held_names, Turning.turns_to}
+use Rattle.cargo_toml_lint.proofs.Cited.{◌&&◌, ◌↔◌, ◌∷◌, ◌≡◌, ◌⊎◌, [], among-either, among-first, among-second, Bool, bytes_eq, held_names, inl, inr, item_of, Text, turns_to}
 use Rattle.cargo_toml_lint.proofs.Edges.{passes_at, passes_missing, passes_none, turns_in}
 use Rattle.cargo_toml_lint.proofs.linking.add_edge.Goals as goal
 

@@ -1,8 +1,4 @@
-use Rattle.std.proofs.{Common.arith, Common.map, Common.string_bytes, lemmas.Bool.or_cases}
-use Rattle.std.proofs.{lemmas.Bool.or_left, lemmas.Bool.or_right, lemmas.Grind.common_steps}
-use Rattle.cargo_toml.specs.Action.{item_of}
-use Rattle.cargo_toml_features.specs.Places.{nth_text}
-use Rattle.cargo_toml_lint.specs.{Names.held_names, Turning.turns_to}
+use Rattle.cargo_toml_lint.proofs.Cited.{arith, common_steps, held_names, item_of, map, nth_text, or_cases, or_left, or_right, string_bytes, turns_to}
 use Rattle.cargo_toml_lint.proofs.Gathered.{any_more}
 use Rattle.cargo_toml_lint.proofs.linking.edges_of.Goals as goal
 

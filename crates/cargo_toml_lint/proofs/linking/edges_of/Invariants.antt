@@ -1,7 +1,4 @@
-use Rattle.std.proofs.Common.{◌↔◌, ℕ, map, string_bytes, take}
-use Rattle.std.specs.List.{list_any}
-use Rattle.cargo_toml.specs.{Action.item_of, Reach.Among}
-use Rattle.cargo_toml_lint.specs.{Linked.Passes, Names.held_names, Turning.turns_to}
+use Rattle.cargo_toml_lint.proofs.Cited.{◌↔◌, Among, held_names, item_of, list_any, map, Passes, string_bytes, take, turns_to, ℕ}
 use Rattle.cargo_toml_lint.proofs.linking.edges_of.Given as goal
 
 abbrev pub invariant-loop-text : goal.invariant-loop-text

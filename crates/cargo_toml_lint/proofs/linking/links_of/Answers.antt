@@ -1,6 +1,4 @@
-use Rattle.std.proofs.Common.{◌↔◌, ◌<◌, ℕ, IsTrue, ap, length, map, subst, sym, ◌∙◌}
-use Rattle.cargo_toml_features.specs.Places.{nth_text}
-use Rattle.cargo_toml_lint.specs.{Names.held_names, Names.listed_by, Reached.Leads, Turning.turned}
+use Rattle.cargo_toml_lint.proofs.Cited.{◌<◌, ◌↔◌, ◌∙◌, ap, held_names, IsTrue, Leads, length, listed_by, map, nth_text, subst, sym, turned, ℕ}
 use Rattle.cargo_toml_lint.proofs.linking.links_of.Goals as goal
 
 pub returns : goal.returns

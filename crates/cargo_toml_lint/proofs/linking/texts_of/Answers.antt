@@ -1,6 +1,4 @@
-use Rattle.std.proofs.Common.{◌∙◌, [], List, Option, ap, map, option_map, string_bytes, sym}
-use Rattle.std.specs.{Option.option_copied, Prelude.unwrap_or}
-use Rattle.cargo_toml.specs.Action.{Text}
+use Rattle.cargo_toml_lint.proofs.Cited.{◌∙◌, [], ap, List, map, Option, option_copied, option_map, string_bytes, sym, Text, unwrap_or}
 use Rattle.cargo_toml_lint.proofs.Edges.{listed_at, texts_of}
 use Rattle.cargo_toml_lint.proofs.linking.texts_of.Goals as goal
 

@@ -1,4 +1,4 @@
-use Rattle.std.proofs.Common.{refl}
+use Rattle.cargo_toml_lint.proofs.Cited.{refl}
 use Rattle.cargo_toml_lint.proofs.Counted.{found_first}
 use Rattle.cargo_toml_lint.proofs.linting.found_in.Goals as goal
 

@@ -1,8 +1,5 @@
-use Rattle.std.proofs.Common.{◌≡◌, ◌↔◌, ◌⊎◌, ◌&&◌, [], append_assoc, arith, sym, subst, ◌∙◌}
-use Rattle.std.proofs.lemmas.Bool.{and_from, and_parts}
-use Rattle.cargo_toml.specs.Action.{Text}
-use Rattle.cargo_toml_lint.proofs.Leading.{cyclic_at, only_default_at, unreachable_at}
-use Rattle.cargo_toml_lint.{specs.Findings.IsFound, specs.Steps.CountsBy, proofs.Counted.all_found}
+use Rattle.cargo_toml_lint.proofs.Cited.{◌&&◌, ◌↔◌, ◌∙◌, ◌≡◌, ◌⊎◌, [], and_from, and_parts, append_assoc, arith, CountsBy, IsFound, subst, sym, Text}
+use Rattle.cargo_toml_lint.proofs.{Counted.all_found, Leading.cyclic_at, Leading.only_default_at, Leading.unreachable_at}
 use Rattle.cargo_toml_lint.proofs.walks.add_place.Goals as goal
 
 pub returns : goal.returns

@@ -1,6 +1,4 @@
-use Rattle.std.proofs.Common.{rules, ◌≡◌, ◌<◌, IfSome, length, map, subst}
-use Rattle.std.proofs.{lemmas.Bool.false≢true, lemmas.Result.IfOk-weaker}
-use Rattle.cargo_toml_features.{proofs.TextKeys.none_in, specs.Places.nth_text}
+use Rattle.cargo_toml_lint.proofs.Cited.{◌<◌, ◌≡◌, false≢true, IfOk-weaker, IfSome, length, map, none_in, nth_text, rules, subst}
 use Rattle.cargo_toml_lint.proofs.Leading.{in_place}
 use Rattle.cargo_toml_lint.proofs.linking.Links.turned_on.Goals as goal
 

@@ -1,6 +1,6 @@
 -- What a loop adds for each element of a list that it goes through, or of what is left of a map.
 use Rattle.cargo_toml_lint.proofs.Cited.{◌++◌, ◌+◌, ◌-◌, ◌<◌, ◌==◌, ◌∙◌, ◌∷◌, ◌≡◌, [], ap, append-nil, asked_of, Bool, Dependency, dependency_meaning, DependencyMeaning, Detailed, entry_findings, features_at, flat_map, flat_map-append}
-use Rattle.cargo_toml_lint.proofs.Cited.{get_or, Global, Inherited, keys_in, length, List, map, map_push, None, Option, refl, rest_all, rest_more, Simple, Some, String, string_bytes, sym, table_findings, take, take_more, TakesFirst, Target}
+use Rattle.cargo_toml_lint.proofs.Cited.{get_or, Global, Inherited, length, List, map, map_push, None, Option, refl, rest_all, rest_more, Simple, Some, String, string_bytes, sym, table_findings, take, take_more, TakesFirst, Target}
 use Rattle.cargo_toml_lint.proofs.Cited.{target_meaning, TargetMeaning, Text, ℕ}
 
 -- what an entry of a table holds, and one of the table of targets

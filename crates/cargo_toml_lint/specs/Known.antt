@@ -2,13 +2,9 @@
 use Rattle.std.specs.Prelude.{Bool, ◌&&◌, List, [], ◌∷◌, ◌++◌, bytes_eq, map}
 use Rattle.std.specs.List.{flat_map, list_any}
 use Rattle.cargo_toml.specs.Action.{Text, Item, item_of}
-use Rattle.cargo_toml.specs.Action.Item.{Name, On}
-use Rattle.cargo_toml.specs.Admitted.{Listed}
-use Rattle.cargo_toml.specs.Dependencies.{is_optional}
-use Rattle.cargo_toml.specs.InheritedDependencies.{Entries}
-use Rattle.cargo_toml.specs.InheritedManifests.{own_tables}
-use Rattle.cargo_toml.specs.Manifests.{ManifestMeaning}
-use Rattle.cargo_toml.specs.Targets.{TargetMeaning}
+use Rattle.cargo_toml.specs.{InheritedDependencies.Entries, InheritedManifests.own_tables}
+use Rattle.cargo_toml.specs.{Manifests.ManifestMeaning, Dependencies.is_optional, Action.Item.Name}
+use Rattle.cargo_toml.specs.{Targets.TargetMeaning, Admitted.Listed, Action.Item.On}
 
 -- keys of dependencies, some of which are marked
 abbrev pub Marked : Type 0

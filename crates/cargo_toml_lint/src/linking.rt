@@ -2,18 +2,14 @@
 ghost use Rattle.std.specs.Prelude.{◌≡◌, ◌↔◌, ◌⊎◌, ◌<◌, ◌&&◌, ◌||◌, ℕ, [], IfOk, IsTrue, OnOk};
 ghost use Rattle.std.specs.Prelude.{bytes_eq, is_some, length, map, not, string_bytes, unwrap_or};
 ghost use Rattle.std.specs.{List.list_any, Map.lookup};
-ghost use Rattle.cargo_toml.specs.Action.{Text, item_of};
-ghost use Rattle.cargo_toml.specs.Ascending.{Ascend};
-ghost use Rattle.cargo_toml.specs.Graph.{Table};
-ghost use Rattle.cargo_toml.specs.Manifests.{held};
-ghost use Rattle.cargo_toml.specs.Reach.{Among};
-ghost use Rattle.cargo_toml.specs.Recursive.{Enables};
-ghost use Rattle.cargo_toml.specs.Views.{set_has, table_in};
+ghost use Rattle.cargo_toml.specs.{Recursive.Enables, Ascending.Ascend, Action.item_of};
+ghost use Rattle.cargo_toml.specs.{Manifests.held, Views.table_in, Views.set_has, Action.Text};
+ghost use Rattle.cargo_toml.specs.{Graph.Table, Reach.Among};
 ghost use Rattle.cargo_toml_features.specs.Places.{nth_text};
-ghost use Rattle.cargo_toml_lint.specs.Turning.{turned, turning, turning_by, turns_to};
 ghost use Rattle.cargo_toml_lint.specs.Linked.{AreFound, AreLinks, Passes, name_at};
 ghost use Rattle.cargo_toml_lint.specs.Names.{held_names, listed_by};
 ghost use Rattle.cargo_toml_lint.specs.Reached.{Leads, Path};
+ghost use Rattle.cargo_toml_lint.specs.Turning.{turned, turning, turning_by, turns_to};
 
 use crate::graph::FeatureMap;
 use crate::known::{Known, known_names};

@@ -1,20 +1,13 @@
 //! What is found of a manifest.
 ghost use Rattle.std.specs.Prelude.{◌≡◌, ◌≤◌, ◌⊎◌, ◌↔◌, [], None, true, IfErr, IfOk, IsTrue, OnOk};
 ghost use Rattle.std.specs.List.Sorted.{IsStrictlySortedBy};
-ghost use Rattle.cargo_toml.specs.Action.{Text};
-ghost use Rattle.cargo_toml.specs.Error.{Memory};
-ghost use Rattle.cargo_toml.specs.Graph.{Table};
-ghost use Rattle.cargo_toml.specs.Limits.{MAX_ITEMS};
-ghost use Rattle.cargo_toml.specs.Manifests.{held};
-ghost use Rattle.cargo_toml.specs.Parsed.{IsParsed};
-ghost use Rattle.cargo_toml.specs.Reach.{Among};
 ghost use Rattle.cargo_toml.specs.Views.{answer_of, table_in};
-ghost use Rattle.cargo_toml_lint.specs.declared.finding.Code.{Code};
-ghost use Rattle.cargo_toml_lint.specs.Findings.{HoldsOf, IsFound};
+ghost use Rattle.cargo_toml.specs.{Limits.MAX_ITEMS, Parsed.IsParsed, Manifests.held, Error.Memory};
+ghost use Rattle.cargo_toml.specs.{Action.Text, Graph.Table, Reach.Among};
 ghost use Rattle.cargo_toml_lint.specs.Steps.{CountsBy, Finds, written_in};
-ghost use Rattle.cargo_toml_lint.specs.Linked.{AreFound, AreLinks};
-ghost use Rattle.cargo_toml_lint.specs.Names.{held_names, listed_by};
-ghost use Rattle.cargo_toml_lint.specs.Turning.{turning_by};
+ghost use Rattle.cargo_toml_lint.specs.{declared.finding.Code.Code, Turning.turning_by};
+ghost use Rattle.cargo_toml_lint.specs.{Findings.HoldsOf, Findings.IsFound, Names.held_names};
+ghost use Rattle.cargo_toml_lint.specs.{Linked.AreFound, Linked.AreLinks, Names.listed_by};
 
 use crate::finding::Finding;
 use crate::gathering::{add_details, add_features, add_products};

@@ -1,4 +1,4 @@
-use Rattle.cargo_toml_lint.proofs.Cited.{◌&&◌, ◌↔◌, ◌∷◌, ◌≡◌, ◌⊎◌, [], among-either, among-first, among-second, Bool, bytes_eq, held_names, inl, inr, item_of, Text, turns_to}
+use Rattle.cargo_toml_lint.proofs.Cited.{◌&&◌, ◌↔◌, ◌∷◌, ◌≡◌, ◌⊎◌, [], among-either, among-first, among-second, Bool, held_names, inl, inr, item_of, Text, turns_to}
 use Rattle.cargo_toml_lint.proofs.Edges.{passes_at, passes_missing, passes_none, turns_in}
 use Rattle.cargo_toml_lint.proofs.linking.add_edge.Goals as goal
 

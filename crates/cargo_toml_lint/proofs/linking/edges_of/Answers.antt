@@ -1,4 +1,4 @@
-use Rattle.cargo_toml_lint.proofs.Cited.{arith, common_steps, held_names, item_of, map, nth_text, or_cases, or_left, or_right, string_bytes, turns_to}
+use Rattle.cargo_toml_lint.proofs.Cited.{arith, held_names, item_of, map, nth_text, or_cases, or_left, or_right, string_bytes, turns_to}
 use Rattle.cargo_toml_lint.proofs.Gathered.{any_more}
 use Rattle.cargo_toml_lint.proofs.linking.edges_of.Goals as goal
 

@@ -12,7 +12,7 @@ pub use Rattle.cargo_toml_features.{specs.declared.features.Features.Features}
 pub use Rattle.cargo_toml_graph.{proofs.BinLists.among-either, proofs.BinLists.among-first, proofs.BinLists.among-second, proofs.Closure.chained}
 pub use Rattle.cargo_toml_lint.specs.Findings.{About, Counts, HoldsOf, IsCyclic, IsFound, IsOnlyDefault, IsUnreachable, about, asked_of, entry_findings, feature_findings, findings_by, is_hidden, is_private, list_findings, product_findings}
 pub use Rattle.cargo_toml_lint.specs.Findings.{request_findings, required_findings, table_findings, target_findings, told, when, written_findings}
-pub use Rattle.cargo_toml_lint.specs.Known.{Marked, Names, acted_by, acted_keys, all_names, has_key, has_marked, is_name, keys_in, target_keys}
+pub use Rattle.cargo_toml_lint.specs.Known.{Marked, Names, acted_by, acted_keys, all_names, has_key, is_name, keys_in, target_keys}
 pub use Rattle.cargo_toml_lint.specs.Linked.{AreLinks, AreWalks, Goes, Passes, is_of, name_at, names_of}
 pub use Rattle.cargo_toml_lint.specs.Reached.{IsFlagged, IsInRing, IsWhole, Leads, Path, Searches, Stands, edges_left, row_at}
 pub use Rattle.cargo_toml_lint.specs.Steps.{CountsBy, Finds, explicit_at, implied_at, is_beyond, private_at, written_in}

@@ -1,7 +1,6 @@
 -- Features by the places of their names.
-use Rattle.std.specs.Prelude.{◌≡◌, ◌≢◌, ◌↔◌, ◌<◌, ℕ, Bool, List, IsTrue, bytes_eq, codes, length}
-use Rattle.std.specs.Prelude.{map, not}
-use Rattle.std.specs.Borrow.{Bor}
+use Rattle.std.specs.Prelude.{◌≡◌, ◌≢◌, ◌↔◌, ◌<◌, Bool, List, IsTrue, bytes_eq, codes, length, map}
+use Rattle.std.specs.{Borrow.Bor, Prelude.not, Prelude.ℕ}
 use Rattle.cargo_toml.specs.{Ascending.Ascend, Action.Text, Graph.Table, Reach.Among}
 use Rattle.cargo_toml_features.specs.Places.{nth_text}
 use Rattle.cargo_toml_lint.specs.Reached.{IsFinished, IsFlagged, Leads, Path}

@@ -4,10 +4,9 @@ ghost use Rattle.std.specs.List.{flat_map};
 ghost use Rattle.cargo_toml.specs.{Action.Text, Action.item_of, Dependencies.dependency_meaning};
 ghost use Rattle.cargo_toml.specs.{Manifests.held, Reads.map_meaning, Targets.target_meaning};
 ghost use Rattle.cargo_toml.specs.Views.{set_has};
-ghost use Rattle.cargo_toml_lint.specs.Known.{acted_by, acted_in, acted_keys, all_names};
-ghost use Rattle.cargo_toml_lint.specs.Known.{dependency_keys, has_key, keys_in};
-ghost use Rattle.cargo_toml_lint.specs.{Known.target_keys, Names.AddsKeys, Names.key_of};
-ghost use Rattle.cargo_toml_lint.specs.Names.{held_names, listed_by};
+ghost use Rattle.cargo_toml_lint.specs.Known.{acted_keys, all_names, dependency_keys, target_keys};
+ghost use Rattle.cargo_toml_lint.specs.Known.{acted_by, acted_in, has_key, keys_in};
+ghost use Rattle.cargo_toml_lint.specs.Names.{AddsKeys, key_of, held_names, listed_by};
 
 use cargo_toml::{DepsSet, FeatureSet, Manifest, Target, TargetDepsSet};
 use cargo_toml_features::action::{add_text, read_action};

@@ -1,5 +1,5 @@
 //! Callers of `cargo_toml` that are proved, as a user of the crate writes them, and what rows and
-//! tools share: files in memory to complete from, trees of real files, and [`HeldManifest`].
+//! tests share: files in memory to complete from, and trees of real files.
 //!
 //! `plain` is no such caller: it removes hidden features in a way that is easy to follow. `bodies`
 //! compares resolving with it.
@@ -8,7 +8,6 @@
 pub mod audience;
 pub mod bodies;
 pub mod completed;
-mod held;
 pub mod in_memory;
 pub mod pairs;
 pub mod plain;
@@ -19,4 +18,4 @@ pub mod tree;
 pub mod versioned;
 pub mod whole;
 
-pub use held::HeldManifest;
+pub use cargo_toml_manifest::HeldManifest;

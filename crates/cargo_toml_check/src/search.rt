@@ -8,7 +8,7 @@ ghost use Rattle.cargo_toml_check.specs.Blamed.{reads_alone, reads_emptied};
 
 use crate::alone::{Around, Step, alone, emptied};
 use cargo_toml::Error;
-use cargo_toml_bench::HeldManifest;
+use cargo_toml_manifest::HeldManifest;
 use std::alloc::{AllocError, Global};
 use toml::value::Array;
 use toml::{Table, Value};

@@ -18,5 +18,6 @@ pub mod SortedTexts
 pub mod RedirectsInOrder
 pub mod InByteOrder
 pub mod Cut
+pub mod Filtered
 pub mod WorkedExamples
 pub mod Theorems

@@ -1,4 +1,4 @@
-//! Tests that are no rows: code of a caller's own, proved callers, and output that fails.
+//! Tests that are no rows: code of a caller's own, a proved caller, and output that fails.
 //! What a text reads as, is written as and is resolved to stands in the rows of `cargo_toml_rows`,
 //! and so do calls with values that no text spells.
 mod caller;

@@ -3,7 +3,7 @@ use Rattle.std.proofs.Common.{arith, ◌≡◌, ◌↔◌, ◌++◌, ◌∙◌, 
 use Rattle.std.proofs.lemmas.List.{append-nil, map-append}
 use Rattle.std.specs.{HashMap.HashMap, List.AllByRecursion, Prelude.filter}
 use Rattle.cargo_toml.specs.{Action.Text, Ascending.Ascend, Feature.Feature, Graph.Table, Reach.Among, Views.table_in, Views.value_at}
-use Rattle.cargo_toml_bench.proofs.Filtered.{filter_next, filter_past, those_among, those_ascend}
+use Rattle.cargo_toml_graph.proofs.Filtered.{filter_next, filter_past, those_among, those_ascend}
 use Rattle.cargo_toml_tools.specs.{Documented.AreRows, Documented.IsRowOf, Documented.told_at, declared.document.listing.Row.Row}
 
 module _ {S : Type 0} (t : Table) (m : HashMap (Bor Text) Feature S) (has_default : Bool) where
@@ -62,9 +62,7 @@ module _ {S : Type 0} (t : Table) (m : HashMap (Bor Text) Feature S) (has_defaul
       sym (append-nil (names_of_rows rows))
       ∙ ap (λ ks. names_of_rows rows ++ filter told ks) (sym none) ∙ h.names in
       record {
-        names = record {
-          exact = λ x. let by = those_among told names _ same x in (λ i. (by.0 i).1, λ u. by.1 ((are x).0 (has_told x u), u));
-          in_order = those_ascend told names _ same up;
-        };
+        names = λ x. let by = those_among told names _ same x in (λ i. (by.0 i).1, λ u. by.1 ((are x).0 (has_told x u), u));
+        in_order = those_ascend told names _ same up;
         each = h.each;
       }

@@ -7,8 +7,8 @@ ghost use Rattle.cargo_toml_tools.specs.FromFiles.{IsUncompleted, IsUnreadable};
 ghost use Rattle.cargo_toml_tools.specs.Linted.{AreFindingsOf};
 
 use cargo_toml::{Error, Manifest};
-use cargo_toml_bench::HeldManifest;
 use cargo_toml_lint::Finding;
+use cargo_toml_manifest::HeldManifest;
 use std::fs;
 use std::hash::RandomState;
 use std::random::RandomSource;

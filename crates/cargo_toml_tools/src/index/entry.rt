@@ -34,13 +34,7 @@ pub(super) fn entries(
     let mut entries = Vec::new(alloc);
     for section in sections {
         for (key, dependency) in section.entries {
-            push_dependency(
-                alloc,
-                &mut entries,
-                options,
-                section,
-                (key.as_str(), dependency),
-            )?;
+            push_dependency(alloc, &mut entries, options, section, key.as_str(), dependency)?;
         }
     }
     Ok(entries)
@@ -53,13 +47,13 @@ fn push_dependency(
     entries: &mut Vec<Value>,
     options: Options<'_>,
     section: &Section<'_>,
-    dependency: (&str, &Dependency),
+    key: &str,
+    dependency: &Dependency,
 ) -> Result<(), AllocError>
     ensures { OnOk result (map view entries.new.items ≡ map view entries.old.items
         ++ index_entries (wanted_of options.entry) (table_of section.now)
-        (dependency.entry.0.now, dependency_meaning dependency.entry.1.now)) }
+        (key.now, dependency_meaning dependency.now)) }
 {
-    let (key, dependency) = dependency;
     if lacks_version(dependency) {
         return Ok(());
     }

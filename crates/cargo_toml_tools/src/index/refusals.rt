@@ -63,16 +63,11 @@ pub(super) fn package_refusal<'a, M>(
         findings.now (table_view document.now) (map table_of sections.now)
         (held_package «package».now) }
 {
-    if let Some(refusal) = version_refusal(&package.version, document) {
-        return Some(refusal);
-    }
-    if let Some(refusal) = tables_refusal(options.names, sections) {
-        return Some(refusal);
-    }
-    if is_left_there(&package.rust_version) {
-        return Some((Fault::Incomplete, "rust-version"));
-    }
-    choice_refusal(package, document, findings, options)
+    let is_left = is_left_there(&package.rust_version);
+    version_refusal(&package.version, document)
+        .or(tables_refusal(options.names, sections))
+        .or(is_left.then_some((Fault::Incomplete, "rust-version")))
+        .or(choice_refusal(package, document, findings, options))
 }
 
 /// The refusal of what a caller may want all the same.

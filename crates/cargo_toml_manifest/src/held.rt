@@ -2,15 +2,17 @@
 ghost use Rattle.std.specs.Path.{path_parent};
 ghost use Rattle.std.specs.Prelude.{◌≡◌, false, IfErr, IfOk, IfSome, IsSome, OnOk};
 ghost use Rattle.toml.specs.View.{view};
-ghost use Rattle.cargo_toml.specs.Floats.{FloatsOr, without_floats};
-ghost use Rattle.cargo_toml.specs.Manifests.{held, manifest_meaning, manifest_reads};
-ghost use Rattle.cargo_toml.specs.Manifests.{ManifestRefuses};
-ghost use Rattle.cargo_toml.specs.RealFiles.{IsPathFault, IsReadAndCompleted};
-ghost use Rattle.cargo_toml.specs.Texts.{AnyRefuses, IsFromBytes, IsFromText, any_tree};
-ghost use Rattle.cargo_toml.specs.{Error.Memory, InheritedManifests.needs};
-ghost use Rattle.cargo_toml.specs.{InheritedPackages.IsFilled, Reads.IsReading};
+ghost use Rattle.cargo_toml_parts.specs.{Floats.FloatsOr, Floats.without_floats, Reads.IsReading};
+ghost use Rattle.cargo_toml_parts.specs.declared.error.Error.{Memory};
+ghost use Rattle.cargo_toml_package.specs.Inheriting.{IsFilled};
+ghost use Rattle.cargo_toml_manifest.specs.Inheriting.{needs};
+ghost use Rattle.cargo_toml_manifest.specs.Manifests.{held, manifest_meaning, manifest_reads};
+ghost use Rattle.cargo_toml_manifest.specs.Manifests.{ManifestRefuses};
+ghost use Rattle.cargo_toml_manifest.specs.RealFiles.{IsPathFault, IsReadAndCompleted};
+ghost use Rattle.cargo_toml_manifest.specs.Texts.{AnyRefuses, IsFromBytes, IsFromText, any_tree};
 
-use cargo_toml::{Error, FromValue, Manifest};
+use crate::manifest::Manifest;
+use cargo_toml_parts::{Error, FromValue};
 use std::alloc::Global;
 use std::rt::Files;
 use toml::Value;

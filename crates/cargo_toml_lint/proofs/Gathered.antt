@@ -28,11 +28,7 @@ pub any_more : {X Y Z : Type 0} (p : Z → Bool) (f : Y → Z) (g : X → Y) (xs
     → i < length xs → x ≡ get_or xs i x
     → list_any p (map f (map g (take (i + 1) xs))) ≡ (list_any p (map f (map g (take i xs))) || p (f (g x)))
 any_more p f g xs i x below read =
-    let before = map f (map g (take i xs)) in
-    ap (λ ys. list_any p (map f (map g ys))) (take_more xs i x below ∙ ap (λ y. take i xs ++ y ∷ []) (sym read))
-    ∙ ap (λ ys. list_any p (map f ys)) (map_push g (take i xs) x)
-    ∙ ap (list_any p) (map_push f (map g (take i xs)) (g x)) ∙ list_any-append p before (f (g x) ∷ [])
-    ∙ ap (λ b. list_any p before || b) (or-false (p (f (g x))))
+    grind (arith, take_more xs i x below, map_push g (take i xs) x, map_push f (map g (take i xs)) (g x), list_any-append p (map f (map g (take i xs))) (f (g x) ∷ []), or-false (p (f (g x))))
 
 pub any_map : {X Y : Type 0} (p : Y → Bool) (g : X → Y) (xs : List X) → list_any p (map g xs)
     ≡ list_any (λ x. p (g x)) xs

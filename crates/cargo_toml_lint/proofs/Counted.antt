@@ -55,16 +55,7 @@ module _ {S : Type 0} (m : HashMap (Bor Text) Feature S) (t : Table) (n : Text) 
   pub all_found : (a b : List Finding) → Finds All a b → (c : Code) (f x : Text)
       → IsFound b c f x ↔ (IsFound a c f x ⊎ ((x ≡ []) × (n ≡ f) × CountsBy m t c f))
   all_found a b put c f x = let after = found_after a b All put c f x in (
-    λ i. elim (after.0 i) [
-      | inl j ↦ inl j
-      | inr j ↦ inr (elim (among-either (told n [] (when implied Implied)) Later (c, f, x) j) [
-        | inl k ↦ one Implied implied h1 c f x k
-        | inr k ↦ elim (among-either (told n [] (when alone PrivateDefault)) Last (c, f, x) k) [
-          | inl k ↦ one PrivateDefault alone h2 c f x k
-          | inr k ↦ elim (among-either (told n [] (when cyclic Cycle)) (told n [] (when left Unreachable)) (c, f, x) k) [ inl k ↦ one Cycle cyclic h3 c f x k | inr k ↦ one Unreachable left h4 c f x k ]
-        ]
-      ])
-    ],
+    λ i. grind (arith, after, among-either, one Implied implied h1 c f x, one PrivateDefault alone h2 c f x, one Cycle cyclic h3 c f x, one Unreachable left h4 c f x),
     λ h. after.1 (elim h [
       | inl j ↦ inl j
       | inr r ↦ inr (subst (λ (z : Text). Among All (c, f, z)) (sym r.0) (subst (λ (g : Text). Among All (c, g, [])) r.1 (of_code c (subst (CountsBy m t c) (sym r.1) r.2))))

@@ -104,10 +104,7 @@ pub(crate) fn is_same_name(known: &Known<'_>, name: &str) -> bool
 fn is_explicit<S: BuildHasher>(features: &FeatureMap<'_, S>, name: &str) -> bool
     ensures { result ≡ explicit_at features.now name.now }
 {
-    match features.get(name) {
-        Some(feature) => feature.explicit,
-        None => false,
-    }
+    features.get(name).is_some_and(|feature| feature.explicit)
 }
 
 /// Whether the limit left out the name, or some of its texts.

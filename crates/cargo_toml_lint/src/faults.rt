@@ -68,7 +68,9 @@ fn is_missing(known: &Known<'_>, text: &str) -> bool
     if action.acts() {
         !known.dependencies.contains(action.target)
     } else {
-        !known.has_feature(action.target)
+        // listed, or an optional dependency that no text names by `dep:`
+        let name = action.target;
+        !(known.lists(name) | (known.optional.contains(name) & !known.reserved.contains(name)))
     }
 }
 

@@ -1,5 +1,5 @@
 //! Which names a manifest has: of features, of dependencies, and those that `dep:` names.
-ghost use Rattle.std.specs.Prelude.{◌≡◌, ◌&&◌, ◌||◌, not, IfOk, OnOk, map, string_bytes};
+ghost use Rattle.std.specs.Prelude.{◌≡◌, IfOk, OnOk, map, string_bytes};
 ghost use Rattle.std.specs.List.{flat_map};
 ghost use Rattle.cargo_toml.specs.{Action.Text, Action.item_of, Dependencies.dependency_meaning};
 ghost use Rattle.cargo_toml.specs.{Manifests.held, Reads.map_meaning, Targets.target_meaning};
@@ -168,15 +168,5 @@ impl Known<'_> {
         ensures { result ≡ (held_names self.now).listed name.now }
     {
         self.features.contains_key(name)
-    }
-
-    /// Whether the name is that of a feature: one that is listed, or an optional dependency that no
-    /// text names by `dep:`.
-    pub(crate) fn has_feature(&self, name: &str) -> bool
-        ensures { result ≡ ((held_names self.now).listed name.now
-            || ((held_names self.now).optional name.now
-            && not ((held_names self.now).reserved name.now))) }
-    {
-        self.lists(name) || (self.optional.contains(name) && !self.reserved.contains(name))
     }
 }

@@ -61,14 +61,8 @@ module _ {M S H : Type 0} (limit : ℕ) (m : ManifestMeaning M) (a : Features S 
         let d = subst (λ t. IsOnlyDefault t f) (sym same) h.1 in
         (d.default_does.target, (ap (λ b. is_hidden f || b) (private_is f d.default_does.target) ∙ h.0, d)),
   )
-  counts_is Cycle f = (
-    λ h. subst (λ t. IsCyclic t f) same h.1,
-    λ h. let d = subst (λ t. IsCyclic t f) (sym same) h in (d.known, d),
-  )
-  counts_is Unreachable f = (
-    λ h. subst (λ t. IsUnreachable t f) same h.1,
-    λ h. let d = subst (λ t. IsUnreachable t f) (sym same) h in (d.known, d),
-  )
+  counts_is Cycle f = rw same (λ h. h.1, λ h. (rw none_has h.known, h))
+  counts_is Unreachable f = rw same (λ h. h.1, λ h. (rw none_has h.known, h))
   counts_is _ f = (λ h. absurd h.1, λ h. absurd h)
 
   written_same : written_in a.features known limit m ≡ written_findings limit m

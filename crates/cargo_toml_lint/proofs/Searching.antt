@@ -38,15 +38,9 @@ module _ (r : Reach) (start : ℕ) (row : List Bool) (waiting : List ℕ) (x : �
   meets_row whole stands new len is = record {
     len = len ∙ s.len;
     begun = elim s.begun [ inl f ↦ inl ((is start).1 (inl f)) | inr i ↦ taken start (was start i) ];
-    sound = λ y f. elim ((is y).0 f) [
-      | inl o ↦ s.sound y o
-      | inr h ↦ path_then (Leads r.next.items) (s.met x (among-second waiting (x ∷ []) x (inl refl))) ((whole.right x y stands).0 h)
-    ];
+    sound = λ y f. grind (arith, is y, s.sound y, s.met x, among-second, whole.right x y stands, path_then (Leads r.next.items));
     met = λ y i. s.met y (among-first waiting (x ∷ []) y i);
-    done = λ y z f l. elim ((is y).0 f) [
-      | inl o ↦ elim (s.done y z o l) [ inl a ↦ inl ((is z).1 (inl a)) | inr i ↦ taken z (was z i) ]
-      | inr h ↦ inl ((is z).1 (inr ((whole.right x z stands).1 (path_edge (Leads r.next.items) ((whole.right x y stands).0 h) l))))
-    ];
+    done = λ y z f l. grind (arith, is y, is z, s.done y z, taken z, was z, whole.right x y stands, whole.right x z stands, path_edge (Leads r.next.items));
   }
     where
       taken : (y : ℕ) → Among waiting y ⊎ (y ≡ x) → IsFlagged new y ⊎ Among waiting y

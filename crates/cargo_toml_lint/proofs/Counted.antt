@@ -43,13 +43,10 @@ module _ {S : Type 0} (m : HashMap (Bor Text) Feature S) (t : Table) (n : Text) 
   one d b h c f x i = grind (arith, told_in)
 
   of_code : (c : Code) → CountsBy m t c n → Among All (c, n, [])
-  of_code Implied q = among-first (told n [] (when implied Implied)) Later (Implied, n, []) ((told_in Implied implied n Implied n []).1 (refl, refl, refl, h1.1 q))
-  of_code PrivateDefault q = among-second (told n [] (when implied Implied)) Later (PrivateDefault, n, [])
-      (among-first (told n [] (when alone PrivateDefault)) Last (PrivateDefault, n, []) ((told_in PrivateDefault alone n PrivateDefault n []).1 (refl, refl, refl, h2.1 q)))
-  of_code Cycle q = among-second (told n [] (when implied Implied)) Later (Cycle, n, []) (among-second (told n [] (when alone PrivateDefault)) Last (Cycle, n, [])
-      (among-first (told n [] (when cyclic Cycle)) (told n [] (when left Unreachable)) (Cycle, n, []) ((told_in Cycle cyclic n Cycle n []).1 (refl, refl, refl, h3.1 q))))
-  of_code Unreachable q = among-second (told n [] (when implied Implied)) Later (Unreachable, n, []) (among-second (told n [] (when alone PrivateDefault)) Last (Unreachable, n, [])
-      (among-second (told n [] (when cyclic Cycle)) (told n [] (when left Unreachable)) (Unreachable, n, []) ((told_in Unreachable left n Unreachable n []).1 (refl, refl, refl, h4.1 q))))
+  of_code Implied q = grind (arith, among-first, among-second, told_in Implied implied n Implied n [], h1)
+  of_code PrivateDefault q = grind (arith, among-first, among-second, told_in PrivateDefault alone n PrivateDefault n [], h2)
+  of_code Cycle q = grind (arith, among-first, among-second, told_in Cycle cyclic n Cycle n [], h3)
+  of_code Unreachable q = grind (arith, among-first, among-second, told_in Unreachable left n Unreachable n [], h4)
   of_code _ q = absurd q
 
   pub all_found : (a b : List Finding) → Finds All a b → (c : Code) (f x : Text)

@@ -113,10 +113,7 @@ pub(crate) fn add_details<'m>(
 fn name_of(product: &Product) -> &str
     ensures { result.now ≡ unwrap_or (product_meaning product.now).name [] }
 {
-    match &product.name {
-        Some(name) => name.as_str(),
-        None => "",
-    }
+    product.name.as_deref().unwrap_or("")
 }
 
 // Adds what is found of the features that a target requires.

@@ -15,6 +15,18 @@ pub struct Reach {
     rows: Vec<Vec<bool>>,
 }
 
+// Sets the flag of a vertex, unless it is the one's own.
+fn set_other(flags: &mut Vec<bool>, own: usize, x: usize)
+    requires { x < length flags.old.items }
+    ensures len { length flags.new.items ≡ length flags.old.items }
+    ensures put { (y : ℕ) → IsFlagged flags.new.items y
+        ↔ (IsFlagged flags.old.items y ⊎ ((y ≢ own) × (y ≡ x))) }
+{
+    if x != own {
+        flags[x] = true;
+    }
+}
+
 // Sets the flags that stand in the other list too.
 fn join(flags: &mut Vec<bool>, other: &[bool])
     requires { length flags.old.items ≡ length other.now }
@@ -235,9 +247,7 @@ impl Reach {
     {
         let targets = self.targets(a);
         for x in targets {
-            if *x != a {
-                flags[*x] = true;
-            }
+            set_other(flags, a, *x);
         }
     }
 }

@@ -1,4 +1,4 @@
-use Rattle.cargo_toml_lint.proofs.Cited.{◌&&◌, ◌||◌, ◌↔◌, ◌∙◌, ◌≡◌, ◌⊎◌, [], and_from, and_parts, append_assoc, arith, CountsBy, IsFound, subst, sym, Text}
+use Rattle.cargo_toml_lint.proofs.Cited.{◌&&◌, ◌||◌, ◌↔◌, ◌∙◌, ◌≡◌, ◌⊎◌, [], and_from, and_parts, append_assoc, arith, CountsBy, is_hidden, IsFound, name_at, private_at, subst, sym, Text}
 use Rattle.cargo_toml_lint.proofs.{Counted.all_found, Leading.cyclic_at, Leading.only_default_at, Leading.unreachable_at}
 use Rattle.cargo_toml_lint.proofs.walks.add_place.Goals as goal
 
@@ -9,7 +9,9 @@ returns g c =
     let w = c.args.walks.now in
     let place = c.args.place in
     let told = rw c.name-name.ensures at c.is_implied.ensures in
-    let internal = rw c.name-name.ensures at (λ i. c.is_hidden.ensures i || c.is_private.ensures i) in
+    let hidden = rw c.name-name.ensures at c.is_hidden.ensures in
+    let private = rw c.name-name.ensures at c.is_private.ensures in
+    let internal : (c.is_hidden.result || c.is_private.result) ≡ (is_hidden (name_at l place) || private_at m (name_at l place)) = λ i. hidden i || private i in
     let alone = rw (c.as_slice.ensures.value, c.as_slice-2.ensures.value) at c.is_alone-is_alone.ensures in
     let left = rw (c.as_slice-3.ensures.value, c.name-name.ensures) at c.is_left_alone-is_left_alone.ensures in
     let found = c.args.found.now.items in

@@ -4,7 +4,7 @@ ghost use Rattle.std.specs.Prelude.{length};
 ghost use Rattle.cargo_toml.specs.{Action.Text, Graph.Table};
 ghost use Rattle.cargo_toml_lint.specs.Linked.{AreFound, AreLed, AreLinks, AreWalks, Goes, is_of};
 ghost use Rattle.cargo_toml_lint.specs.{Findings.IsFound, Findings.is_hidden, Linked.name_at};
-ghost use Rattle.cargo_toml_lint.specs.{Reached.IsFlagged, Steps.CountsBy, Steps.private_at};
+ghost use Rattle.cargo_toml_lint.specs.{Reached.IsFlagged, Steps.CountsBy};
 ghost use Rattle.cargo_toml_lint.specs.declared.finding.Code.{Code};
 
 use crate::finding::{Code, Finding};

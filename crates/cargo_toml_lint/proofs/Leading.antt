@@ -87,6 +87,15 @@ module _ (t : Table) (l : Links) (are : AreLinks t l) where
         let is : (e : Text) → (bytes_eq e (codes "default") ≡ true) ↔ (e ≡ codes "default") = λ e. bytes_eq-Decides e (codes "default") in
         let by_default = of_led (λ e. bytes_eq e (codes "default")) w.by_default.items walks.by_default.are in
         let by_others = of_led (λ e. not (bytes_eq e (codes "default"))) w.by_others.items walks.by_others.are in (
-          λ h. grind (arith, h, by_default, by_others, is, cases_Bool, not_from_false),
-          λ o. grind (arith, o, by_default, by_others, is, not-true, false≢true),
+          λ h. record {
+            default_does = let r = by_default.0 h.0 in subst (λ f. Edge t f own) ((is r.0).0 r.2) r.1;
+            no_other = λ e d. elim (cases_Bool (bytes_eq e (codes "default"))) [
+              | inl same ↦ (is e).0 same
+              | inr isnt ↦ absurd (h.1 (by_others.1 (e, d, not_from_false _ isnt)))
+            ];
+          },
+          λ o. (
+            by_default.1 (codes "default", o.default_does, (is (codes "default")).1 refl),
+            λ f. let r = by_others.0 f in false≢true (sym (not-true _ r.2) ∙ (is r.0).1 (o.no_other r.0 r.1)),
+          ),
         )

@@ -1,6 +1,6 @@
 -- Where places lead is where names turn.
 use Rattle.cargo_toml_lint.proofs.Cited.{◌<◌, ◌↔◌, ◌∙◌, ◌∷◌, ◌≡◌, ◌≢◌, [], among_at, ap, AreLinks, AreWalks, arith, at_among, Bool, Bor, bytes_eq, bytes_eq-Decides, cases_Bool, codes, Edge, Enables, enables_has, false, false≢true, further}
-use Rattle.cargo_toml_lint.proofs.Cited.{get_or, inl, is_hidden, IsCyclic, IsFlagged, IsInRing, IsOnlyDefault, IsTrue, IsUnreachable, itself, Leads, length, Links, List, map, name_at, names_of, None, not, not-true, not_from_false}
+use Rattle.cargo_toml_lint.proofs.Cited.{get_or, inl, inr, is_hidden, IsCyclic, IsFlagged, IsInRing, IsOnlyDefault, IsTrue, IsUnreachable, itself, Leads, length, Links, List, map, name_at, names_of, None, not, not-true, not_from_false}
 use Rattle.cargo_toml_lint.proofs.Cited.{nth_text, once, Path, refl, subst, suc, sym, Table, Text, true, Walks, zero, ℕ}
 use Rattle.cargo_toml_lint.proofs.{Edges.length_now, Searching.along, Searching.path_edge}
 

@@ -204,7 +204,8 @@ impl Paths<'_> {
             self.add_text(path.clone()?, texts.as_slice())?;
             return self.add(path, "enables", texts.as_slice());
         }
-        self.all.push(path)
+        self.all.push(path)?;
+        Ok(())
     }
 
     fn add_target(&mut self, name: &str, target: &Target) -> Result<(), AllocError> {
@@ -240,7 +241,8 @@ impl Paths<'_> {
     /// Adds that of the text in the list of this key, if it is there, and the path itself.
     fn add(&mut self, path: String, list: &str, texts: &[String]) -> Result<(), AllocError> {
         self.add_text(below(self.alloc, path.as_str(), list)?, texts)?;
-        self.all.push(path)
+        self.all.push(path)?;
+        Ok(())
     }
 
     fn add_text(&mut self, mut list: String, texts: &[String]) -> Result<(), AllocError> {

@@ -266,7 +266,8 @@ impl<'t> Walk<'t> {
             }
         };
         self.skip(1);
-        self.open.push(Open { path, index })
+        self.open.push(Open { path, index })?;
+        Ok(())
     }
 
     /// Notes that a path is mentioned at this index.

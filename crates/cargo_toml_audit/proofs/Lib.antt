@@ -6,4 +6,3 @@ pub mod Sets
 pub mod Taking
 pub mod Walked
 pub mod Walking
-pub mod Walks

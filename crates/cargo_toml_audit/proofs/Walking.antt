@@ -33,30 +33,27 @@ module _ (base : Base) (first : List Text) where
     goes = λ all r. subst (λ (ws : List Text). Reads base first ws [] all) waiting r;
   }
 
-  -- the next place was visited
-  pub walking_next : (place : Text) (walk mid after : Walk) (old now new : Audit) → map string_bytes walk.waiting.items ≡ map string_bytes mid.waiting.items ++ place ∷ []
-      → mid.seen ≡ walk.seen → mid.members ≡ walk.members → Visits base (is_in first place) place mid after now new → Walking walk old now → Walking after old new
-  walking_next place walk mid after old now new popped seen members (inl past) w =
-      subst (λ (x : Walk). Walking x old new) (sym past.1.0) (subst (λ (x : Audit). Walking mid old x) (sym past.1.1) (record {
+  -- the next place was popped, and visited
+  walked : (place : Text) (left : Vec (String Global) Global) (walk after : Walk) (old now new : Audit) → map string_bytes walk.waiting.items ≡ map string_bytes left.items ++ place ∷ []
+      → Visits base (is_in first place) place (record walk { waiting = left }) after now new → Walking walk old now → Walking after old new
+  walked place left walk after old now new popped (inl past) w =
+      subst (λ (x : Walk). Walking x old new) (sym past.1.0) (subst (λ (x : Audit). Walking (record walk { waiting = left }) old x) (sym past.1.1) (record {
         readings = w.readings;
         takes = w.takes;
-        seen = λ t. ap (λ s. contains_text s t) seen ∙ w.seen t;
-        members = λ t. ap (λ s. contains_text s t) members ∙ w.members t;
+        seen = w.seen;
+        members = w.members;
         goes = λ all r. w.goes all (subst (λ (ws : List Text). Reads base first ws w.readings all) (sym popped)
-            (passed place (map string_bytes mid.waiting.items) w.readings all
-            (ap (λ b. b || is_excluded base place) (sym (ap (λ s. contains_text s place) seen ∙ w.seen place)) ∙ past.0) r));
+            (passed place (map string_bytes left.items) w.readings all (ap (λ b. b || is_excluded base place) (sym (w.seen place)) ∙ past.0) r));
       }))
-  walking_next place walk mid after old now new popped seen members (inr at) w =
+  walked place left walk after old now new popped (inr at) w =
       let r : Reading = record { place = place; content = at.content } in
-      let had : (t : Text) → contains_text mid.seen t ≡ is_in (places_read w.readings) t = λ t. ap (λ s. contains_text s t) seen ∙ w.seen t in
       record {
         readings = w.readings ++ r ∷ [];
         takes = takes_these _ _ old new (one_more_gain base w.readings r) (takes_both _ _ old now new w.takes at.takes);
-        seen = λ t. at.seen t ∙ ap (λ b. b || bytes_eq place t) (had t) ∙ sym (one_more_place w.readings r t);
-        members = λ t. at.members t ∙ ap (λ b. b || (is_member at.content && bytes_eq place t)) (ap (λ s. contains_text s t) members ∙ w.members t)
-            ∙ sym (one_more_member w.readings r t);
+        seen = λ t. at.seen t ∙ ap (λ b. b || bytes_eq place t) (w.seen t) ∙ sym (one_more_place w.readings r t);
+        members = λ t. at.members t ∙ ap (λ b. b || (is_member at.content && bytes_eq place t)) (w.members t) ∙ sym (one_more_member w.readings r t);
         goes = λ all rest. w.goes all (subst (λ (ws : List Text). Reads base first ws w.readings all) (sym popped)
-            (looked place at.content (map string_bytes mid.waiting.items) w.readings all (ap (λ b. b || is_excluded base place) (sym (had place)) ∙ at.fresh) at.is
+            (looked place at.content (map string_bytes left.items) w.readings all (ap (λ b. b || is_excluded base place) (sym (w.seen place)) ∙ at.fresh) at.is
             (subst (λ (ws : List Text). Reads base first ws (w.readings ++ r ∷ []) all) at.waiting rest)));
       }
 
@@ -74,7 +71,7 @@ module _ (base : Base) (first : List Text) where
       → walk.waiting.items ≡ left.items ++ x ∷ [] → listed ≡ is_in first (string_bytes x) → asked ≡ string_bytes x
       → Visits base listed asked (record walk { waiting = left }) after now new → Walking walk old now → Walking after old new
   walking_on x listed asked left walk after old now new popped flag same visits w =
-      walking_next (string_bytes x) walk (record walk { waiting = left }) after old now new (ap (map string_bytes) popped ∙ map-append string_bytes left.items (x ∷ [])) refl refl
+      walked (string_bytes x) left walk after old now new (ap (map string_bytes) popped ∙ map-append string_bytes left.items (x ∷ []))
       (subst (λ (b : Bool). Visits base b (string_bytes x) (record walk { waiting = left }) after now new) flag
       (subst (λ (t : Text). Visits base listed t (record walk { waiting = left }) after now new) same visits)) w
 

@@ -8,7 +8,7 @@ use Rattle.toml.specs.declared.value.Value.{Value}
 use Rattle.cargo_toml.specs.Dependencies.{DependencyMeaning, dependency_meaning, detailed}
 use Rattle.cargo_toml.specs.RealFiles.{IsCompletionFault, is_absent, real_folders, real_roots}
 use Rattle.cargo_toml.specs.Error.{Error, Memory, out-Error}
-use Rattle.cargo_toml.specs.{Completed.IsCompleted, Dependencies.inherited, Dependencies.simple}
+use Rattle.cargo_toml.specs.{Completed.IsCompleted}
 use Rattle.cargo_toml.specs.{Action.Text, InheritedDependencies.is_left, Templates.template_meaning}
 use Rattle.cargo_toml.specs.{Choosing.MayFind, Manifest.Manifest, Workspace.Workspace}
 use Rattle.cargo_toml.specs.{Faults.IsOther, Manifests.held, Reads.map_meaning, Sharing.shared_of}
@@ -64,16 +64,13 @@ refusal place e = found_if (refusal_code e) true place
 
 -- whether it is the place of a member, or of what is refused as one
 abbrev pub is_member : Content → Bool
-is_member (unread e) = true
 is_member (foreign fault) = false
-is_member (rootless m) = true
-is_member (belongs own errors m made) = true
+is_member _ = true
 
 -- the places of what a dependency leads to by its path, which stands in a folder
 abbrev pub need_at : Text → DependencyMeaning → List Text
-need_at folder (simple r) = []
-need_at folder (inherited i) = []
 need_at folder (detailed d) = option_map_or (λ path. place_of folder path ∷ []) d.path []
+need_at folder _ = []
 
 -- no root is looked for where a workspace is handed in
 abbrev pub none_found : MayFind
@@ -157,10 +154,9 @@ module _ (base : Base) where
   need_by place e = need_at place e.1.1 ++ (if is_left e.1.1 then shared_need e.1.0 else [])
 
   abbrev pub needs_of : Text → Content → List Text
-  needs_of place (unread e) = []
-  needs_of place (foreign fault) = []
   needs_of place (rootless m) = flat_map (need_by place) (entries_of (held m))
   needs_of place (belongs own errors m made) = flat_map (need_by place) (entries_of (held m))
+  needs_of place _ = []
 
   -- what a report takes of a place, and of several
   abbrev pub refusals_at : Text → Bool → Bool → Manifest Value → List Oddity

@@ -5,13 +5,10 @@ use Rattle.std.specs.{Prelude.unwrap_or, List.flat_map, Option.option_map_or}
 use Rattle.cargo_toml.specs.Dependencies.{DependencyMeaning, dependency_meaning, package_of}
 use Rattle.cargo_toml.specs.InheritedDependencies.{Entries, is_left}
 use Rattle.cargo_toml.specs.InheritedPackages.{field_is_left, leavable_rows}
-use Rattle.cargo_toml.specs.Kind.TheVariants.{Build, Dev, Normal}
 use Rattle.cargo_toml.specs.{Action.Text, Kind.Kind, Manifests.ManifestMeaning}
 use Rattle.cargo_toml.specs.{Requirements.requirement_text, Targets.TargetMeaning}
-use Rattle.cargo_toml_package.specs.Replacing.{entries_meaning}
-use Rattle.cargo_toml_tools.specs.Indexed.{all_by_kind, target_by_kind, with_kinds}
+use Rattle.cargo_toml_tools.specs.Indexed.{all_by_kind, table_name, target_by_kind}
 use Rattle.cargo_toml_tools.specs.IndexEntries.{required_version}
-use Rattle.cargo_toml_audit.specs.declared.audit.dependencies.Tables.{Tables}
 use Rattle.cargo_toml_audit.specs.{declared.audit.Use.Use, declared.audit.dependencies.Entry.Entry}
 
 -- which table lists a dependency, and what stands there under its key
@@ -23,12 +20,6 @@ listed_of e = (e.kind, (e.key.now, dependency_meaning e.dependency.now))
 
 abbrev pub with_kind : Kind × Entries → List Listed
 with_kind t = map (λ e. (t.0, e)) t.1
-
--- the tables of a package or a target
-abbrev pub own_by_kind : Tables → List (Kind × Entries)
-own_by_kind t =
-    with_kinds (entries_meaning t.normal.now) (entries_meaning t.dev.now)
-    (entries_meaning t.build.now)
 
 -- those of a target
 abbrev pub in_target : Text × TargetMeaning → List Listed
@@ -47,11 +38,6 @@ abbrev pub left_fields : {M : Type 0} → ManifestMeaning M → List Text
 left_fields m =
     flat_map named_if (option_map_or leavable_rows m.«package» [])
     ++ named_if (codes "lints", field_is_left m.lints)
-
-abbrev pub table_name : Kind → Text
-table_name Normal = codes "dependencies"
-table_name Dev = codes "dev-dependencies"
-table_name Build = codes "build-dependencies"
 
 -- a dependency, as `TABLE.KEY`
 abbrev pub left_dependency : Listed → List Text

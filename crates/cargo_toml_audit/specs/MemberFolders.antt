@@ -7,7 +7,7 @@ use Rattle.std.specs.{BTreeMap.get_by_text, Fs.file_type, IoError.error_kind, Li
 use Rattle.std.specs.{List.list_any, Option.option_map_or, Path.path_join, Str.chars}
 use Rattle.std.specs.{declared.alloc.Global.Global, declared.fs.attrs.Metadata.Metadata}
 use Rattle.cargo_toml.specs.{Action.Text, RealFiles.is_absent}
-use Rattle.cargo_toml_audit.specs.Places.{is_in, is_rooted, normalized, pieces, place_of}
+use Rattle.cargo_toml_audit.specs.Places.{begins_at, is_in, normalized, pieces, place_of}
 use Rattle.cargo_toml_audit.specs.declared.members.walk.There.TheVariants.{Folder, Nothing, Other}
 use Rattle.cargo_toml_audit.specs.declared.members.walk.There.TheVariants.{Unseen}
 use Rattle.cargo_toml_audit.specs.{Patterns.begins_with_dot, declared.members.walk.Listing.Listing}
@@ -32,16 +32,13 @@ pub record Disk : Type 0 where
 
 abbrev pub is_folder : There → Bool
 is_folder Folder = true
-is_folder Other = false
-is_folder Nothing = false
-is_folder Unseen = false
+is_folder _ = false
 
 -- something lies there, or a folder where one is wanted
 abbrev pub is_there : Bool → There → Bool
 is_there wanted Folder = true
-is_there wanted Other = not wanted
 is_there wanted Nothing = false
-is_there wanted Unseen = not wanted
+is_there wanted _ = not wanted
 
 -- ---- where an entry leads
 
@@ -52,10 +49,6 @@ named_so folder pattern names =
 
 abbrev pub with_dots : Bool → List Text → List Text
 with_dots wanted names = names ++ (if wanted then codes "." ∷ codes ".." ∷ [] else [])
-
--- where the names of an entry begin
-abbrev pub begins_at : Text → Text → Text
-begins_at root entry = if is_rooted entry then codes "/" else root
 
 -- a name that stands for itself; and one that leads no further: `**`, or the empty one right
 -- behind that
@@ -121,7 +114,7 @@ module _ (d : Disk) where
   led_to root entry = led false (pieces entry) (begins_at root entry)
 
   abbrev pub place_if : Text → List Text
-  place_if path = if is_folder (d.there path) then normalized path ∷ [] else []
+  place_if path = if is_folder (d.there path) then normalized false path ∷ [] else []
 
   -- the folders among that, or the entry itself where nothing lies there
   abbrev pub places_of : Text → Text → List Text
@@ -176,9 +169,7 @@ repeats ts = repeats_of [] ts
 -- what couldn't be looked at, or read to its end
 abbrev pub is_unseen : There → Bool
 is_unseen Unseen = true
-is_unseen Folder = false
-is_unseen Other = false
-is_unseen Nothing = false
+is_unseen _ = false
 
 abbrev pub unseen_in : List (String Global × There) → List Text
 unseen_in es = map (λ e. string_bytes e.0) (filter (λ e. is_unseen e.1) es)

@@ -4,10 +4,10 @@ use Rattle.std.specs.Prelude.{Some, None, Vec, bytes_eq, codes, if◌then◌else
 use Rattle.std.specs.Prelude.{length, map, not, option_and_then, option_map, string_bytes}
 use Rattle.std.specs.List.{flat_map, list_any}
 use Rattle.std.specs.{declared.alloc.Global.Global, Option.option_map_or}
-use Rattle.cargo_toml.specs.Dependencies.{DependencyMeaning, is_optional, simple, detailed}
+use Rattle.cargo_toml.specs.Dependencies.{DependencyMeaning, inherited, is_optional}
 use Rattle.cargo_toml.specs.{InheritedDependencies.Entries, InheritedPackages.field_is_left}
 use Rattle.cargo_toml.specs.{Action.Text, Manifests.ManifestMeaning, Templates.TemplateMeaning}
-use Rattle.cargo_toml.specs.{Dependencies.inherited, Packages.PackageMeaning, Settings.edition_text}
+use Rattle.cargo_toml.specs.{Packages.PackageMeaning, Settings.edition_text}
 use Rattle.cargo_toml_audit.specs.declared.audit.Code.TheVariants.{Features, SeveralRequirements}
 use Rattle.cargo_toml_audit.specs.declared.audit.Code.TheVariants.{OptionalShared, UnusedDependency}
 use Rattle.cargo_toml_audit.specs.declared.audit.Code.TheVariants.{OtherWorkspace, WorkspaceWithin}
@@ -70,9 +70,8 @@ leads_elsewhere place root named =
 
 -- a dependency has `workspace = false`, or says nothing of where it comes from
 abbrev pub is_false : DependencyMeaning → Bool
-is_false (simple r) = false
 is_false (inherited i) = not i.workspace
-is_false (detailed d) = false
+is_false _ = false
 
 abbrev pub is_not_inherited : List Listed → Bool
 is_not_inherited es = list_any (λ e. is_false e.1.1) es

@@ -23,15 +23,10 @@ part_of One = one
 part_of (Just c) = just c
 part_of (OneOf others content) = one_of others content.items
 
-abbrev pub is_dot : Part → Bool
-is_dot (just c) = c == 46
-is_dot many = false
-is_dot one = false
-is_dot (one_of others content) = false
-
+-- a dot is 46
 abbrev pub begins_with_dot : List Part → Bool
-begins_with_dot [] = false
-begins_with_dot (part ∷ pattern) = is_dot part
+begins_with_dot (just c ∷ pattern) = c == 46
+begins_with_dot _ = false
 
 -- ---- what a pattern matches
 
@@ -45,10 +40,8 @@ is_among (first ∷ next ∷ last ∷ others) c =
     else nat_eq first c || is_among (next ∷ last ∷ others) c
 
 abbrev pub is_range : List ℕ → Bool
-is_range [] = false
-is_range (first ∷ []) = false
-is_range (first ∷ next ∷ []) = false
 is_range (first ∷ next ∷ last ∷ others) = nat_eq next 45
+is_range _ = false
 
 abbrev pub accepts : Part → ℕ → Bool
 accepts many c = true
@@ -76,9 +69,7 @@ is_empty (c ∷ cs) = false
 
 abbrev pub is_many : Part → Bool
 is_many many = true
-is_many one = false
-is_many (just c) = false
-is_many (one_of others content) = false
+is_many _ = false
 
 abbrev pub begins : Bool → Part → (List ℕ → Bool) → List ℕ → Bool
 begins true wanted rest = after_any rest
@@ -138,9 +129,7 @@ read_all cs = fold read_more (record { parts = []; content = []; mode = Plain })
 abbrev pub parts_if : Mode → List Part → Option (List Part)
 parts_if Plain parts = Some parts
 parts_if Star parts = Some parts
-parts_if Brackets parts = None
-parts_if Others parts = None
-parts_if Wrong parts = None
+parts_if _ parts = None
 
 abbrev pub whole_parts : Read → Option (List Part)
 whole_parts r = parts_if r.mode r.parts

@@ -1,13 +1,13 @@
 -- Paths of folders: a path is its bytes, and its names stand between slashes.
-use Rattle.std.specs.Prelude.{◌++◌, ◌&&◌, ◌||◌, ◌==◌, ◌-◌, Bool, List, [], ◌∷◌, bytes_eq, codes}
-use Rattle.std.specs.Prelude.{filter, fold, get_or, if◌then◌else◌, length, nat_eq, not, take}
+use Rattle.std.specs.Prelude.{◌++◌, ◌&&◌, ◌||◌, ◌==◌, ◌-◌, Bool, true, false, List, [], ◌∷◌, codes}
+use Rattle.std.specs.Prelude.{bytes_eq, filter, fold, get_or, if◌then◌else◌, length, nat_eq, not, take}
 use Rattle.std.specs.List.{join_by, list_any, slice_split, starts_with}
 use Rattle.std.specs.Path.{path_join}
 use Rattle.cargo_toml.specs.Action.{Text}
 
--- a path that begins with a slash
-abbrev pub is_rooted : Text → Bool
-is_rooted path = starts_with nat_eq path (codes "/")
+-- where a path begins: where all paths do, or in a folder
+abbrev pub begins_at : Text → Text → Text
+begins_at folder path = if starts_with nat_eq path (codes "/") then codes "/" else folder
 
 -- a name that leads nowhere, and the one that leads to the folder around
 abbrev pub is_nothing : Text → Bool
@@ -20,11 +20,12 @@ is_up name = bytes_eq name (codes "..")
 abbrev pub ends_in_name : List Text → Bool
 ends_in_name names = not (is_up (get_or names (length names - 1) (codes "..")))
 
--- names, and one further: `..` takes back the last one, unless that is a `..` itself
-abbrev pub one_further : List Text → Text → List Text
-one_further names name =
+-- names, and one further: `..` takes back the last one, unless that is a `..` itself, or each is to
+-- stay
+abbrev pub one_further : Bool → List Text → Text → List Text
+one_further keeps_up names name =
     if is_nothing name then names
-    else (if is_up name && ends_in_name names then take (length names - 1) names
+    else (if (is_up name && not keeps_up) && ends_in_name names then take (length names - 1) names
     else names ++ name ∷ [])
 
 -- what stands between the slashes of a path
@@ -35,19 +36,17 @@ pieces path = slice_split (λ b. nat_eq b 47) path
 abbrev pub or_dot : Text → Text
 or_dot text = if length text == 0 then codes "." else text
 
-abbrev pub root_of : Text → Text
-root_of path = if is_rooted path then codes "/" else []
-
 abbrev pub with_names : Text → List Text → Text
-with_names path names = or_dot (root_of path ++ join_by (λ name. name) (codes "/") names)
+with_names path names = or_dot (begins_at [] path ++ join_by (λ name. name) (codes "/") names)
 
--- the path with no `.` in it, and with `..` at its front alone
-abbrev pub normalized : Text → Text
-normalized path = with_names path (fold one_further [] (pieces path))
+-- the path with no `.` in it, and with `..` at its front alone, unless each is to stay as it is
+-- written
+abbrev pub normalized : Bool → Text → Text
+normalized keeps_up path = with_names path (fold (one_further keeps_up) [] (pieces path))
 
 -- the place to which a path leads that is written in a folder
 abbrev pub place_of : Text → Text → Text
-place_of folder path = normalized (path_join folder path)
+place_of folder path = normalized false (path_join folder path)
 
 abbrev pub manifest_path : Text → Text
 manifest_path folder = path_join folder (codes "Cargo.toml")
@@ -56,13 +55,11 @@ manifest_path folder = path_join folder (codes "Cargo.toml")
 abbrev pub lies_in : Text → Text → Bool
 lies_in place outer = bytes_eq place outer || starts_with nat_eq place (path_join outer [])
 
--- a path as Cargo compares it: with no `.` in it, and with each `..` as it is written
-abbrev pub compared : Text → Text
-compared path = with_names path (filter (λ name. not (is_nothing name)) (pieces path))
-
--- a path is one of these entries of a list in a folder, or lies in one
+-- a path is one of these entries of a list in a folder, or lies in one. As Cargo compares them,
+-- each `..` of an entry stays
 abbrev pub lies_in_some : Text → Text → List Text → Bool
-lies_in_some root path entries = list_any (λ e. lies_in path (compared (path_join root e))) entries
+lies_in_some root path entries =
+    list_any (λ e. lies_in path (normalized true (path_join root e))) entries
 
 -- a workspace excludes a place: its manifest lies in what is excluded, and in no entry of `members`
 -- as that is written

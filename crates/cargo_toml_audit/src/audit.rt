@@ -20,7 +20,6 @@ use findings::{add_differences, add_shared, find_all, names};
 pub use findings::{has_no_target, named_by, refusal_rows};
 pub use report::{json, lines};
 pub use root::{Root, needs};
-use std::alloc::Global;
 pub use summary::{summarize, untold_words};
 
 /// What a member is. What isn't there is `None`.

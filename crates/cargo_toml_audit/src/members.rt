@@ -1,6 +1,6 @@
 //! The members of a workspace, as Cargo finds them by its lists and by paths of dependencies.
 ghost use Rattle.std.specs.Prelude.{◌≡◌, IfOk, filter, map, string_bytes};
-ghost use Rattle.cargo_toml_audit.specs.MemberFolders.{is_wrong, is_wrong_name, unseen};
+ghost use Rattle.cargo_toml_audit.specs.MemberFolders.{is_wrong, unseen};
 ghost use Rattle.cargo_toml_audit.specs.Places.{included};
 
 mod patterns;
@@ -23,17 +23,11 @@ fn is_wrong(alloc: Global, entry: &str) -> AllocResult<bool>
 {
     let names = pieces(alloc, entry)?;
     for name in names.as_slice() {
-        if is_wrong_name(alloc, *name)? {
+        if !is_deep(*name) && tokens_of(alloc, *name)?.is_none() {
             return Ok(true);
         }
     }
     Ok(false)
-}
-
-fn is_wrong_name(alloc: Global, name: &str) -> AllocResult<bool>
-    ensures { IfOk result (λ b. b ≡ is_wrong_name name.now) }
-{
-    Ok(!is_deep(name) && tokens_of(alloc, name)?.is_none())
 }
 
 /// The entries that Cargo can't read.

@@ -1,16 +1,12 @@
 -- What a resolver answers, by its filter and at its limit.
-use Rattle.std.proofs.Common.{arith, ◌≡◌, ℕ, Bool, List, Option, None, false, is_some, Bor, refl, subst}
-use Rattle.cargo_toml_graph.proofs.Texts.{by_true}
-use Rattle.cargo_toml.specs.Filter.{Asked, FilterTells}
-use Rattle.cargo_toml.specs.Parsed.{AreBinsComplete, IsAnswerFor, IsParsed, parsed_table}
-use Rattle.cargo_toml.specs.{Action.Text, Admitted.Listed, Manifests.ManifestMeaning, Marks.NamedDetails, Recorded.Entry, Removal.is_removed, Resolved.Answer}
+use Rattle.std.proofs.Common.{◌≡◌, Bool, Bor, None, Option, arith, false, is_some, subst, ℕ}
+use Rattle.cargo_toml.specs.Parsed.{AreBinsComplete, IsParsed, parsed_table}
+use Rattle.{cargo_toml.specs.Action.Text, cargo_toml.specs.Filter.Asked, cargo_toml.specs.Filter.FilterTells, cargo_toml.specs.Manifests.ManifestMeaning}
+use Rattle.{cargo_toml.specs.Removal.is_removed, cargo_toml.specs.Resolved.Answer, cargo_toml_graph.proofs.Texts.by_true}
 
 -- without a filter no hidden name is kept
 pub tells_none : {F : Type 0} (g : Asked F) (filter : Option (Bor F)) (keep : Text → Bool) → filter ≡ None → ((n : Text) → keep n ≡ false) → FilterTells g filter keep
 tells_none g filter keep e none = grind arith
-
-pub keeps_none : {F : Type 0} (g : Asked F) (filter : Option (Bor F)) → filter ≡ None → FilterTells g filter (λ _. false)
-keeps_none g filter e = tells_none g filter (λ _. false) e (λ n. refl)
 
 module _ (keep : Text → Bool) (a : Answer) {n k : ℕ} (limit : n ≡ k) where
   pub parsed_at : {M : Type 0} (m : ManifestMeaning M) → IsParsed n m keep a → IsParsed k m keep a
@@ -21,6 +17,3 @@ module _ (keep : Text → Bool) (a : Answer) {n k : ℕ} (limit : n ≡ k) where
   complete_at m is are =
       subst (λ n. AreBinsComplete n m (is_removed (parsed_table n m) keep) a) limit
       (subst (λ removed. AreBinsComplete n m removed a) (λ i r. by_true (is_some (a.redirects r)) (is_removed (parsed_table n m) keep r) (is.redirected r) i) are)
-
-  pub answered_at : (listed : Listed) (entries : List Entry) (details : NamedDetails) (own : Text → List Text) → IsAnswerFor n listed entries details own keep a → IsAnswerFor k listed entries details own keep a
-  answered_at listed entries details own is = subst (λ n. IsAnswerFor n listed entries details own keep a) limit is

@@ -1,5 +1,4 @@
 mod Asked
 mod Unreferenced
-mod ToldAt
 mod Taken
 mod Resolving

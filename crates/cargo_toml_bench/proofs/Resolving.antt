@@ -8,7 +8,7 @@ use Rattle.cargo_toml_graph.specs.{Ascending.Ascend, Action.Text, Admitted.Liste
 use Rattle.cargo_toml_graph.specs.Removal.{SameKept, lists_text, is_removed, unremoved, without_all, without_one}
 use Rattle.cargo_toml_graph.proofs.{BinLists.among-true, BinLists.is_among-true, Edges.unremoved_is, Elimination.all_taken_out, InByteOrder.ascending_once, InByteOrder.passed_has, InByteOrder.removed_there, RedirectsInOrder.redirect_by_bytes}
 use Rattle.cargo_toml_graph.proofs.{Settled.resolution_settled, Unremoved.resolved_unremoved}
-use Rattle.cargo_toml_features.specs.{Marks.NamedDetails, Recorded.Entry, Resolved.IsAnswer, Resolved.IsAnswerWithout, Resolved.table_of, Views.answer_of, Views.set_has, Views.resolution_of, Views.value_at}
+use Rattle.cargo_toml_features.specs.{Marks.NamedDetails, Recorded.Entry, Resolved.IsAnswer, Resolved.table_of, Views.answer_of, Views.set_has, Views.resolution_of, Views.value_at}
 use Rattle.cargo_toml_resolve.specs.Texts.{texts_now}
 use Rattle.cargo_toml_resolve.proofs.{AgainstAll.resolved_same, ByFilter.answer_alike}
 use Rattle.cargo_toml_bench.specs.Removing.{AreNames, AreTakenOut, HasNames, HaveRedirects, Redirected, bins_at, is_hidden, key_at}

@@ -1,20 +1,13 @@
 -- One feature is taken out of a map.
 use Rattle.std.proofs.Common.{arith, ◌≡◌, false, not, ◌&&◌, IsTrue, Option, Some, None, IsSome, is_some, Bor, bytes_eq, refl, sym, ap, subst, ◌∙◌, List, [], ◌∷◌}
 use Rattle.std.proofs.Math.Bool.{and-true, and-false}
-use Rattle.std.proofs.lemmas.{Bool.and_parts, Bool.not-true, Bool.cases_Bool, Bool.cond-true, Bool.cond-false, Bool.false≢true, Bool.false_from_ne_true, Slice.Eq.bytes_eq-Decides, Map.Text.hash_map_updates_str}
+use Rattle.std.proofs.lemmas.{Bool.and_parts, Bool.not-true, Bool.cases_Bool, Bool.false≢true, Bool.false_from_ne_true, Slice.Eq.bytes_eq-Decides}
 use Rattle.std.specs.{BTreeSet.BTreeSet, HashMap.HashMap}
 use Rattle.cargo_toml_graph.specs.{Action.Text, Removal.SameKept, Removal.without_one, Removal.lists_text, Removal.pass_bins, Reach.Among, Graph.Resolution}
-use Rattle.cargo_toml_graph.proofs.{Texts.bytes_eq_sym, Texts.bytes_eq_refl, BinLists.among-true, BinLists.is_among-true}
-use Rattle.cargo_toml_features.specs.{declared.features.Feature.Feature, Slots.Relates, Views.resolution_of, Views.value_at}
+use Rattle.cargo_toml_graph.proofs.{Texts.bytes_eq_sym, BinLists.among-true, BinLists.is_among-true}
+use Rattle.cargo_toml_features.{proofs.Pending.at_key, proofs.Pending.elsewhere, specs.declared.features.Feature.Feature, specs.Slots.Relates, specs.Views.resolution_of, specs.Views.value_at}
 use Rattle.cargo_toml_bench.specs.Removing.{bins_at, HasNames, Loses, TakesOut, Redirects, ChangesAll, ChangesAt, AreTakenOut, Redirected}
 use Rattle.std.specs.HashMap as hash
-
-module _ {X S : Type 0} (k : Text) (m n : HashMap (Bor Text) X S) (w : Option X) (h : hash.UpdatesBy (λ x y. bytes_eq x.now y.now) (λ q. bytes_eq k q.now) m n w) where
-  pub at_key : value_at n k ≡ w
-  at_key = hash_map_updates_str k m n w h k ∙ cond-true _ _ _ (bytes_eq_refl k)
-
-  pub elsewhere : (q : Text) → bytes_eq k q ≡ false → value_at n q ≡ value_at m q
-  elsewhere q off = hash_map_updates_str k m n w h q ∙ cond-false _ _ _ off
 
 pub changed_at : {S : Type 0} (Changes : Feature → Feature → Type 0) (k : Text) (m n : HashMap (Bor Text) Feature S) (old w : Feature)
     → value_at m k ≡ Some old → (IsSome (hash.get_by (λ q. bytes_eq k q.now) m) → hash.UpdatesBy (λ x y. bytes_eq x.now y.now) (λ q. bytes_eq k q.now) m n (Some w)) → Changes old w → ChangesAt Changes k m n

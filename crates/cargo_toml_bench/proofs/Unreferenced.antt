@@ -5,7 +5,7 @@ use Rattle.std.proofs.lemmas.{Map.Text.is_eq-slice_cmp, Slice.Eq.bytes_eq-Decide
 use Rattle.std.specs.{BTreeMap.is_at, BTreeSet.BTreeSet, BTreeSet.btree_set_len, Cmp.Lexicographic.slice_cmp, HashMap.HashMap, List.list_any, Option.option_map_or, Ordering.nat_cmp, Prelude.filter}
 use Rattle.cargo_toml_graph.specs.{Ascending.Ascend, Removal.lists_text}
 use Rattle.cargo_toml_graph.proofs.{BinLists.is_among-true, Texts.bytes_eq_refl}
-use Rattle.cargo_toml.specs.{Feature.Feature, Action.Text, Graph.Table, Graph.Edge, Graph.IsKept, Graph.IsResolved, Reach.Among, Reach.Reaches, Reach.Reaches.edge, Removal.is_removed}
+use Rattle.cargo_toml.specs.{Feature.Feature, Action.Text, Graph.Table, Graph.Edge, Graph.IsKept, Graph.IsResolved, Reach.Reaches, Reach.Reaches.edge, Removal.is_removed}
 use Rattle.cargo_toml.specs.Views.{resolution_of, set_has, value_at}
 use Rattle.cargo_toml_bench.specs.{Alone.is_alone, Alone.is_alone_at, Reports.AreUnreferenced, Reports.IsUnreferenced}
 use Rattle.cargo_toml_graph.proofs.Filtered.{those_among, those_ascend}

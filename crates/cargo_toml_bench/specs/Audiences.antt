@@ -7,7 +7,7 @@ use Rattle.toml.specs.Data.{Data, string, as_str}
 use Rattle.cargo_toml.specs.Writes.{Way, AreLawful, IsWriting, never_left_out}
 use Rattle.cargo_toml.specs.{Error.Error, Faults.IsOther, Manifests.ManifestMeaning}
 use Rattle.cargo_toml.specs.{Floats.has_no_float, WrittenManifests.manifest_way}
-use Rattle.cargo_toml_bench.specs.Printing.{IsTextOf, RefusesText}
+use Rattle.cargo_toml_bench.specs.Spelled.{IsTextOf, RefusesText}
 use Rattle.cargo_toml_bench.specs.declared.audience.Audience.{Audience}
 use Rattle.cargo_toml_bench.specs.declared.audience.Audience.TheVariants.{Everyone, Team, Undecided}
 

@@ -4,7 +4,7 @@ use Rattle.toml.specs.{View.view, declared.value.Value.Value}
 use Rattle.cargo_toml.specs.Choosing.{MayFind, RootsTold}
 use Rattle.cargo_toml.specs.{Completed.IsCompleted, Manifest.Manifest, Manifests.manifest_meaning}
 use Rattle.cargo_toml.specs.{Sharing.shared_of, ToldFolders.Told}
-use Rattle.cargo_toml_bench.specs.{Printing.Spells, Versioned.IsPrinted}
+use Rattle.cargo_toml_bench.specs.{Spelled.Spells, Versioned.IsPrinted}
 
 -- the text is printed of the member that the bytes spell, completed by the workspace that the
 -- root's bytes spell

@@ -1,11 +1,10 @@
 -- What calls that are made one after another tell of a manifest.
 use Rattle.std.specs.Prelude.{◌≡◌, ◌↔◌, ℕ, Bool, false, IsTrue, List, Option, length}
-use Rattle.cargo_toml.specs.{Action.Text, Admitted.Listed, Admitted.admitted}
-use Rattle.cargo_toml.specs.{Dependencies.DependencyMeaning, Graph.Table, Graph.IsKept}
-use Rattle.cargo_toml.specs.{Graph.KeepsName, Limits.MAX_ITEMS, Manifests.ManifestMeaning}
-use Rattle.cargo_toml.specs.{Parsed.parsed_entries, Parsed.parsed_table, Reach.Among, Reach.IsOnce}
-use Rattle.cargo_toml.specs.{Recorded.Entry, Recorded.entries_at, Recorded.first_target}
-use Rattle.cargo_toml.specs.{Recursive.Enables, Removal.is_removed, Resolved.table_of}
+use Rattle.cargo_toml.specs.{Action.Text, Admitted.admitted, Dependencies.DependencyMeaning}
+use Rattle.cargo_toml.specs.{Graph.Table, Graph.IsKept, Limits.MAX_ITEMS}
+use Rattle.cargo_toml.specs.{Manifests.ManifestMeaning, Parsed.parsed_entries, Parsed.parsed_table}
+use Rattle.cargo_toml.specs.{Reach.Among, Reach.IsOnce, Recorded.entries_at, Recorded.first_target}
+use Rattle.cargo_toml.specs.{Recursive.Enables, Removal.is_removed}
 
 -- a hidden feature
 abbrev pub IsHidden : Table → Text → Type 0
@@ -14,15 +13,6 @@ IsHidden t f = IsTrue (is_removed t (λ _. false) f)
 -- the table has the feature f, which enables g
 abbrev pub HasEnabling : Table → Text → Text → Type 0
 HasEnabling t f g = IsTrue (t.has f) × Enables t f g
-
--- f is left without the hidden features, and it or a hidden one that it reaches names x
-abbrev pub LeavesName : Table → Text → Text → Type 0
-LeavesName t f x = IsKept t (IsHidden t) f × KeepsName t (IsHidden t) f x
-
--- the answer says so of the features that are listed and the entries
-abbrev pub IsNamed : Listed → List Entry → Text → Text → Bool → Type 0
-IsNamed listed entries f x answer =
-    IsTrue answer ↔ LeavesName (table_of (admitted MAX_ITEMS listed) entries) f x
 
 module _ {M : Type 0} (m : ManifestMeaning M) where
   -- the answer says whether f enables g

@@ -8,7 +8,7 @@ use Rattle.cargo_toml.specs.{Asked.ManifestMeets, Inheritable.TheVariants.Set}
 use Rattle.cargo_toml.specs.{Packages.PackageMeaning, Reread.reread, Reread.says_true}
 use Rattle.cargo_toml.specs.{Texts.any_tree, Texts.document_reads, Versions.Parts, Ways.free_way}
 use Rattle.cargo_toml.specs.{WrittenManifests.manifest_way}
-use Rattle.cargo_toml_bench.specs.Printing.{Spells}
+use Rattle.cargo_toml_bench.specs.Spelled.{Spells}
 
 -- a manifest with this version of its package, if it has one
 abbrev pub with_version : {M : Type 0} → Parts → ManifestMeaning M → ManifestMeaning M

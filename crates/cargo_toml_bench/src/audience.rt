@@ -1,11 +1,11 @@
 //! Metadata of a caller's own, for `package.metadata` and `workspace.metadata`: who may rely on a
 //! package.
-ghost use Rattle.std.specs.Prelude.{◌≡◌, codes, IfErr, IfOk};
+ghost use Rattle.std.specs.Prelude.{◌≡◌, IfErr, IfOk};
 ghost use Rattle.toml.specs.View.{view};
-ghost use Rattle.cargo_toml.specs.{Faults.IsOther, Manifests.held};
-ghost use Rattle.cargo_toml_bench.specs.Audiences.{IsAudienceOf, IsRewrittenOwn, Refuses};
-ghost use Rattle.cargo_toml_bench.specs.Audiences.{RefusesRewriting, AudienceRefuses, audience_in};
-ghost use Rattle.cargo_toml_bench.specs.Audiences.{audience_reads, audience_way};
+ghost use Rattle.cargo_toml.specs.Manifests.{held};
+ghost use Rattle.cargo_toml_bench.specs.Audiences.{AudienceRefuses, IsAudienceOf, IsOwnText};
+ghost use Rattle.cargo_toml_bench.specs.Audiences.{IsRewrittenOwn, Refuses, RefusesRewriting};
+ghost use Rattle.cargo_toml_bench.specs.Audiences.{audience_in, audience_reads, audience_way};
 ghost use Rattle.cargo_toml_bench.specs.declared.audience.Audience.{Audience};
 
 use cargo_toml::{Error, FromValue, Manifest, ToValue, Value};
@@ -67,8 +67,16 @@ pub fn audience_of(alloc: Global, bytes: &[u8]) -> Result<Option<Audience>, Erro
     ensures answer { IfOk result (IsAudienceOf bytes.now) }
     ensures refused { IfErr result (Refuses bytes.now) }
 {
-    let manifest: Manifest<Audience> = Manifest::from_slice_with_metadata(alloc, bytes)?;
+    let manifest = read(alloc, bytes)?;
     Ok(package_audience(&manifest))
+}
+
+// The manifest that the bytes spell.
+fn read(alloc: Global, bytes: &[u8]) -> Result<Manifest<Audience>, Error>
+    ensures spelled { IfOk result (λ m. IsOwnText bytes.now (held m)) }
+    ensures refused { IfErr result (Refuses bytes.now) }
+{
+    Manifest::from_slice_with_metadata(alloc, bytes)
 }
 
 // The audience that the metadata of a manifest's package say.
@@ -87,6 +95,6 @@ pub fn rewrite(alloc: Global, bytes: &[u8]) -> Result<Value, Error>
     ensures answer { IfOk result (λ v. IsRewrittenOwn bytes.now (view v)) }
     ensures refused { IfErr result (RefusesRewriting bytes.now) }
 {
-    let manifest: Manifest<Audience> = Manifest::from_slice_with_metadata(alloc, bytes)?;
+    let manifest = read(alloc, bytes)?;
     manifest.to_value(alloc)
 }

@@ -1,8 +1,7 @@
 //! A file system that is held in memory, for tests of completion.
-ghost use Rattle.std.specs.Prelude.{◌≡◌, [], IfOk, IfErr, map, string_bytes};
+ghost use Rattle.std.specs.Prelude.{◌≡◌, [], IfOk, map, string_bytes};
 ghost use Rattle.std.specs.Option.{option_copied};
-ghost use Rattle.cargo_toml.specs.Folders.{AnswersNames, HasTexts};
-ghost use Rattle.cargo_toml.specs.{Error.Memory, Told.ReadsRoot};
+ghost use Rattle.cargo_toml.specs.{Folders.AnswersNames, Folders.HasTexts, Told.ReadsRoot};
 ghost use Rattle.cargo_toml_bench.specs.InMemory.{told_at, told_root_at, told_of_answer};
 ghost use Rattle.cargo_toml_bench.specs.InMemory.{told_of_root, told_bytes};
 
@@ -70,9 +69,9 @@ fn set_of(alloc: Global, names: &[String]) -> Result<HashSet<String>, AllocError
 fn answer_at<'a>(folders: &'a [(String, Answer)], path: &str) -> Option<&'a Answer>
     ensures { told_of_answer (option_copied result) ≡ told_at folders.now path.now }
 {
-    for (name, answer) in folders {
-        if name.as_str() == path {
-            return Some(answer);
+    for folder in folders {
+        if folder.0.as_str() == path {
+            return Some(&folder.1);
         }
     }
     None

@@ -1,18 +1,16 @@
 //! Public calls that a user makes one after another: what one promises is what the next asks for,
 //! and what both together promise is told.
-ghost use Rattle.std.specs.Prelude.{◌≡◌, ◌⊎◌, IfErr, IfOk, OnOk, map, option_map};
-ghost use Rattle.cargo_toml.specs.{Admitted.Listed, Choosing.handed_of, Choosing.roots_of};
-ghost use Rattle.cargo_toml.specs.{Completed.IsCompleted, Dependencies.is_optional, Error.Memory};
-ghost use Rattle.cargo_toml.specs.{Hashed.IsListingOf, Manifests.held, Products.product_meaning};
-ghost use Rattle.cargo_toml.specs.{Refusing.IsRefusedBy, Refusing.MayLose, Views.entry_of};
-ghost use Rattle.cargo_toml_bench.specs.Pairs.{IsEnabling, IsFeatureCount, IsNamed, first_under};
+ghost use Rattle.std.specs.Prelude.{◌≡◌, ◌⊎◌, IfErr, IfOk, OnOk, option_map};
+ghost use Rattle.cargo_toml.specs.{Choosing.handed_of, Choosing.roots_of, Completed.IsCompleted};
+ghost use Rattle.cargo_toml.specs.{Dependencies.is_optional, Error.Memory, Manifests.held};
+ghost use Rattle.cargo_toml.specs.{Products.product_meaning, Refusing.IsRefusedBy};
+ghost use Rattle.cargo_toml.specs.{Refusing.MayLose};
+ghost use Rattle.cargo_toml_bench.specs.Pairs.{IsEnabling, IsFeatureCount, first_under};
 
 use crate::whole::resolve_whole;
-use cargo_toml::features::{ParseDependency, Resolver, complete_and_parse_into};
+use cargo_toml::features::{Resolver, complete_and_parse_into};
 use cargo_toml::{AbstractFilesystem, Error, FromValue, Manifest, Product, ToValue};
 use std::alloc::Global;
-use std::collections::HashMap;
-use std::hash::BuildHasher;
 
 /// Whether a manifest has the feature `name`, and asking for it enables the feature `other`: it is
 /// resolved, and asked for what the feature enables. The one refusal is [`Error::Memory`].
@@ -49,27 +47,6 @@ pub fn is_optional_at<M>(
         return Ok(None);
     };
     Ok(Some(dependency.dep().optional()))
-}
-
-/// Whether a table that stands in no manifest has the feature `name`, and it names `other` once the
-/// table is resolved. The one refusal is [`Error::Memory`].
-pub fn is_named<'m: 'd, 'd, S: BuildHasher>(
-    alloc: Global,
-    features: &'m HashMap<String, Vec<String>, S>,
-    dependencies: &[ParseDependency<'m, 'd>],
-    name: &str,
-    other: &str,
-) -> Result<bool, Error>
-    ensures answer { IfOk result (λ b. (listed : Listed) → IsListingOf features.now listed
-        → IsNamed listed (map entry_of dependencies.now) name.now other.now b) }
-    ensures listed { IfOk result (λ _. (listed : Listed) × IsListingOf features.now listed) }
-    ensures refused { IfErr result (λ e. e ≡ Memory) }
-{
-    let resolved = Resolver::new().parse_custom(alloc, features, dependencies)?;
-    let Some(feature) = resolved.features.get(name) else {
-        return Ok(false);
-    };
-    Ok(feature.enables_features.contains(other))
 }
 
 /// Completes a member, and counts the features that it then has, without the hidden ones.

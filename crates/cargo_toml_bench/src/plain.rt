@@ -250,6 +250,7 @@ fn put_bin<'m>(own: &mut Vec<&'m str>, bin: &'m str) -> Result<(), AllocError>
     Ok(())
 }
 
+#[tactic(auto, using(cargo_toml_resolve::proofs::BinTurns::put_more))]
 fn put_bins<'m>(own: &mut Vec<&'m str>, bins: &[&'m str]) -> Result<(), AllocError>
     ensures { OnOk result (texts_now own.new.items
         ≡ put_each (texts_now own.old.items) (texts_now bins.now)) }

@@ -2,9 +2,8 @@
 pub(crate) mod print;
 
 ghost use Rattle.std.specs.Prelude.{◌≡◌, IfErr, IfOk, filter};
-ghost use Rattle.cargo_toml.specs.{Error.Memory, Dependencies.dependency_meaning};
-ghost use Rattle.cargo_toml.specs.{Reads.map_meaning, Limits.MAX_ITEMS, Manifests.held};
-ghost use Rattle.cargo_toml.specs.{Parsed.parsed_table};
+ghost use Rattle.cargo_toml.specs.{Dependencies.dependency_meaning, Error.Memory, Limits.MAX_ITEMS};
+ghost use Rattle.cargo_toml.specs.{Manifests.held, Parsed.parsed_table, Reads.map_meaning};
 ghost use Rattle.cargo_toml_resolve.specs.Texts.{texts_now};
 ghost use Rattle.cargo_toml_bench.specs.Alone.{is_alone_at};
 ghost use Rattle.cargo_toml_bench.specs.Reports.{texts, optional_keys, AreUnreferenced};

@@ -81,16 +81,13 @@ fn make_at<R: Files + AllocGlobal>(rt: &R, line: &str) -> Result<Option<R::File>
     }
     if let Some(original) = original {
         symlink(rt, original, path)?;
-        return Ok(None);
-    }
-    if let Some(path) = path.strip_suffix(DENIED) {
+    } else if let Some(path) = path.strip_suffix(DENIED) {
         fs::create_dir(rt, path)?;
         fs::set_permissions(rt, path, Permissions::from_mode(0))?;
-        return Ok(None);
-    }
-    if path.ends_with('/') {
+    } else if path.ends_with('/') {
         fs::create_dir(rt, path)?;
-        return Ok(None);
+    } else {
+        return Ok(Some(fs::create(rt, path)?));
     }
-    Ok(Some(fs::create(rt, path)?))
+    Ok(None)
 }

@@ -32,10 +32,7 @@ pub fn with_version(alloc: Global, bytes: &[u8], version: &str) -> Result<String
 fn read_version(alloc: Global, text: &str) -> Result<SemVer, Error>
     ensures { IfOk result (λ v. version_parts text.now ≡ Ok (parts_of v)) }
 {
-    match SemVer::parse(alloc, text) {
-        Ok(version) => Ok(version),
-        Err(_) => Err(Error::Other("no version")),
-    }
+    SemVer::parse(alloc, text).map_err(|_| Error::Other("no version"))
 }
 
 // Puts the version into the package, if there is one.
@@ -52,9 +49,8 @@ fn set_version(manifest: &mut Manifest, version: SemVer)
 
 // The text that a manifest is written as.
 pub(crate) fn manifest_text(alloc: Global, manifest: &Manifest) -> Result<String, Error>
-    requires { IsTold (manifest_meaning view manifest.now) }
-    ensures { IfOk result
-        (λ text. IsPrinted (manifest_meaning view manifest.now) (string_bytes text)) }
+    ensures { IfOk result (λ text. IsTold (manifest_meaning view manifest.now)
+        → IsPrinted (manifest_meaning view manifest.now) (string_bytes text)) }
 {
     value_metadata(&None);
     match manifest.to_value(alloc)? {

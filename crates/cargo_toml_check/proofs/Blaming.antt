@@ -1,14 +1,11 @@
 -- What is told of a part whose own parts have something at fault, and how lists are seen.
-use Rattle.std.proofs.Common.{◌≡◌, ◌++◌, ◌<◌, Bool, true, false, if◌then◌else◌, List, [], ◌∷◌, length, map, ap, arith, refl, sym, ◌∙◌}
-use Rattle.std.specs.List.{flat_map}
-use Rattle.cargo_toml.specs.Action.{Text}
-use Rattle.cargo_toml_tools.specs.IndexEntries.{with_rows}
-use Rattle.cargo_toml_tools.proofs.Placed.{with_both}
+use Rattle.{std.specs.List.flat_map, toml.specs.View.items_view, toml.specs.View.view, toml.specs.declared.value.Value.Value, cargo_toml.specs.Action.Text}
+use Rattle.std.proofs.Common.{[], ◌++◌, ◌<◌, ◌∙◌, ◌∷◌, ◌≡◌, Bool, List, ap, arith, false, if◌then◌else◌, length, map, refl, sym, true}
+use Rattle.cargo_toml_check.specs.Shown.{json_items, json_of}
+use Rattle.{cargo_toml_check.specs.Alone.Part, cargo_toml_check.specs.Blamed.or_own, cargo_toml_check.specs.Blamed.path_of}
+use Rattle.{cargo_toml_check.specs.declared.search.Fault.Fault, cargo_toml_tools.proofs.Placed.with_both, cargo_toml_tools.specs.IndexEntries.with_rows}
 use Rattle.serde_json.specs.Data as json
 use Rattle.serde_json.specs.View as json_view
-use Rattle.toml.specs.{View.items_view, View.view, declared.value.Value.Value}
-use Rattle.cargo_toml_check.specs.{Alone.Part, Blamed.or_own, Blamed.path_of, Shown.json_items}
-use Rattle.cargo_toml_check.specs.{Shown.json_of, declared.search.Fault.Fault}
 
 pub told_inner : (read : Bool) (p : List Part) (inner before : List (List Part)) (fs : List Fault) → read ≡ false → map path_of fs ≡ inner → 0 < length fs
     → before ++ map path_of fs ≡ before ++ (if read then [] else or_own p inner)

@@ -1,8 +1,6 @@
 -- Nothing is told just where nothing is at fault.
-use Rattle.std.proofs.Common.{◌≡◌, ◌↔◌, Bool, true, false, if◌then◌else◌, List, [], ◌∷◌, arith, length, map, refl, sym}
-use Rattle.cargo_toml_check.specs.Alone.{Part}
-use Rattle.cargo_toml_check.specs.Blamed.{or_own, path_of}
-use Rattle.cargo_toml_check.specs.declared.search.Fault.{Fault}
+use Rattle.std.proofs.Common.{[], ◌↔◌, ◌∷◌, ◌≡◌, Bool, List, arith, false, if◌then◌else◌, length, map, refl, sym, true}
+use Rattle.cargo_toml_check.specs.{Alone.Part, Blamed.or_own, Blamed.path_of, declared.search.Fault.Fault}
 
 cons_some : {A : Type 0} (x : A) (xs : List A) → x ∷ xs ≡ [] → ⊥
 cons_some x xs e = cc

@@ -2,9 +2,8 @@
 use Rattle.std.specs.Prelude.{ℕ, List, [], ◌∷◌, Option, Some, None, codes, unwrap_or}
 use Rattle.toml.specs.Data.{Data, Members, array, item, member, no_items, no_members, string, table}
 use Rattle.cargo_toml.specs.{Settings.named, Writes.put_member}
-use Rattle.cargo_toml_check.specs.declared.alone.Around.{Around}
+use Rattle.cargo_toml_check.specs.declared.alone.{Around.Around, Step.Step}
 use Rattle.cargo_toml_check.specs.declared.alone.Around.TheVariants as around
-use Rattle.cargo_toml_check.specs.declared.alone.Step.{Step}
 use Rattle.cargo_toml_check.specs.declared.alone.Step.TheVariants as step
 
 -- a step from a value to a part of it: what stands at a key, or an item

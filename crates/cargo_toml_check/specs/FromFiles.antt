@@ -1,7 +1,6 @@
 -- What is found and shown of a text of a file.
 use Rattle.std.specs.Prelude.{◌⊎◌, Bool, false, true}
-use Rattle.std.specs.declared.hash.DefaultHasher.{DefaultHasher}
-use Rattle.std.specs.declared.hash.RandomState.{RandomState}
+use Rattle.std.specs.declared.hash.{DefaultHasher.DefaultHasher, RandomState.RandomState}
 use Rattle.serde_json.specs.Data as json
 use Rattle.serde_json.specs.Written.{IsInOrder}
 use Rattle.toml.specs.declared.value.Value.{Value}

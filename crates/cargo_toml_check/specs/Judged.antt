@@ -1,6 +1,5 @@
 -- Which findings count.
-use Rattle.std.specs.Prelude.{Bool, true, List}
-use Rattle.std.specs.List.{list_any}
+use Rattle.std.specs.{List.list_any, Prelude.Bool, Prelude.List, Prelude.true}
 use Rattle.cargo_toml_lint.specs.declared.finding.Level.TheVariants.{Error, Hint, Warning}
 use Rattle.cargo_toml_lint.specs.{Findings.code_level, declared.finding.Finding.Finding}
 use Rattle.cargo_toml_lint.specs.{declared.finding.Level.Level}

@@ -4,11 +4,10 @@ use Rattle.std.specs.Prelude.{nat_lt}
 use Rattle.std.specs.{Option.option_copied, Option.option_map_or, Borrow.Bor, BTreeMap.BTreeMap}
 use Rattle.std.specs.{BTreeSet.BTreeSet, HashMap.HashMap, List.flat_map, List.list_any}
 use Rattle.serde_json.specs.Data.{Data, boolean, no_members, object}
-use Rattle.cargo_toml.specs.{Action.Text, Feature.Feature, InheritedDependencies.Entries}
-use Rattle.cargo_toml.specs.{Limits.MAX_ITEMS, Manifests.ManifestMeaning, Targets.TargetMeaning}
+use Rattle.cargo_toml.specs.{Action.Text, Feature.Feature, Limits.MAX_ITEMS}
+use Rattle.cargo_toml.specs.{Manifests.ManifestMeaning, Targets.TargetMeaning}
 use Rattle.cargo_toml.specs.{Views.set_has, Views.value_at}
-use Rattle.cargo_toml_features.specs.{declared.features.DepAction.DepAction}
-use Rattle.cargo_toml_features.specs.{declared.features.Features.Features}
+use Rattle.cargo_toml_features.specs.declared.features.{DepAction.DepAction, Features.Features}
 use Rattle.cargo_toml_tools.specs.IndexEntries.{text_array, text_or_null, with_rows}
 
 abbrev pub texts_json : List (Bor Text) → Data
@@ -52,13 +51,10 @@ pub record AreMembers {X S : Type 0} (json : X → Data) (found : HashMap (Bor T
 abbrev pub is_over : ℕ → Bool
 is_over n = nat_lt MAX_ITEMS n
 
-abbrev pub is_cut_table : Entries → Bool
-is_cut_table es = is_over (length es)
-
 abbrev pub is_cut_target : TargetMeaning → Bool
 is_cut_target t =
-    is_cut_table t.dependencies
-    || (is_cut_table t.build_dependencies || is_cut_table t.dev_dependencies)
+    is_over (length t.dependencies)
+    || (is_over (length t.build_dependencies) || is_over (length t.dev_dependencies))
 
 abbrev pub are_cut_targets : List (Text × TargetMeaning) → Bool
 are_cut_targets ts = list_any (λ t. is_cut_target t.1) ts
@@ -72,9 +68,9 @@ abbrev pub is_cut : {M : Type 0} → ManifestMeaning M → Bool
 is_cut m =
     is_over (length m.features)
     || (has_long m.features
-    || (is_cut_table m.dependencies
-    || (is_cut_table m.build_dependencies
-    || (is_cut_table m.dev_dependencies || are_cut_targets m.target))))
+    || (is_over (length m.dependencies)
+    || (is_over (length m.build_dependencies)
+    || (is_over (length m.dev_dependencies) || are_cut_targets m.target))))
 
 -- the features that are left, those that were removed, and whether there are more than count
 pub record IsListing {S H : Type 0} (cut : Bool) (resolved : Features S H) (all : Data)

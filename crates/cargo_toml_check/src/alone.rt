@@ -1,7 +1,6 @@
 //! A part of a manifest in a manifest of its own.
 ghost use Rattle.std.specs.Prelude.{◌≡◌, IfOk, OnOk, map, option_map};
-ghost use Rattle.toml.specs.Data.{member, no_members, string};
-ghost use Rattle.toml.specs.View.{view, table_view};
+ghost use Rattle.toml.specs.{Data.member, Data.no_members, Data.string, View.table_view, View.view};
 ghost use Rattle.cargo_toml.specs.Writes.{put_member};
 ghost use Rattle.cargo_toml_check.specs.Alone.{alone, beside, emptied, next, part_of, table_at};
 

@@ -1,16 +1,15 @@
 //! Resolved features as JSON.
 ghost use Rattle.std.specs.Prelude.{◌≡◌, IfOk, OnOk};
 ghost use Rattle.serde_json.specs.View.{members_view, view};
-ghost use Rattle.cargo_toml.specs.{Dependencies.dependency_meaning, Manifests.held};
-ghost use Rattle.cargo_toml.specs.{Reads.map_meaning, Targets.target_meaning};
+ghost use Rattle.cargo_toml.specs.{Manifests.held, Reads.map_meaning, Targets.target_meaning};
 ghost use Rattle.cargo_toml_tools.specs.{Sections.lists_meaning, IndexEntries.with_rows};
 ghost use Rattle.cargo_toml_check.specs.Listed.{AreMembers, IsListing, action_json, actions_json};
-ghost use Rattle.cargo_toml_check.specs.Listed.{are_cut_targets, has_long, feature_json, is_cut};
-ghost use Rattle.cargo_toml_check.specs.Listed.{is_cut_table, is_cut_target, is_over, row_at};
-ghost use Rattle.cargo_toml_check.specs.Listed.{stands_for_json, texts_json};
+ghost use Rattle.cargo_toml_check.specs.Listed.{are_cut_targets, feature_json, has_long, is_cut};
+ghost use Rattle.cargo_toml_check.specs.Listed.{is_cut_target, is_over, row_at, stands_for_json};
+ghost use Rattle.cargo_toml_check.specs.Listed.{texts_json};
 
 use cargo_toml::features::{DepAction, Feature, Features};
-use cargo_toml::{DepsSet, FeatureSet, Manifest, Target, TargetDepsSet};
+use cargo_toml::{FeatureSet, Manifest, Target, TargetDepsSet};
 use cargo_toml_features::admit::MAX_ITEMS;
 use cargo_toml_features::texts::keys_in_order;
 use cargo_toml_tools::json::{array, put_text};
@@ -125,14 +124,10 @@ fn action_json(alloc: Global, action: &DepAction<'_>) -> Result<Value, AllocErro
 {
     let features = set_json(alloc, &action.dep_features)?;
     let conditional = Value::from(action.is_conditional);
+    let dep_only = Value::from(action.is_dep_only);
     let mut members = Map::new(alloc);
     put(&mut members, alloc, "conditional", conditional)?;
-    put(
-        &mut members,
-        alloc,
-        "dep_only",
-        Value::from(action.is_dep_only),
-    )?;
+    put(&mut members, alloc, "dep_only", dep_only)?;
     put(&mut members, alloc, "features", features)?;
     Ok(Value::from(members))
 }
@@ -151,9 +146,9 @@ fn is_cut<M>(manifest: &Manifest<M>) -> bool
 {
     is_over(manifest.features.len())
         || has_long(&manifest.features)
-        || is_cut_table(&manifest.dependencies)
-        || is_cut_table(&manifest.build_dependencies)
-        || is_cut_table(&manifest.dev_dependencies)
+        || is_over(manifest.dependencies.len())
+        || is_over(manifest.build_dependencies.len())
+        || is_over(manifest.dev_dependencies.len())
         || are_cut_targets(&manifest.target)
 }
 
@@ -182,15 +177,9 @@ fn are_cut_targets(targets: &TargetDepsSet) -> bool
 fn is_cut_target(target: &Target) -> bool
     ensures { result ≡ is_cut_target (target_meaning target.now) }
 {
-    is_cut_table(&target.dependencies)
-        || is_cut_table(&target.build_dependencies)
-        || is_cut_table(&target.dev_dependencies)
-}
-
-fn is_cut_table(table: &DepsSet) -> bool
-    ensures { result ≡ is_cut_table (map_meaning dependency_meaning table.now) }
-{
-    is_over(table.len())
+    is_over(target.dependencies.len())
+        || is_over(target.build_dependencies.len())
+        || is_over(target.dev_dependencies.len())
 }
 
 fn is_over(count: usize) -> bool

@@ -14,7 +14,7 @@ use cargo_toml_tools::files::findings_of;
 use cargo_toml_tools::json::put_text;
 use serde_json::{Map, Value as Json, put};
 use std::alloc::{AllocError, Global};
-use std::collections::{BTreeMap, BTreeSet};
+use std::collections::BTreeSet;
 use std::fmt::Write;
 use std::random::RandomSource;
 
@@ -118,11 +118,7 @@ fn counts(level: Level, denies_hints: bool) -> bool
 fn allowed_by<'m>(alloc: Global, manifest: &'m Manifest) -> Result<Vec<&'m str>, AllocError> {
     let mut allowed = Vec::new(alloc);
     if let Some(Value::Array(items)) = own_allow(manifest) {
-        for item in items {
-            if let Value::String(text) = item {
-                allowed.push(text.as_str())?;
-            }
-        }
+        allowed.extend(items.iter().filter_map(|item| item.as_str()))?;
     }
     Ok(allowed)
 }
@@ -134,13 +130,10 @@ fn own_allow(manifest: &Manifest) -> Option<&Value> {
 
 /// Whether one of the texts is the finding's code, or `CODE=FEATURE` of it.
 fn is_allowed(allowed: &[&str], finding: &Finding<'_>) -> bool {
-    for text in allowed {
+    allowed.iter().any(|text| {
         let (code, feature) = text.split_once('=').unwrap_or((*text, finding.feature));
-        if code == finding.code.name() && feature == finding.feature {
-            return true;
-        }
-    }
-    false
+        code == finding.code.name() && feature == finding.feature
+    })
 }
 
 /// The places of these findings: of each the first of its keys that has one.
@@ -162,19 +155,12 @@ fn places_of(
     let found = places(alloc, text, &wanted)?;
     let mut all = Vec::new(alloc);
     for paths in &keys {
-        all.push(first_of(&found, paths.as_slice()))?;
+        let first = paths
+            .iter()
+            .find_map(|path| found.get(path.as_str()).copied());
+        all.push(first.unwrap_or((1, 1)))?;
     }
     Ok(all)
-}
-
-/// The first of these paths that has a place.
-fn first_of(found: &BTreeMap<String, Place>, paths: &[String]) -> Place {
-    for path in paths {
-        if let Some(place) = found.get(path.as_str()) {
-            return *place;
-        }
-    }
-    (1, 1)
 }
 
 /// The paths of the keys that a finding may be of: the text in the feature's list, the feature, the
@@ -190,9 +176,9 @@ fn paths_of(
         all: Vec::new(alloc),
     };
     paths.add_feature(manifest)?;
-    paths.add_dependency("", "dependencies", &manifest.dependencies)?;
-    paths.add_dependency("", "build-dependencies", &manifest.build_dependencies)?;
-    paths.add_dependency("", "dev-dependencies", &manifest.dev_dependencies)?;
+    paths.add_entry("", "dependencies", &manifest.dependencies)?;
+    paths.add_entry("", "build-dependencies", &manifest.build_dependencies)?;
+    paths.add_entry("", "dev-dependencies", &manifest.dev_dependencies)?;
     for (name, target) in &manifest.target {
         paths.add_target(name.as_str(), target)?;
     }
@@ -225,17 +211,12 @@ impl Paths<'_> {
     fn add_target(&mut self, name: &str, target: &Target) -> Result<(), AllocError> {
         let path = below(self.alloc, "target", name)?;
         let place = path.as_str();
-        self.add_dependency(place, "dependencies", &target.dependencies)?;
-        self.add_dependency(place, "build-dependencies", &target.build_dependencies)?;
-        self.add_dependency(place, "dev-dependencies", &target.dev_dependencies)
+        self.add_entry(place, "dependencies", &target.dependencies)?;
+        self.add_entry(place, "build-dependencies", &target.build_dependencies)?;
+        self.add_entry(place, "dev-dependencies", &target.dev_dependencies)
     }
 
-    fn add_dependency(
-        &mut self,
-        above: &str,
-        kind: &str,
-        table: &DepsSet,
-    ) -> Result<(), AllocError> {
+    fn add_entry(&mut self, above: &str, kind: &str, table: &DepsSet) -> Result<(), AllocError> {
         let feature = self.finding.feature;
         if let Some(dependency) = table.get(feature) {
             let table = below(self.alloc, above, kind)?;
@@ -250,11 +231,8 @@ impl Paths<'_> {
             if product.name.as_deref() == Some(self.finding.feature) {
                 let mut path = below(self.alloc, "", kind)?;
                 push_item(&mut path, index)?;
-                self.add(
-                    path,
-                    "required-features",
-                    product.required_features.as_slice(),
-                )?;
+                let texts = product.required_features.as_slice();
+                self.add(path, "required-features", texts)?;
             }
         }
         Ok(())
@@ -267,12 +245,11 @@ impl Paths<'_> {
         Ok(())
     }
 
-    fn add_text(&mut self, list: String, texts: &[String]) -> Result<(), AllocError> {
+    fn add_text(&mut self, mut list: String, texts: &[String]) -> Result<(), AllocError> {
         let text = self.finding.text;
         if let Some(index) = texts.iter().position(|other| other.as_str() == text) {
-            let mut path = list;
-            push_item(&mut path, index)?;
-            self.all.push(path)?;
+            push_item(&mut list, index)?;
+            self.all.push(list)?;
         }
         Ok(())
     }

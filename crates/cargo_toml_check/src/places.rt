@@ -46,13 +46,18 @@ pub fn places(
 
 /// The place of an index of a text.
 pub fn place_in(text: &str, at: usize) -> Place {
-    let before = text.get(..at).unwrap_or("");
-    let line = before.bytes().filter(|byte| *byte == b'\n').count();
-    let column = match before.rsplit_once('\n') {
-        Some((_, last)) => last.chars().count(),
-        None => before.chars().count(),
-    };
-    (line.saturating_add(1), column.saturating_add(1))
+    let mut line = (1, 0);
+    place_behind(text, &mut line, at)
+}
+
+/// The same of an index that isn't before the beginning of this line, which is that of its number
+/// and where it begins. The line of the index takes its place.
+fn place_behind(text: &str, line: &mut Place, at: usize) -> Place {
+    let since = text.get(line.1..at).unwrap_or("");
+    let lines = since.bytes().filter(|byte| *byte == b'\n').count();
+    let last = since.rsplit_once('\n').map_or(since, |(_, last)| last);
+    *line = (line.0.saturating_add(lines), at.saturating_sub(last.len()));
+    (line.0, last.chars().count().saturating_add(1))
 }
 
 /// Adds a key to a path.
@@ -245,10 +250,8 @@ impl<'t> Walk<'t> {
         };
         push_item(&mut path, index)?;
         self.note(&path, self.at)?;
-        self.open.push(Open {
-            path: open.path,
-            index: Some(index.saturating_add(1)),
-        })?;
+        let index = Some(index.saturating_add(1));
+        self.open.push(Open { index, ..open })?;
         self.begin(path)
     }
 
@@ -270,24 +273,9 @@ impl<'t> Walk<'t> {
     /// Notes that a path is mentioned at this index.
     fn note(&mut self, path: &String, at: usize) -> Result<(), AllocError> {
         if self.wanted.contains(path.as_str()) && !self.found.contains_key(path.as_str()) {
-            let place = self.place(at);
+            let place = place_behind(self.text, &mut self.line, at);
             self.found.insert(path.clone()?, place)?;
         }
         Ok(())
-    }
-
-    /// The place of an index that isn't before the one that was asked for last.
-    fn place(&mut self, at: usize) -> Place {
-        let (mut line, mut begins) = self.line;
-        let since = self.text.get(begins..at).unwrap_or("");
-        for (index, byte) in since.bytes().enumerate() {
-            if byte == b'\n' {
-                line = line.saturating_add(1);
-                begins = self.line.1.saturating_add(index).saturating_add(1);
-            }
-        }
-        self.line = (line, begins);
-        let before = self.text.get(begins..at).unwrap_or("");
-        (line, before.chars().count().saturating_add(1))
     }
 }

@@ -2,8 +2,7 @@
 ghost use Rattle.std.specs.Prelude.{◌≡◌, IfErr, IfOk, Some, string_bytes};
 ghost use Rattle.serde_json.specs.Data.{array, no_members, object};
 ghost use Rattle.serde_json.specs.View.{view as json_view};
-ghost use Rattle.toml.specs.View.{view, array_view, table_view};
-ghost use Rattle.toml.specs.Data.{table};
+ghost use Rattle.toml.specs.{Data.table, View.array_view, View.table_view, View.view};
 ghost use Rattle.cargo_toml.specs.{Manifests.manifest_meaning, Reread.IsTold, Reread.reread};
 ghost use Rattle.cargo_toml_check.specs.Shown.{IsShown, IsShownAsJson, IsUnshown, json_items};
 ghost use Rattle.cargo_toml_check.specs.Shown.{json_of, with_json};

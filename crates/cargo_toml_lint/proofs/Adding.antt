@@ -1,13 +1,7 @@
 -- What a loop adds for each element of a list that it goes through, or of what is left of a map.
-use Rattle.std.proofs.Common.{◌≡◌, ◌==◌, ◌<◌, ◌+◌, ◌-◌, ◌∙◌, ◌++◌, ℕ, Bool, Global, List, [], ◌∷◌, None, Option, Some, String, ap, append-nil, get_or, length, map, refl, string_bytes, sym, take}
-use Rattle.cargo_toml.specs.{Action.Text, Dependencies.DependencyMeaning, Dependencies.dependency_meaning, Targets.TargetMeaning, Targets.target_meaning}
-use Rattle.cargo_toml_package.specs.declared.dependency.Dependency.TheVariants.{Simple, Inherited, Detailed}
-use Rattle.cargo_toml_lint.specs.{Findings.asked_of, Findings.entry_findings, Findings.table_findings, Known.keys_in}
-use Rattle.std.proofs.{lemmas.List.map_push, lemmas.List.take_more, lemmas.Map.Iter.rest_all}
-use Rattle.std.proofs.{lemmas.List.Concat.flat_map-append, lemmas.Map.Iter.rest_more}
-use Rattle.std.specs.{List.flat_map, Map.Iter.TakesFirst}
-use Rattle.cargo_toml_package.specs.{DependencyAnswers.features_at, declared.target.Target.Target}
-use Rattle.cargo_toml_package.specs.declared.dependency.Dependency.{Dependency}
+use Rattle.cargo_toml_lint.proofs.Cited.{◌++◌, ◌+◌, ◌-◌, ◌<◌, ◌==◌, ◌∙◌, ◌∷◌, ◌≡◌, [], ap, append-nil, asked_of, Bool, Dependency, dependency_meaning, DependencyMeaning, Detailed, entry_findings, features_at, flat_map, flat_map-append}
+use Rattle.cargo_toml_lint.proofs.Cited.{get_or, Global, Inherited, length, List, map, map_push, None, Option, refl, rest_all, rest_more, Simple, Some, String, string_bytes, sym, table_findings, take, take_more, TakesFirst, Target}
+use Rattle.cargo_toml_lint.proofs.Cited.{target_meaning, TargetMeaning, Text, ℕ}
 
 -- what an entry of a table holds, and one of the table of targets
 abbrev pub entry_of : String Global × Dependency → Text × DependencyMeaning

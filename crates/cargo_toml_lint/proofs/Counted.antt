@@ -1,12 +1,6 @@
 -- Findings of single codes, for the features of which something holds.
-use Rattle.std.proofs.Common.{◌≡◌, ◌⊎◌, ◌↔◌, ◌<◌, ◌+◌, ℕ, Bool, true, false, List, [], ◌++◌, Bor, IsTrue, arith, refl, sym, ap, subst, inl, inr}
-use Rattle.cargo_toml_lint.specs.declared.finding.Code.TheVariants.{Implied, PrivateDefault, Cycle, Unreachable}
-use Rattle.std.{proofs.lemmas.Bool.cases_eq, proofs.lemmas.Bool.false≢true, specs.HashMap.HashMap}
-use Rattle.cargo_toml.specs.{Action.Text, Feature.Feature, Graph.Table, Reach.Among}
-use Rattle.cargo_toml_lint.specs.Findings.{About, IsFound, told, when}
-use Rattle.cargo_toml_lint.specs.Steps.{CountsBy, Finds}
-use Rattle.cargo_toml_lint.specs.{declared.finding.Code.Code, declared.finding.Finding.Finding}
-use Rattle.cargo_toml_graph.proofs.BinLists.{among-either, among-first, among-second}
+use Rattle.cargo_toml_lint.proofs.Cited.{◌++◌, ◌+◌, ◌<◌, ◌↔◌, ◌≡◌, ◌⊎◌, [], About, Among, among-either, among-first, among-second, ap, arith, Bool, Bor, cases_eq, Code, CountsBy, Cycle, false, false≢true, Feature, Finding, Finds, HashMap}
+use Rattle.cargo_toml_lint.proofs.Cited.{Implied, inl, inr, IsFound, IsTrue, List, PrivateDefault, refl, subst, sym, Table, Text, told, true, Unreachable, when, ℕ}
 
 -- what is found after something was added
 found_after : (a b : List Finding) (xs : List About) → Finds xs a b → (c : Code) (f t : Text)
@@ -49,28 +43,16 @@ module _ {S : Type 0} (m : HashMap (Bor Text) Feature S) (t : Table) (n : Text) 
   one d b h c f x i = grind (arith, told_in)
 
   of_code : (c : Code) → CountsBy m t c n → Among All (c, n, [])
-  of_code Implied q = among-first (told n [] (when implied Implied)) Later (Implied, n, []) ((told_in Implied implied n Implied n []).1 (refl, refl, refl, h1.1 q))
-  of_code PrivateDefault q = among-second (told n [] (when implied Implied)) Later (PrivateDefault, n, [])
-      (among-first (told n [] (when alone PrivateDefault)) Last (PrivateDefault, n, []) ((told_in PrivateDefault alone n PrivateDefault n []).1 (refl, refl, refl, h2.1 q)))
-  of_code Cycle q = among-second (told n [] (when implied Implied)) Later (Cycle, n, []) (among-second (told n [] (when alone PrivateDefault)) Last (Cycle, n, [])
-      (among-first (told n [] (when cyclic Cycle)) (told n [] (when left Unreachable)) (Cycle, n, []) ((told_in Cycle cyclic n Cycle n []).1 (refl, refl, refl, h3.1 q))))
-  of_code Unreachable q = among-second (told n [] (when implied Implied)) Later (Unreachable, n, []) (among-second (told n [] (when alone PrivateDefault)) Last (Unreachable, n, [])
-      (among-second (told n [] (when cyclic Cycle)) (told n [] (when left Unreachable)) (Unreachable, n, []) ((told_in Unreachable left n Unreachable n []).1 (refl, refl, refl, h4.1 q))))
+  of_code Implied q = grind (arith, among-first, among-second, told_in Implied implied n Implied n [], h1)
+  of_code PrivateDefault q = grind (arith, among-first, among-second, told_in PrivateDefault alone n PrivateDefault n [], h2)
+  of_code Cycle q = grind (arith, among-first, among-second, told_in Cycle cyclic n Cycle n [], h3)
+  of_code Unreachable q = grind (arith, among-first, among-second, told_in Unreachable left n Unreachable n [], h4)
   of_code _ q = absurd q
 
   pub all_found : (a b : List Finding) → Finds All a b → (c : Code) (f x : Text)
       → IsFound b c f x ↔ (IsFound a c f x ⊎ ((x ≡ []) × (n ≡ f) × CountsBy m t c f))
   all_found a b put c f x = let after = found_after a b All put c f x in (
-    λ i. elim (after.0 i) [
-      | inl j ↦ inl j
-      | inr j ↦ inr (elim (among-either (told n [] (when implied Implied)) Later (c, f, x) j) [
-        | inl k ↦ one Implied implied h1 c f x k
-        | inr k ↦ elim (among-either (told n [] (when alone PrivateDefault)) Last (c, f, x) k) [
-          | inl k ↦ one PrivateDefault alone h2 c f x k
-          | inr k ↦ elim (among-either (told n [] (when cyclic Cycle)) (told n [] (when left Unreachable)) (c, f, x) k) [ inl k ↦ one Cycle cyclic h3 c f x k | inr k ↦ one Unreachable left h4 c f x k ]
-        ]
-      ])
-    ],
+    λ i. grind (arith, after, among-either, one Implied implied h1 c f x, one PrivateDefault alone h2 c f x, one Cycle cyclic h3 c f x, one Unreachable left h4 c f x),
     λ h. after.1 (elim h [
       | inl j ↦ inl j
       | inr r ↦ inr (subst (λ (z : Text). Among All (c, f, z)) (sym r.0) (subst (λ (g : Text). Among All (c, g, [])) r.1 (of_code c (subst (CountsBy m t c) (sym r.1) r.2))))

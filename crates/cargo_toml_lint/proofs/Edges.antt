@@ -1,14 +1,7 @@
 -- What the lists of features turn on, as rows of places.
-use Rattle.std.proofs.Common.{◌≡◌, ◌↔◌, ◌||◌, cond, ◌&&◌, ◌<◌, ℕ, Bool, true, false, List, length, map, Option, is_some, not, option_map, Bor, String, Vec, Global, IsTrue, bytes_eq, string_bytes, refl, sym, ap, subst, ◌∙◌, [], ◌∷◌, arith}
-use Rattle.std.specs.{BTreeMap.BTreeMap, BTreeMap.get_by_text, BTreeMap.is_at, Cmp.Lexicographic.slice_cmp, Map.lookup, Ordering.nat_cmp}
-use Rattle.cargo_toml.specs.{Action.Text, Action.Item.Name, Action.Item.On, Action.item_of, Ascending.Ascend, Reach.Among, Views.listed_in}
-use Rattle.std.proofs.lemmas.Bool.{and_from, and_parts, false≢true}
-use Rattle.std.proofs.{Math.Bool.and-true, lemmas.Grind.common_steps, lemmas.List.length-map}
-use Rattle.std.proofs.{lemmas.Map.Text.is_eq-slice_cmp, lemmas.Slice.Eq.bytes_eq-Decides}
-use Rattle.cargo_toml_features.proofs.ByPlace.{among_at, once}
-use Rattle.cargo_toml_features.specs.ActionText.{action_in, item_in}
-use Rattle.cargo_toml_features.specs.{Places.nth_text, declared.action.ActionText.ActionText}
-use Rattle.cargo_toml_lint.specs.{Linked.Passes, Reached.Leads, Turning.turns_to}
+use Rattle.cargo_toml_lint.proofs.Cited.{◌&&◌, ◌<◌, ◌||◌, ◌↔◌, ◌∙◌, ◌∷◌, ◌≡◌, [], action_in, ActionText, Among, among_at, and-true, and_from, and_parts, ap, arith, Ascend, Bool, Bor, BTreeMap, bytes_eq, bytes_eq-Decides, common_steps, cond}
+use Rattle.cargo_toml_lint.proofs.Cited.{false, false≢true, get_by_text, Global, is_at, is_eq-slice_cmp, is_some, IsTrue, item_in, item_of, Leads, length, length-map, List, listed_in, lookup, map, Name, nat_cmp, not, nth_text, On, once}
+use Rattle.cargo_toml_lint.proofs.Cited.{option_map, Passes, refl, slice_cmp, String, string_bytes, subst, sym, Text, true, turns_to, Vec, ℕ}
 
 pub length_now : (names : List (Bor Text)) → length (map (λ t. t.now) names) ≡ length names
 length_now names = length-map names (λ t. t.now)
@@ -17,42 +10,43 @@ length_now names = length-map names (λ t. t.now)
 abbrev pub IsFilled : {Z : Type 0} → (ℕ → ℕ → Type 0) → ℕ → List (Vec ℕ Z) → Type 0
 IsFilled P n rows = (length rows ≡ n) × ((a b : ℕ) → a < n → Leads rows a b ↔ P a b)
 
--- ---- what one text turns on: this name, if it does so
-pub turns_in : (optional : Text → Bool) (text : Text) (t : ActionText) (turns : Bool) → item_in t ≡ item_of text
-    → turns ≡ (not (t.is_dep_only || is_some t.dep_feature) || (optional t.target.now && (not t.is_conditional && not t.is_dep_only)))
-    → (x : Text) → turns_to optional x (item_of text) ≡ (bytes_eq x t.target.now && turns)
-turns_in optional text t turns is told x =
-    ap (turns_to optional x) (sym is) ∙ go (t.is_dep_only || is_some t.dep_feature) ∙ ap (λ b. bytes_eq x t.target.now && b) (sym told)
-  where
-    go : (acts : Bool) → turns_to optional x (cond acts (On t.target.now (action_in t)) (Name t.target.now))
-        ≡ (bytes_eq x t.target.now && (not acts || (optional t.target.now && (not t.is_conditional && not t.is_dep_only))))
-    go true = refl
-    go false = sym (and-true _)
-
-module _ (names : List (Bor Text)) (test : Text → Bool) (name : Text) (turns : Bool)
-    (is : (x : Text) → test x ≡ (bytes_eq x name && turns)) (b : ℕ) where
+-- ---- what one text turns on: the name that it names or acts on, if it does so
+module _ (names : List (Bor Text)) (optional : Text → Bool) (text : Text) (t : ActionText) (turns : Bool) (item : item_in t ≡ item_of text)
+    (told : turns ≡ (not (t.is_dep_only || is_some t.dep_feature) || (optional t.target.now && (not t.is_conditional && not t.is_dep_only)))) (b : ℕ) where
   abbrev texts : List Text
   texts = map (λ t. t.now) names
 
-  at : Passes names test b → b < length texts
+  abbrev Passed : Type 0
+  Passed = Passes names (λ x. turns_to optional x (item_of text)) b
+
+  is : (x : Text) → turns_to optional x (item_of text) ≡ (bytes_eq x t.target.now && turns)
+  is x = ap (turns_to optional x) (sym item) ∙ go (t.is_dep_only || is_some t.dep_feature) ∙ ap (λ b. bytes_eq x t.target.now && b) (sym told)
+    where
+      go : (acts : Bool) → turns_to optional x (cond acts (On t.target.now (action_in t)) (Name t.target.now))
+          ≡ (bytes_eq x t.target.now && (not acts || (optional t.target.now && (not t.is_conditional && not t.is_dep_only))))
+      go true = refl
+      go false = sym (and-true _)
+
+  at : Passed → b < length texts
   at h = subst (λ k. b < k) (sym (length_now names)) h.0
 
   -- the name that passes is this one
-  named : Passes names test b → (nth_text texts b ≡ name) × IsTrue turns
+  named : Passed → (nth_text texts b ≡ t.target.now) × IsTrue turns
   named h =
       let both = and_parts _ _ (sym (is (nth_text texts b)) ∙ h.1) in
-      ((bytes_eq-Decides (nth_text texts b) name).0 both.0, both.1)
+      ((bytes_eq-Decides (nth_text texts b) t.target.now).0 both.0, both.1)
 
-  pub passes_none : turns ≡ false → ¬ Passes names test b
+  pub passes_none : turns ≡ false → ¬ Passed
   passes_none off h = false≢true (sym off ∙ (named h).1)
 
-  pub passes_missing : (¬ Among texts name) → ¬ Passes names test b
+  pub passes_missing : (¬ Among texts t.target.now) → ¬ Passed
   passes_missing missing h = missing (subst (Among texts) (named h).0 (among_at texts b [] (at h)))
 
-  pub passes_at : turns ≡ true → Ascend texts → (i : ℕ) → (i < length names) × (nth_text texts i ≡ name) → Passes names test b ↔ (b ≡ i)
+  pub passes_at : turns ≡ true → Ascend texts → (i : ℕ) → (i < length names) × (nth_text texts i ≡ t.target.now) → Passed ↔ (b ≡ i)
   passes_at on up i here = (
     λ h. once texts up b i (at h) (subst (λ k. i < k) (sym (length_now names)) here.0) ((named h).0 ∙ sym here.1),
-    λ e. subst (Passes names test) (sym e) (here.0, is (nth_text texts i) ∙ and_from _ _ ((bytes_eq-Decides (nth_text texts i) name).1 here.1) on),
+    λ e. subst (Passes names (λ x. turns_to optional x (item_of text))) (sym e)
+        (here.0, is (nth_text texts i) ∙ and_from _ _ ((bytes_eq-Decides (nth_text texts i) t.target.now).1 here.1) on),
   )
 
 -- ---- the list of a feature

@@ -1,21 +1,8 @@
 -- What is found in an answer for a manifest is what holds of the manifest.
-use Rattle.std.proofs.Common.{arith, ◌≡◌, ◌⊎◌, ◌↔◌, ◌||◌, ◌++◌, [], not, Bool, true, false, ℕ, Some, is_some, IsTrue, length, nat_lt, List, sym, ap, subst, ◌∙◌}
-use Rattle.std.proofs.lemmas.Bool.{false≢true, and_parts, not-true, not_from_false, false_from_ne_true, or_cases, or_left, or_right}
-use Rattle.cargo_toml_lint.specs.Findings.{Counts, HoldsOf, IsCyclic, IsOnlyDefault, IsUnreachable, findings_by, is_hidden, is_private, written_findings}
-use Rattle.cargo_toml_lint.specs.declared.finding.Code.TheVariants.{Cycle, Implied, PrivateDefault, Unreachable}
-use Rattle.std.specs.Option.{option_map_or}
-use Rattle.cargo_toml.specs.{Action.Text, Admitted.Listed, Admitted.admitted, Admitted.is_explicit}
-use Rattle.cargo_toml.specs.{Details.plain_detail, Feature.Feature, Graph.Table, Marks.marked}
-use Rattle.cargo_toml.specs.{Manifests.ManifestMeaning, Marks.marks_in, Marks.marks_of, Reach.Among}
-use Rattle.cargo_toml.specs.{Parsed.IsParsed, Parsed.parsed_entries, Parsed.parsed_table}
-use Rattle.cargo_toml.specs.{Recorded.Entry, Recorded.is_implied, Removal.is_removed}
-use Rattle.cargo_toml.specs.{Views.answer_of, Views.table_in, Views.value_at}
-use Rattle.cargo_toml_features.proofs.NoneRemoved.{held, there}
-use Rattle.cargo_toml_features.specs.declared.features.Features.{Features}
-use Rattle.cargo_toml_lint.specs.Steps.{CountsBy, explicit_at, implied_at, private_at, written_in}
-use Rattle.cargo_toml_lint.specs.{Known.all_names, Names.listed_by, Names.held_names}
-use Rattle.cargo_toml_lint.specs.{Turning.turning, Turning.turning_by, declared.finding.Code.Code}
-use Rattle.cargo_toml_lint.specs.declared.known.Known.{Known}
+use Rattle.cargo_toml_lint.proofs.Cited.{◌++◌, ◌||◌, ◌↔◌, ◌∙◌, ◌≡◌, ◌⊎◌, [], admitted, all_names, Among, and_parts, answer_of, ap, arith, Bool, Code, Counts, CountsBy, Cycle, Entry, explicit_at, false, false_from_ne_true, false≢true}
+use Rattle.cargo_toml_lint.proofs.Cited.{Feature, Features, findings_by, held, held_names, HoldsOf, Implied, implied_at, is_explicit, is_hidden, is_implied, is_private, is_removed, is_some, IsOnlyDefault, IsParsed, IsTrue}
+use Rattle.cargo_toml_lint.proofs.Cited.{Known, length, List, Listed, listed_by, ManifestMeaning, marked, marks_in, marks_of, nat_lt, not, not-true, not_from_false, option_map_or, or_cases, or_left, or_right, parsed_entries}
+use Rattle.cargo_toml_lint.proofs.Cited.{parsed_table, plain_detail, private_at, PrivateDefault, Some, subst, sym, Table, table_in, Text, there, true, turning, turning_by, Unreachable, value_at, written_findings, written_in, ℕ}
 
 same_truth : (a b : Bool) → (IsTrue a ↔ IsTrue b) → a ≡ b
 same_truth a b h = grind arith
@@ -74,14 +61,8 @@ module _ {M S H : Type 0} (limit : ℕ) (m : ManifestMeaning M) (a : Features S 
         let d = subst (λ t. IsOnlyDefault t f) (sym same) h.1 in
         (d.default_does.target, (ap (λ b. is_hidden f || b) (private_is f d.default_does.target) ∙ h.0, d)),
   )
-  counts_is Cycle f = (
-    λ h. subst (λ t. IsCyclic t f) same h.1,
-    λ h. let d = subst (λ t. IsCyclic t f) (sym same) h in (d.known, d),
-  )
-  counts_is Unreachable f = (
-    λ h. subst (λ t. IsUnreachable t f) same h.1,
-    λ h. let d = subst (λ t. IsUnreachable t f) (sym same) h in (d.known, d),
-  )
+  counts_is Cycle f = rw same (λ h. h.1, λ h. (rw none_has h.known, h))
+  counts_is Unreachable f = rw same (λ h. h.1, λ h. (rw none_has h.known, h))
   counts_is _ f = (λ h. absurd h.1, λ h. absurd h)
 
   written_same : written_in a.features known limit m ≡ written_findings limit m

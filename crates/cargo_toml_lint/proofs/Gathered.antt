@@ -1,12 +1,7 @@
 -- What a loop over a list gathers.
-use Rattle.std.proofs.Common.{arith, ◌≡◌, ◌⊎◌, ◌↔◌, ◌||◌, ◌&&◌, ◌<◌, ◌+◌, ℕ, Bool, true, false, is_some, List, [], ◌∷◌, ◌++◌, map, take, length, get_or, Bor, String, Vec, Global, IsTrue, bytes_eq, string_bytes, refl, sym, ap, inl, inr, ◌∙◌}
-use Rattle.std.proofs.lemmas.Bool.{false≢true, or_cases, or_left, or_right}
-use Rattle.std.proofs.{Math.Bool.or-false, lemmas.List.map_push, lemmas.List.take_more}
-use Rattle.std.proofs.{lemmas.Grind.common_steps, lemmas.List.Folds.list_any-append}
-use Rattle.std.proofs.{lemmas.Map.Text.is_eq-slice_cmp, lemmas.Slice.Eq.bytes_eq-Decides}
-use Rattle.std.specs.{BTreeMap.is_at, Cmp.Lexicographic.slice_cmp, List.list_any, Map.lookup}
-use Rattle.std.specs.Ordering.{nat_cmp}
-use Rattle.cargo_toml.specs.{Action.Text, Reach.Among}
+use Rattle.cargo_toml_lint.proofs.Cited.{◌&&◌, ◌++◌, ◌+◌, ◌<◌, ◌||◌, ◌↔◌, ◌∙◌, ◌∷◌, ◌≡◌, ◌⊎◌, [], Among, ap, arith, Bool, Bor, bytes_eq, bytes_eq-Decides, common_steps, false, false≢true, get_or, Global, inl, inr, is_at, is_eq-slice_cmp}
+use Rattle.cargo_toml_lint.proofs.Cited.{is_some, IsTrue, length, List, list_any, list_any-append, lookup, map, map_push, nat_cmp, or-false, or_cases, or_left, or_right, refl, slice_cmp, String, string_bytes, sym, take, take_more, Text}
+use Rattle.cargo_toml_lint.proofs.Cited.{true, Vec, ℕ}
 
 -- some of the keys is f
 abbrev pub has_in : List (Bor Text) → Text → Bool
@@ -33,11 +28,7 @@ pub any_more : {X Y Z : Type 0} (p : Z → Bool) (f : Y → Z) (g : X → Y) (xs
     → i < length xs → x ≡ get_or xs i x
     → list_any p (map f (map g (take (i + 1) xs))) ≡ (list_any p (map f (map g (take i xs))) || p (f (g x)))
 any_more p f g xs i x below read =
-    let before = map f (map g (take i xs)) in
-    ap (λ ys. list_any p (map f (map g ys))) (take_more xs i x below ∙ ap (λ y. take i xs ++ y ∷ []) (sym read))
-    ∙ ap (λ ys. list_any p (map f ys)) (map_push g (take i xs) x)
-    ∙ ap (list_any p) (map_push f (map g (take i xs)) (g x)) ∙ list_any-append p before (f (g x) ∷ [])
-    ∙ ap (λ b. list_any p before || b) (or-false (p (f (g x))))
+    grind (arith, take_more xs i x below, map_push g (take i xs) x, map_push f (map g (take i xs)) (g x), list_any-append p (map f (map g (take i xs))) (f (g x) ∷ []), or-false (p (f (g x))))
 
 pub any_map : {X Y : Type 0} (p : Y → Bool) (g : X → Y) (xs : List X) → list_any p (map g xs)
     ≡ list_any (λ x. p (g x)) xs

@@ -1,9 +1,5 @@
 -- What is made of an action text, from its parts.
-use Rattle.std.proofs.Common.{◌≡◌, Bool, true, false, cond, ◌||◌, is_some, sym, ap, ◌∙◌}
-use Rattle.cargo_toml.specs.Action.{Text, Item, item_of}
-use Rattle.cargo_toml.specs.Action.Item.{Name, On}
-use Rattle.cargo_toml_features.specs.ActionText.{action_in, item_in}
-use Rattle.cargo_toml_features.specs.declared.action.ActionText.{ActionText}
+use Rattle.cargo_toml_lint.proofs.Cited.{◌||◌, ◌∙◌, ◌≡◌, action_in, ActionText, ap, Bool, cond, false, is_some, Item, item_in, item_of, Name, On, sym, Text, true}
 
 module _ (text : Text) (t : ActionText) (is : item_in t ≡ item_of text) where
   -- of an action, or of a name

@@ -1,15 +1,7 @@
 -- Where places lead is where names turn.
-use Rattle.std.proofs.Common.{◌≡◌, ◌≢◌, ◌↔◌, ◌<◌, ℕ, Bool, true, false, not, None, Bor, List, IsTrue, [], ◌∷◌, bytes_eq, codes, get_or, length, map, zero, suc, arith, ap, refl, sym, subst, inl, inr, ◌∙◌}
-use Rattle.std.proofs.lemmas.Bool.{cases_Bool, false≢true, not-true, not_from_false}
-use Rattle.std.proofs.lemmas.Slice.Eq.{bytes_eq-Decides}
-use Rattle.cargo_toml.specs.{Action.Text, Graph.Table, Graph.Edge, Recursive.Enables}
-use Rattle.cargo_toml.specs.{Recursive.Enables.itself, Recursive.Enables.further}
-use Rattle.cargo_toml_features.proofs.ByPlace.{among_at, at_among, once}
-use Rattle.cargo_toml_features.{proofs.NoneRemoved.enables_has, specs.Places.nth_text}
-use Rattle.cargo_toml_lint.specs.Findings.{IsCyclic, IsOnlyDefault, IsUnreachable, is_hidden}
-use Rattle.cargo_toml_lint.specs.Linked.{AreLinks, AreWalks, name_at, names_of}
-use Rattle.cargo_toml_lint.specs.Reached.{IsFlagged, IsInRing, Leads, Path}
-use Rattle.cargo_toml_lint.specs.{declared.linking.Links.Links, declared.walks.Walks.Walks}
+use Rattle.cargo_toml_lint.proofs.Cited.{◌<◌, ◌↔◌, ◌∙◌, ◌∷◌, ◌≡◌, ◌≢◌, [], among_at, ap, AreLinks, AreWalks, arith, at_among, Bool, Bor, bytes_eq, bytes_eq-Decides, cases_Bool, codes, Edge, Enables, enables_has, false, false≢true, further}
+use Rattle.cargo_toml_lint.proofs.Cited.{get_or, inl, inr, is_hidden, IsCyclic, IsFlagged, IsInRing, IsOnlyDefault, IsTrue, IsUnreachable, itself, Leads, length, Links, List, map, name_at, names_of, None, not, not-true, not_from_false}
+use Rattle.cargo_toml_lint.proofs.Cited.{nth_text, once, Path, refl, subst, suc, sym, Table, Text, true, Walks, zero, ℕ}
 use Rattle.cargo_toml_lint.proofs.{Edges.length_now, Searching.along, Searching.path_edge}
 
 -- the text that is read in a place

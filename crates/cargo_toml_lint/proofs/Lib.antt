@@ -1,3 +1,4 @@
+pub mod Cited
 pub mod Gathered
 pub mod Items
 pub mod Adding

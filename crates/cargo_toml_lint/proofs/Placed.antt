@@ -1,9 +1,5 @@
 -- The names in the places that pass, as a loop over places puts them into a set.
-use Rattle.std.proofs.Common.{◌≡◌, ◌↔◌, ◌||◌, ◌<◌, ◌+◌, ℕ, List, [], Bor, IsTrue, bytes_eq, arith}
-use Rattle.std.proofs.lemmas.Bool.{cases_eq, false≢true, or_cases, or_left, or_right}
-use Rattle.std.{proofs.lemmas.Slice.Eq.bytes_eq-Decides, specs.BTreeSet.BTreeSet}
-use Rattle.cargo_toml.specs.{Action.Text, Views.set_has}
-use Rattle.cargo_toml_features.{proofs.TextKeys.none_in, specs.Places.nth_text}
+use Rattle.cargo_toml_lint.proofs.Cited.{◌+◌, ◌<◌, ◌||◌, ◌↔◌, ◌≡◌, [], arith, Bor, BTreeSet, bytes_eq, bytes_eq-Decides, cases_eq, false≢true, IsTrue, List, none_in, nth_text, or_cases, or_left, or_right, set_has, Text, ℕ}
 
 module _ (names : List Text) (P : ℕ → Type 0) where
   -- the set has the names in the places before i that pass

@@ -1,8 +1,5 @@
 -- A resolver with a filter and a limit of a caller's own.
-use Rattle.std.proofs.Common.{◌≡◌, ℕ, Bool, Option, Some, Bor, subst, sym}
-use Rattle.std.specs.Fn.{FnReturnsAt}
-use Rattle.cargo_toml.specs.{Action.Text, Filter.Asked, Filter.FilterTells, Parsed.IsParsed}
-use Rattle.cargo_toml.specs.{Manifests.ManifestMeaning, Resolved.Answer}
+use Rattle.cargo_toml_lint.proofs.Cited.{◌≡◌, Answer, Asked, Bool, Bor, FilterTells, FnReturnsAt, IsParsed, ManifestMeaning, Option, Some, subst, sym, Text, ℕ}
 
 -- what a filter that was handed in keeps
 pub tells_of : {F : Type 0} (g : Asked F) (o : Option (Bor F)) (f : Bor F) (keep : Text → Bool) →

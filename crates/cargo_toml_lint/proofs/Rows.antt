@@ -1,10 +1,6 @@
 -- Lists, and what is read of them.
-use Rattle.std.proofs.Common.{◌≡◌, ◌⊎◌, ◌↔◌, ◌<◌, ◌≤◌, ◌+◌, ℕ, zero, suc, Bool, true, false, List, [], ◌∷◌, ◌++◌, take, length, get_or, set, Vec, refl, sym, ap, inl, inr, arith}
-use Rattle.std.proofs.lemmas.Bool.{cases_eq, false≢true}
-use Rattle.std.proofs.lemmas.List.{get_or-set_other, get_or-set_same, take_more}
-use Rattle.cargo_toml.specs.Reach.{Among}
-use Rattle.cargo_toml_graph.proofs.BinLists.{among-first, among-second, among-either}
-use Rattle.cargo_toml_lint.specs.Reached.{IsFlagged, edges_left, row_at}
+use Rattle.cargo_toml_lint.proofs.Cited.{◌++◌, ◌+◌, ◌<◌, ◌↔◌, ◌∷◌, ◌≡◌, ◌≤◌, ◌⊎◌, [], Among, among-either, among-first, among-second, arith, Bool, cases_eq, edges_left, false, false≢true, get_or, get_or-set_other, get_or-set_same}
+use Rattle.cargo_toml_lint.proofs.Cited.{IsFlagged, length, List, refl, row_at, set, suc, sym, take, take_more, true, Vec, zero, ℕ}
 
 pub among_more : (xs : List ℕ) (i v : ℕ) → i < length xs → Among (take (i + 1) xs) v ↔ (Among (take i xs) v ⊎ (v ≡ get_or xs i 0))
 among_more xs i v lt = grind (arith, take_more xs i 0 lt, among-either, among-first, among-second)

@@ -1,13 +1,7 @@
 -- A search, one vertex after another.
-use Rattle.std.proofs.Common.{◌≡◌, ◌≢◌, ◌⊎◌, ◌↔◌, ◌<◌, ℕ, Bool, true, false, Vec, List, [], ◌∷◌, ◌++◌, ◌==◌, length, get_or, set, refl, sym, subst, inl, inr, ◌∙◌, arith, length-set}
-use Rattle.cargo_toml_lint.specs.Reached.{IsFlagged, IsInRing, IsWhole, Leads, Path, Searches, Stands, row_at}
-use Rattle.std.proofs.{lemmas.Bool.cases_eq, lemmas.Bool.Decides.Decides-eqb}
-use Rattle.cargo_toml.specs.Reach.{Among, Gathers, Reaches}
-use Rattle.cargo_toml.specs.Reach.Reaches.{edge, through}
-use Rattle.cargo_toml_features.proofs.ByPlace.{among_at}
-use Rattle.cargo_toml_graph.proofs.Closure.{chained}
-use Rattle.cargo_toml_graph.proofs.BinLists.{among-either, among-first, among-second}
-use Rattle.cargo_toml_lint.{specs.declared.reach.Reach.Reach, proofs.Rows.flag_set}
+use Rattle.cargo_toml_lint.proofs.Cited.{◌++◌, ◌<◌, ◌==◌, ◌↔◌, ◌∙◌, ◌∷◌, ◌≡◌, ◌≢◌, ◌⊎◌, [], Among, among-either, among-first, among-second, among_at, arith, Bool, cases_eq, chained, Decides-eqb, edge, false, Gathers, get_or, inl, inr}
+use Rattle.cargo_toml_lint.proofs.Cited.{IsFlagged, IsInRing, IsWhole, Leads, length, length-set, List, Path, Reach, Reaches, refl, row_at, Searches, set, Stands, subst, sym, through, true, Vec, ℕ}
+use Rattle.cargo_toml_lint.proofs.Rows.{flag_set}
 
 abbrev All : ℕ → Type 0
 All v = Unit {0}
@@ -44,15 +38,9 @@ module _ (r : Reach) (start : ℕ) (row : List Bool) (waiting : List ℕ) (x : �
   meets_row whole stands new len is = record {
     len = len ∙ s.len;
     begun = elim s.begun [ inl f ↦ inl ((is start).1 (inl f)) | inr i ↦ taken start (was start i) ];
-    sound = λ y f. elim ((is y).0 f) [
-      | inl o ↦ s.sound y o
-      | inr h ↦ path_then (Leads r.next.items) (s.met x (among-second waiting (x ∷ []) x (inl refl))) ((whole.right x y stands).0 h)
-    ];
+    sound = λ y f. grind (arith, is y, s.sound y, s.met x, among-second, whole.right x y stands, path_then (Leads r.next.items));
     met = λ y i. s.met y (among-first waiting (x ∷ []) y i);
-    done = λ y z f l. elim ((is y).0 f) [
-      | inl o ↦ elim (s.done y z o l) [ inl a ↦ inl ((is z).1 (inl a)) | inr i ↦ taken z (was z i) ]
-      | inr h ↦ inl ((is z).1 (inr ((whole.right x z stands).1 (path_edge (Leads r.next.items) ((whole.right x y stands).0 h) l))))
-    ];
+    done = λ y z f l. grind (arith, is y, is z, s.done y z, taken z, was z, whole.right x y stands, whole.right x z stands, path_edge (Leads r.next.items));
   }
     where
       taken : (y : ℕ) → Among waiting y ⊎ (y ≡ x) → IsFlagged new y ⊎ Among waiting y

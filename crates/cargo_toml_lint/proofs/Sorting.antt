@@ -1,17 +1,8 @@
 -- Findings in their order, each once.
-use Rattle.std.proofs.Common.{◌≡◌, ◌↔◌, ◌<◌, ℕ, zero, suc, Bool, true, List, [], ◌∷◌, length, get_or, map, Ordering, refl, sym, ap, subst, inl, inr, ◌∙◌, arith}
-use Rattle.std.proofs.lemmas.List.Kept.{Any-dedup, Contains-from_dedup, IsStrictlySortedBy-dedup}
-use Rattle.std.proofs.lemmas.List.Sorted.{IsPermutation-sym, Contains-permutation}
-use Rattle.std.proofs.{lemmas.Bool.and_parts, lemmas.Cmp.eq_by_cmp_equiv}
-use Rattle.std.proofs.{lemmas.List.Filters.dedup_is, lemmas.Slice.Eq.bytes_eq-Decides}
-use Rattle.std.specs.List.Sorted.{IsPermutation, IsSorted, IsStrictlySortedBy}
-use Rattle.std.specs.{Cmp.IsEquivalence, List.Contains, List.dedup, List.Retain.IsFiltered}
-use Rattle.std.specs.{List.Retain.DiffersFromLast, Ordering.is_eq}
-use Rattle.cargo_toml.specs.{Action.Text, Reach.Among}
-use Rattle.cargo_toml_lint.specs.Findings.{About, IsFound, about}
-use Rattle.cargo_toml_lint.specs.{contracts.finding.Code.the_type, declared.finding.Code.Code}
-use Rattle.cargo_toml_lint.specs.declared.finding.Finding.{Finding}
-use denote.Enum.Bare.{same_true}
+use Rattle.cargo_toml_lint.proofs.Cited.{◌<◌, ◌↔◌, ◌∙◌, ◌∷◌, ◌≡◌, [], About, about, Among, and_parts, Any-dedup, ap, arith, Bool, bytes_eq-Decides, Code, Contains, Contains-from_dedup, Contains-permutation, dedup, dedup_is, DiffersFromLast}
+use Rattle.cargo_toml_lint.proofs.Cited.{eq_by_cmp_equiv, Finding, get_or, inl, inr, is_eq, IsEquivalence, IsFiltered, IsFound, IsPermutation, IsPermutation-sym, IsSorted, IsStrictlySortedBy, IsStrictlySortedBy-dedup, length, List, map}
+use Rattle.cargo_toml_lint.proofs.Cited.{Ordering, refl, same_true, subst, suc, sym, Text, true, zero, ℕ}
+use Rattle.cargo_toml_lint.{specs.contracts.finding.Code.the_type}
 use Rattle.cargo_toml_lint.specs.contracts.finding.FindingOrd.TheImpl as finding_order
 use Rattle.cargo_toml_lint.specs.contracts.finding.FindingOrd.TheImpl.Laws as laws
 

@@ -4,25 +4,16 @@ use Rattle.std.specs.Prelude.{if◌then◌else◌, nat_eq, nat_lt, length, List,
 use Rattle.std.specs.Prelude.{IsTrue, IsFalse, bytes_eq, codes, Option, Some, None, unwrap_or}
 use Rattle.std.specs.List.{flat_map, starts_with}
 use Rattle.cargo_toml.specs.Action.{Text, Item, item_of}
-use Rattle.cargo_toml.specs.Action.Item.{Name, On}
 use Rattle.cargo_toml.specs.Admitted.{Listed, admitted, is_explicit}
-use Rattle.cargo_toml.specs.Dependencies.{DependencyMeaning, is_optional}
 use Rattle.cargo_toml.specs.Dependencies.DependencyMeaning.{simple, inherited, detailed}
-use Rattle.cargo_toml.specs.Graph.{Table, Edge}
-use Rattle.cargo_toml.specs.InheritedDependencies.{Entries}
-use Rattle.cargo_toml.specs.InheritedManifests.{own_tables}
-use Rattle.cargo_toml.specs.Manifests.{ManifestMeaning}
-use Rattle.cargo_toml.specs.Marks.{NamedDetails, marks_in}
-use Rattle.cargo_toml.specs.Parsed.{parsed_entries, parsed_table}
-use Rattle.cargo_toml.specs.Products.{ProductMeaning}
-use Rattle.cargo_toml.specs.Reach.{Among}
-use Rattle.cargo_toml.specs.Recorded.{is_implied}
-use Rattle.cargo_toml.specs.Recursive.{Enables}
-use Rattle.cargo_toml.specs.Targets.{TargetMeaning}
+use Rattle.cargo_toml.specs.{Dependencies.DependencyMeaning, InheritedDependencies.Entries}
+use Rattle.cargo_toml.specs.{InheritedManifests.own_tables, Manifests.ManifestMeaning, Graph.Table}
+use Rattle.cargo_toml.specs.{Dependencies.is_optional, Products.ProductMeaning, Parsed.parsed_table}
+use Rattle.cargo_toml.specs.{Parsed.parsed_entries, Targets.TargetMeaning, Recorded.is_implied}
+use Rattle.cargo_toml.specs.{Marks.NamedDetails, Recursive.Enables, Action.Item.Name, Reach.Among}
+use Rattle.cargo_toml.specs.{Action.Item.On, Marks.marks_in, Graph.Edge}
 use Rattle.cargo_toml_lint.specs.Known.{Names, all_names}
 use Rattle.cargo_toml_lint.specs.Taken.{is_bad_text, is_feature_name, is_never_required}
-use Rattle.cargo_toml_lint.specs.Turning.{turning}
-use Rattle.cargo_toml_lint.specs.declared.finding.Code.{Code}
 use Rattle.cargo_toml_lint.specs.declared.finding.Code.TheVariants.{BadName, BadRequest}
 use Rattle.cargo_toml_lint.specs.declared.finding.Code.TheVariants.{BadRequired, BadText}
 use Rattle.cargo_toml_lint.specs.declared.finding.Code.TheVariants.{FeatureTable, NamesItself}
@@ -30,9 +21,9 @@ use Rattle.cargo_toml_lint.specs.declared.finding.Code.TheVariants.{NotOptional,
 use Rattle.cargo_toml_lint.specs.declared.finding.Code.TheVariants.{Reserved, SameName, Unknown}
 use Rattle.cargo_toml_lint.specs.declared.finding.Code.TheVariants.{Implied, PrivateDefault, Cycle}
 use Rattle.cargo_toml_lint.specs.declared.finding.Code.TheVariants.{Missing, OverLimit, Unreachable}
-use Rattle.cargo_toml_lint.specs.declared.finding.Finding.{Finding}
-use Rattle.cargo_toml_lint.specs.declared.finding.Level.{Level}
 use Rattle.cargo_toml_lint.specs.declared.finding.Level.TheVariants.{Error, Hint, Warning}
+use Rattle.cargo_toml_lint.specs.{declared.finding.Finding.Finding, declared.finding.Level.Level}
+use Rattle.cargo_toml_lint.specs.{declared.finding.Code.Code, Turning.turning}
 
 -- a code, with the feature and the text that it is about; the text is empty where it is of none
 abbrev pub About : Type 0

@@ -1,26 +1,18 @@
 -- Which names a manifest has.
-use Rattle.std.specs.Prelude.{Bool, ◌&&◌, List, [], ◌∷◌, ◌++◌, bytes_eq, map}
+use Rattle.std.specs.Prelude.{Bool, true, false, ◌&&◌, ◌||◌, not, List, [], ◌∷◌, ◌++◌, bytes_eq, map}
 use Rattle.std.specs.List.{flat_map, list_any}
 use Rattle.cargo_toml.specs.Action.{Text, Item, item_of}
-use Rattle.cargo_toml.specs.Action.Item.{Name, On}
-use Rattle.cargo_toml.specs.Admitted.{Listed}
-use Rattle.cargo_toml.specs.Dependencies.{is_optional}
-use Rattle.cargo_toml.specs.InheritedDependencies.{Entries}
-use Rattle.cargo_toml.specs.InheritedManifests.{own_tables}
-use Rattle.cargo_toml.specs.Manifests.{ManifestMeaning}
-use Rattle.cargo_toml.specs.Targets.{TargetMeaning}
+use Rattle.cargo_toml.specs.{InheritedDependencies.Entries, InheritedManifests.own_tables}
+use Rattle.cargo_toml.specs.{Manifests.ManifestMeaning, Dependencies.is_optional, Action.Item.Name}
+use Rattle.cargo_toml.specs.{Targets.TargetMeaning, Admitted.Listed, Action.Item.On}
 
 -- keys of dependencies, some of which are marked
 abbrev pub Marked : Type 0
 Marked = List (Text × Bool)
 
--- whether the key is among them
-abbrev pub has_key : Marked → Text → Bool
-has_key ks k = list_any (λ p. bytes_eq k p.0) ks
-
--- whether it is among them, and marked
-abbrev pub has_marked : Marked → Text → Bool
-has_marked ks k = list_any (λ p. bytes_eq k p.0 && p.1) ks
+-- whether the key is among them, and marked where that is asked
+abbrev pub has_key : Bool → Marked → Text → Bool
+has_key marked ks k = list_any (λ p. bytes_eq k p.0 && (p.1 || not marked)) ks
 
 -- the keys of a table of dependencies; marked are those of optional ones
 abbrev pub keys_in : Entries → Marked
@@ -69,8 +61,8 @@ is_name listed f = list_any (λ e. bytes_eq f e.0) listed
 abbrev pub all_names : {M : Type 0} → ManifestMeaning M → Names
 all_names m = record {
   listed = is_name m.features;
-  dependency = has_key (dependency_keys m);
-  optional = has_marked (dependency_keys m);
-  acted = has_key (acted_keys m.features);
-  reserved = has_marked (acted_keys m.features);
+  dependency = has_key false (dependency_keys m);
+  optional = has_key true (dependency_keys m);
+  acted = has_key false (acted_keys m.features);
+  reserved = has_key true (acted_keys m.features);
 }

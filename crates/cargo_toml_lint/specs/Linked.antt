@@ -1,17 +1,12 @@
 -- Features by the places of their names.
-use Rattle.std.specs.Prelude.{◌≡◌, ◌≢◌, ◌↔◌, ◌<◌, ℕ, Bool, List, IsTrue, bytes_eq, codes, length}
-use Rattle.std.specs.{Prelude.map, Prelude.not, Borrow.Bor}
-use Rattle.cargo_toml.specs.Action.{Text}
-use Rattle.cargo_toml.specs.Ascending.{Ascend}
-use Rattle.cargo_toml.specs.Graph.{Table}
-use Rattle.cargo_toml.specs.Reach.{Among}
+use Rattle.std.specs.Prelude.{◌≡◌, ◌≢◌, ◌↔◌, ◌<◌, Bool, List, IsTrue, bytes_eq, codes, length, map}
+use Rattle.std.specs.{Borrow.Bor, Prelude.not, Prelude.ℕ}
+use Rattle.cargo_toml.specs.{Ascending.Ascend, Action.Text, Graph.Table, Reach.Among}
 use Rattle.cargo_toml_features.specs.Places.{nth_text}
-use Rattle.cargo_toml_lint.specs.Findings.{is_hidden}
 use Rattle.cargo_toml_lint.specs.Reached.{IsFinished, IsFlagged, Leads, Path}
-use Rattle.cargo_toml_lint.specs.declared.linking.Links.{Links}
-use Rattle.cargo_toml_lint.specs.declared.walks.Source.{Source}
 use Rattle.cargo_toml_lint.specs.declared.walks.Source.TheVariants.{Shown, Default, Others}
-use Rattle.cargo_toml_lint.specs.declared.walks.Walks.{Walks}
+use Rattle.cargo_toml_lint.specs.{declared.linking.Links.Links, declared.walks.Source.Source}
+use Rattle.cargo_toml_lint.specs.{declared.walks.Walks.Walks, Findings.is_hidden}
 
 abbrev pub names_of : Links → List Text
 names_of l = map (λ t. t.now) l.names.items

@@ -1,8 +1,7 @@
 -- What numbered vertices lead to, and how that is found.
 use Rattle.std.specs.Prelude.{◌≡◌, ◌≢◌, ◌↔◌, ◌⊎◌, ◌<◌, ◌+◌, ℕ, Bool, true, false, List, [], ◌∷◌}
 use Rattle.std.specs.Prelude.{Vec, length, slice_get}
-use Rattle.std.specs.List.{slice_index_or}
-use Rattle.std.specs.Option.{option_map_or}
+use Rattle.std.specs.{Option.option_map_or, List.slice_index_or}
 use Rattle.cargo_toml.specs.Reach.{Among, Gathers}
 use Rattle.cargo_toml_lint.specs.declared.reach.Reach.{Reach}
 

@@ -1,10 +1,7 @@
 -- Which names of features, and which texts, Cargo takes.
-use Rattle.std.specs.Prelude.{ℕ, Bool, false, ◌==◌, ◌&&◌, ◌||◌, not, codes, slice_get}
-use Rattle.std.specs.Prelude.{if◌then◌else◌, nat_eq}
-use Rattle.std.specs.Char.{is_ascii_digit}
+use Rattle.std.specs.Prelude.{Bool, false, ◌==◌, ◌&&◌, not, codes, slice_get, if◌then◌else◌, nat_eq}
 use Rattle.std.specs.List.{after_first, before_first, ends_with, list_all, list_any, starts_with}
-use Rattle.std.specs.Option.{option_map_or}
-use Rattle.std.specs.Str.{chars}
+use Rattle.std.specs.{Char.is_ascii_digit, Option.option_map_or, Prelude.ℕ, Prelude.◌||◌, Str.chars}
 use Rattle.cargo_toml.specs.Action.{Text, is_slash}
 use Rattle.unicode_ident.specs.Ident.{is_xid_continue, is_xid_start}
 

@@ -1,11 +1,8 @@
 -- Which feature turns on which.
-use Rattle.std.specs.Prelude.{Bool, ◌&&◌, not, List, None, bytes_eq}
+use Rattle.std.specs.Prelude.{Bool, ◌&&◌, not, None, bytes_eq}
 use Rattle.std.specs.List.{list_any}
-use Rattle.cargo_toml.specs.Action.{Text, Item, item_of}
-use Rattle.cargo_toml.specs.Action.Item.{Name, On}
-use Rattle.cargo_toml.specs.Admitted.{Listed, items}
-use Rattle.cargo_toml.specs.Graph.{Table}
-use Rattle.cargo_toml.specs.Manifests.{ManifestMeaning}
+use Rattle.cargo_toml.specs.{Action.Item.Name, Admitted.Listed, Manifests.ManifestMeaning}
+use Rattle.cargo_toml.specs.{Action.Item, Action.Item.On, Action.Text, Admitted.items, Graph.Table}
 use Rattle.cargo_toml_lint.specs.Known.{all_names}
 
 -- an item names x, or acts on the optional dependency x, neither conditionally nor by `dep:`

@@ -68,7 +68,9 @@ fn is_missing(known: &Known<'_>, text: &str) -> bool
     if action.acts() {
         !known.dependencies.contains(action.target)
     } else {
-        !known.has_feature(action.target)
+        // listed, or an optional dependency that no text names by `dep:`
+        let name = action.target;
+        !(known.lists(name) | (known.optional.contains(name) & !known.reserved.contains(name)))
     }
 }
 
@@ -104,10 +106,7 @@ pub(crate) fn is_same_name(known: &Known<'_>, name: &str) -> bool
 fn is_explicit<S: BuildHasher>(features: &FeatureMap<'_, S>, name: &str) -> bool
     ensures { result ≡ explicit_at features.now name.now }
 {
-    match features.get(name) {
-        Some(feature) => feature.explicit,
-        None => false,
-    }
+    features.get(name).is_some_and(|feature| feature.explicit)
 }
 
 /// Whether the limit left out the name, or some of its texts.

@@ -3,11 +3,10 @@ ghost use Rattle.std.specs.Prelude.{◌≡◌, [], Some, OnOk, map, string_bytes
 ghost use Rattle.std.specs.List.{flat_map};
 ghost use Rattle.cargo_toml.specs.{Details.detail_of, Manifests.held, Products.product_meaning};
 ghost use Rattle.cargo_toml.specs.Reads.{map_meaning};
-ghost use Rattle.cargo_toml_lint.specs.Findings.{feature_findings, product_findings};
-ghost use Rattle.cargo_toml_lint.specs.Findings.{products_findings, told, when};
-ghost use Rattle.cargo_toml_lint.specs.Names.{held_names, listed_by};
-ghost use Rattle.cargo_toml_lint.specs.Steps.{Finds, is_beyond};
+ghost use Rattle.cargo_toml_lint.specs.Findings.{feature_findings, products_findings, told, when};
 ghost use Rattle.cargo_toml_lint.specs.declared.finding.Code.TheVariants.{FeatureTable};
+ghost use Rattle.cargo_toml_lint.specs.{Findings.product_findings, Names.held_names, Steps.Finds};
+ghost use Rattle.cargo_toml_lint.specs.{Names.listed_by, Steps.is_beyond};
 
 use crate::faults::{is_over, is_same_name, required_fault, text_fault};
 use crate::finding::{Code, Finding};
@@ -114,10 +113,7 @@ pub(crate) fn add_details<'m>(
 fn name_of(product: &Product) -> &str
     ensures { result.now ≡ unwrap_or (product_meaning product.now).name [] }
 {
-    match &product.name {
-        Some(name) => name.as_str(),
-        None => "",
-    }
+    product.name.as_deref().unwrap_or("")
 }
 
 // Adds what is found of the features that a target requires.

@@ -20,18 +20,12 @@ pub(crate) fn is_hidden(name: &str) -> bool
 pub(crate) fn is_implied<S: BuildHasher>(features: &FeatureMap<'_, S>, name: &str) -> bool
     ensures { result ≡ implied_at features.now name.now }
 {
-    match features.get(name) {
-        Some(feature) => !feature.explicit,
-        None => false,
-    }
+    features.get(name).is_some_and(|feature| !feature.explicit)
 }
 
 /// Whether the feature of this name is private.
 pub(crate) fn is_private<S: BuildHasher>(features: &FeatureMap<'_, S>, name: &str) -> bool
     ensures { result ≡ private_at features.now name.now }
 {
-    match features.get(name) {
-        Some(feature) => !feature.public,
-        None => false,
-    }
+    features.get(name).is_some_and(|feature| !feature.public)
 }

@@ -1,13 +1,12 @@
 //! Which names a manifest has: of features, of dependencies, and those that `dep:` names.
-ghost use Rattle.std.specs.Prelude.{◌≡◌, ◌&&◌, ◌||◌, not, IfOk, OnOk, map, string_bytes};
+ghost use Rattle.std.specs.Prelude.{◌≡◌, IfOk, OnOk, map, string_bytes};
 ghost use Rattle.std.specs.List.{flat_map};
 ghost use Rattle.cargo_toml.specs.{Action.Text, Action.item_of, Dependencies.dependency_meaning};
 ghost use Rattle.cargo_toml.specs.{Manifests.held, Reads.map_meaning, Targets.target_meaning};
 ghost use Rattle.cargo_toml.specs.Views.{set_has};
-ghost use Rattle.cargo_toml_lint.specs.Known.{acted_by, acted_in, acted_keys, all_names};
-ghost use Rattle.cargo_toml_lint.specs.Known.{dependency_keys, has_key, has_marked, keys_in};
-ghost use Rattle.cargo_toml_lint.specs.{Known.target_keys, Names.AddsKeys, Names.key_of};
-ghost use Rattle.cargo_toml_lint.specs.Names.{held_names, listed_by};
+ghost use Rattle.cargo_toml_lint.specs.Known.{acted_keys, all_names, dependency_keys, target_keys};
+ghost use Rattle.cargo_toml_lint.specs.Known.{acted_by, acted_in, has_key, keys_in};
+ghost use Rattle.cargo_toml_lint.specs.Names.{AddsKeys, key_of, held_names, listed_by};
 
 use cargo_toml::{DepsSet, FeatureSet, Manifest, Target, TargetDepsSet};
 use cargo_toml_features::action::{add_text, read_action};
@@ -124,28 +123,22 @@ fn acted_keys(alloc: Global, features: &FeatureSet) -> Result<Vec<Key<'_>>, Allo
     Ok(keys)
 }
 
-// All keys as a set.
-fn all_of<'m>(alloc: Global, keys: &[Key<'m>]) -> Result<BTreeSet<&'m str>, AllocError>
-    ensures { IfOk result (λ s. (k : Text) → set_has s k ≡ has_key (map key_of keys.now) k) }
+// Keys as a set: all, or those that are marked.
+fn set_of<'m>(
+    alloc: Global,
+    keys: &[Key<'m>],
+    marked: bool,
+) -> Result<BTreeSet<&'m str>, AllocError>
+    ensures { IfOk result
+        (λ s. (k : Text) → set_has s k ≡ has_key marked (map key_of keys.now) k) }
 {
-    let mut all = BTreeSet::new(alloc);
+    let mut set = BTreeSet::new(alloc);
     for key in keys {
-        add_text(&mut all, key.name)?;
-    }
-    Ok(all)
-}
-
-// Those that are marked.
-fn marked_of<'m>(alloc: Global, keys: &[Key<'m>]) -> Result<BTreeSet<&'m str>, AllocError>
-    ensures { IfOk result (λ s. (k : Text) → set_has s k ≡ has_marked (map key_of keys.now) k) }
-{
-    let mut marked = BTreeSet::new(alloc);
-    for key in keys {
-        if key.is_marked {
-            add_text(&mut marked, key.name)?;
+        if key.is_marked | !marked {
+            add_text(&mut set, key.name)?;
         }
     }
-    Ok(marked)
+    Ok(set)
 }
 
 /// The names that a manifest has.
@@ -162,10 +155,10 @@ pub(crate) fn known_names<'m, M>(
     let acted = acted_keys(alloc, &manifest.features)?;
     Ok(Known {
         features: &manifest.features,
-        dependencies: all_of(alloc, keys.as_slice())?,
-        optional: marked_of(alloc, keys.as_slice())?,
-        acted: all_of(alloc, acted.as_slice())?,
-        reserved: marked_of(alloc, acted.as_slice())?,
+        dependencies: set_of(alloc, keys.as_slice(), false)?,
+        optional: set_of(alloc, keys.as_slice(), true)?,
+        acted: set_of(alloc, acted.as_slice(), false)?,
+        reserved: set_of(alloc, acted.as_slice(), true)?,
     })
 }
 
@@ -175,15 +168,5 @@ impl Known<'_> {
         ensures { result ≡ (held_names self.now).listed name.now }
     {
         self.features.contains_key(name)
-    }
-
-    /// Whether the name is that of a feature: one that is listed, or an optional dependency that no
-    /// text names by `dep:`.
-    pub(crate) fn has_feature(&self, name: &str) -> bool
-        ensures { result ≡ ((held_names self.now).listed name.now
-            || ((held_names self.now).optional name.now
-            && not ((held_names self.now).reserved name.now))) }
-    {
-        self.lists(name) || (self.optional.contains(name) && !self.reserved.contains(name))
     }
 }

@@ -1,19 +1,15 @@
 //! Which features of a manifest turn on which.
 ghost use Rattle.std.specs.Prelude.{◌≡◌, ◌↔◌, ◌⊎◌, ◌<◌, ◌&&◌, ◌||◌, ℕ, [], IfOk, IsTrue, OnOk};
 ghost use Rattle.std.specs.Prelude.{bytes_eq, is_some, length, map, not, string_bytes, unwrap_or};
-ghost use Rattle.std.specs.{List.list_any, Map.lookup};
-ghost use Rattle.cargo_toml.specs.Action.{Text, item_of};
-ghost use Rattle.cargo_toml.specs.Ascending.{Ascend};
-ghost use Rattle.cargo_toml.specs.Graph.{Table};
-ghost use Rattle.cargo_toml.specs.Manifests.{held};
-ghost use Rattle.cargo_toml.specs.Reach.{Among};
-ghost use Rattle.cargo_toml.specs.Recursive.{Enables};
-ghost use Rattle.cargo_toml.specs.Views.{set_has, table_in};
+ghost use Rattle.std.specs.Map.{lookup};
+ghost use Rattle.cargo_toml.specs.{Recursive.Enables, Ascending.Ascend, Action.item_of};
+ghost use Rattle.cargo_toml.specs.{Manifests.held, Views.table_in, Views.set_has, Action.Text};
+ghost use Rattle.cargo_toml.specs.{Graph.Table, Reach.Among};
 ghost use Rattle.cargo_toml_features.specs.Places.{nth_text};
-ghost use Rattle.cargo_toml_lint.specs.Turning.{turned, turning, turning_by, turns_to};
 ghost use Rattle.cargo_toml_lint.specs.Linked.{AreFound, AreLinks, Passes, name_at};
 ghost use Rattle.cargo_toml_lint.specs.Names.{held_names, listed_by};
 ghost use Rattle.cargo_toml_lint.specs.Reached.{Leads, Path};
+ghost use Rattle.cargo_toml_lint.specs.Turning.{turned, turning, turning_by, turns_to};
 
 use crate::graph::FeatureMap;
 use crate::known::{Known, known_names};
@@ -67,25 +63,6 @@ fn add_edge(
     Ok(())
 }
 
-// The places of what the texts of a list turn on.
-fn edges_of(
-    alloc: Global,
-    known: &Known<'_>,
-    names: &[&str],
-    texts: &[String],
-) -> Result<Vec<usize>, AllocError>
-    requires { Ascend (map (λ t. t.now) names.now) }
-    ensures { IfOk result (λ row. (b : ℕ) → Among row.items b ↔ Passes names.now
-        (λ x. list_any (turns_to (held_names known.now).optional x)
-        (map item_of (map string_bytes texts.now))) b) }
-{
-    let mut row = Vec::new(alloc);
-    for text in texts {
-        add_edge(&mut row, known, names, text.as_str())?;
-    }
-    Ok(row)
-}
-
 // The texts in the list of the feature of this name: none, where the manifest doesn't list it.
 fn texts_of<'k>(known: &'k Known<'_>, name: &str) -> &'k [String]
     ensures { map string_bytes result.now
@@ -97,7 +74,7 @@ fn texts_of<'k>(known: &'k Known<'_>, name: &str) -> &'k [String]
     }
 }
 
-// What the feature of this name turns on.
+// The places of what the texts in the list of the feature of this name turn on.
 fn row_of(
     alloc: Global,
     known: &Known<'_>,
@@ -108,7 +85,12 @@ fn row_of(
     ensures { IfOk result (λ row. (b : ℕ) → Among row.items b ↔ Passes names.now
         (turned (listed_by known.now) (held_names known.now).optional name.now) b) }
 {
-    edges_of(alloc, known, names, texts_of(known, name))
+    let mut row = Vec::new(alloc);
+    let texts = texts_of(known, name);
+    for text in texts {
+        add_edge(&mut row, known, names, text.as_str())?;
+    }
+    Ok(row)
 }
 
 // The same of each name.

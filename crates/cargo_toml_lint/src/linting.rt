@@ -1,20 +1,13 @@
 //! What is found of a manifest.
 ghost use Rattle.std.specs.Prelude.{◌≡◌, ◌≤◌, ◌⊎◌, ◌↔◌, [], None, true, IfErr, IfOk, IsTrue, OnOk};
 ghost use Rattle.std.specs.List.Sorted.{IsStrictlySortedBy};
-ghost use Rattle.cargo_toml.specs.Action.{Text};
-ghost use Rattle.cargo_toml.specs.Error.{Memory};
-ghost use Rattle.cargo_toml.specs.Graph.{Table};
-ghost use Rattle.cargo_toml.specs.Limits.{MAX_ITEMS};
-ghost use Rattle.cargo_toml.specs.Manifests.{held};
-ghost use Rattle.cargo_toml.specs.Parsed.{IsParsed};
-ghost use Rattle.cargo_toml.specs.Reach.{Among};
 ghost use Rattle.cargo_toml.specs.Views.{answer_of, table_in};
-ghost use Rattle.cargo_toml_lint.specs.declared.finding.Code.{Code};
-ghost use Rattle.cargo_toml_lint.specs.Findings.{HoldsOf, IsFound};
-ghost use Rattle.cargo_toml_lint.specs.Steps.{CountsBy, Finds, written_in};
-ghost use Rattle.cargo_toml_lint.specs.Linked.{AreFound, AreLinks};
-ghost use Rattle.cargo_toml_lint.specs.Names.{held_names, listed_by};
-ghost use Rattle.cargo_toml_lint.specs.Turning.{turning_by};
+ghost use Rattle.cargo_toml.specs.{Limits.MAX_ITEMS, Parsed.IsParsed, Manifests.held, Error.Memory};
+ghost use Rattle.cargo_toml.specs.{Action.Text, Graph.Table, Reach.Among};
+ghost use Rattle.cargo_toml_lint.specs.Steps.{CountsBy, written_in};
+ghost use Rattle.cargo_toml_lint.specs.{declared.finding.Code.Code, Turning.turning_by};
+ghost use Rattle.cargo_toml_lint.specs.{Findings.HoldsOf, Findings.IsFound, Names.held_names};
+ghost use Rattle.cargo_toml_lint.specs.{Linked.AreFound, Linked.AreLinks, Names.listed_by};
 
 use crate::finding::Finding;
 use crate::gathering::{add_details, add_features, add_products};
@@ -51,23 +44,6 @@ fn resolve_whole<'m, M, S: BuildHasher + Clone + Drop>(
     let resolver = Resolver::new_with_hasher_and_filter(state, &keep);
     let limited = resolver.with_max_items(limit);
     limited.parse(alloc, manifest)
-}
-
-// Adds what is found of all that is written.
-fn add_written<'m, M, S: BuildHasher>(
-    found: &mut Vec<Finding<'m>>,
-    known: &Known<'m>,
-    features: &FeatureMap<'m, S>,
-    manifest: &'m Manifest<M>,
-    limit: usize,
-) -> Result<(), AllocError>
-    ensures { OnOk result (Finds (written_in features.now known.now limit (held manifest.now))
-        found.old.items found.new.items) }
-{
-    add_features(found, known, features, limit)?;
-    add_details(found, &manifest.feature_details)?;
-    add_tables(found, manifest, limit)?;
-    add_products(found, known, manifest)
 }
 
 // Adds what is found of the features that count, and of what they turn on.
@@ -118,7 +94,10 @@ fn found_in<'m, M, S: BuildHasher>(
 {
     let links = links_of(alloc, known, features)?;
     let mut found = Vec::new(alloc);
-    add_written(&mut found, known, features, manifest, limit)?;
+    add_features(&mut found, known, features, limit)?;
+    add_details(&mut found, &manifest.feature_details)?;
+    add_tables(&mut found, manifest, limit)?;
+    add_products(&mut found, known, manifest)?;
     add_counting(&mut found, &links, features)?;
     Ok(in_order(found))
 }

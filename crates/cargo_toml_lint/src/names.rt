@@ -1,7 +1,7 @@
 //! Which names and texts Cargo takes.
-ghost use Rattle.std.specs.Prelude.{◌≡◌, IfSome, codes, is_some, nat_eq, slice_get};
-ghost use Rattle.std.specs.List.{after_first, before_first, ends_with, list_all, list_any};
-ghost use Rattle.std.specs.{List.starts_with, Str.chars};
+ghost use Rattle.std.specs.Prelude.{◌≡◌, IfSome, is_some, slice_get};
+ghost use Rattle.std.specs.List.{after_first, before_first, list_all, list_any};
+ghost use Rattle.std.specs.Str.{chars};
 ghost use Rattle.cargo_toml.specs.Action.{is_slash};
 ghost use Rattle.cargo_toml_lint.specs.Taken.{is_bad_text, is_feature_name, is_never_required};
 ghost use Rattle.cargo_toml_lint.specs.Taken.{may_follow, may_start};
@@ -45,20 +45,6 @@ pub(crate) fn is_feature_name(name: &str) -> bool
     }
 }
 
-// Whether the text begins with `dep:`.
-fn has_dep(text: &str) -> bool
-    ensures { result ≡ starts_with nat_eq text.now (codes "dep:") }
-{
-    text.as_bytes().starts_with(b"dep:".as_slice())
-}
-
-// Whether the text ends in `?`.
-fn has_mark(text: &str) -> bool
-    ensures { result ≡ ends_with nat_eq text.now (codes "?") }
-{
-    text.as_bytes().ends_with(b"?".as_slice())
-}
-
 // The text up to its first slash, and what follows that.
 fn split_slash(text: &str) -> (&str, Option<&str>)
     ensures front { result.0.now ≡ before_first is_slash text.now }
@@ -76,9 +62,10 @@ pub(crate) fn is_bad_text(text: &str) -> bool
     ensures { result ≡ is_bad_text text.now }
 {
     let parts = split_slash(text);
+    let bytes = text.as_bytes();
     match parts.1 {
-        Some(feature) => has_dep(text) | !is_feature_name(feature),
-        None => has_mark(text),
+        Some(feature) => bytes.starts_with(b"dep:".as_slice()) | !is_feature_name(feature),
+        None => bytes.ends_with(b"?".as_slice()),
     }
 }
 
@@ -88,7 +75,7 @@ pub(crate) fn is_never_required(text: &str) -> bool
 {
     let parts = split_slash(text);
     match parts.1 {
-        Some(_) => has_mark(parts.0),
-        None => has_dep(text),
+        Some(_) => parts.0.as_bytes().ends_with(b"?".as_slice()),
+        None => text.as_bytes().starts_with(b"dep:".as_slice()),
     }
 }

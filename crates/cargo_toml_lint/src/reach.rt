@@ -1,7 +1,6 @@
 //! What each vertex of a graph leads to, by any number of edges.
 ghost use Rattle.std.specs.Prelude.{◌≡◌, ◌≢◌, ◌<◌, ◌≤◌, ◌+◌, ◌↔◌, ◌⊎◌, ◌++◌, ◌∷◌, [], ℕ, IfOk};
 ghost use Rattle.std.specs.Prelude.{IsTrue, OnOk, length};
-ghost use Rattle.cargo_toml.specs.Reach.{Among};
 ghost use Rattle.cargo_toml_lint.specs.Reached.{IsFinished, IsFlagged, IsInRing, IsWhole, Leads};
 ghost use Rattle.cargo_toml_lint.specs.Reached.{Path, Searches, Stands, edges_left, row_at};
 

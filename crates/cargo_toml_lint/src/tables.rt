@@ -1,7 +1,6 @@
 //! What is found of tables of dependencies.
 ghost use Rattle.std.specs.{Prelude.OnOk, List.flat_map};
-ghost use Rattle.cargo_toml.specs.{Dependencies.dependency_meaning, InheritedManifests.own_tables};
-ghost use Rattle.cargo_toml.specs.Manifests.{held};
+ghost use Rattle.cargo_toml.specs.{Dependencies.dependency_meaning, Manifests.held};
 ghost use Rattle.cargo_toml.specs.{Reads.map_meaning, Targets.target_meaning};
 ghost use Rattle.cargo_toml_lint.specs.Findings.{entry_findings, table_findings, tables_findings};
 ghost use Rattle.cargo_toml_lint.specs.{Findings.target_findings, Steps.Finds};
@@ -85,20 +84,6 @@ fn add_targets<'m>(
     Ok(())
 }
 
-// Adds what is found of the tables that are of no target.
-fn add_own_tables<'m, M>(
-    found: &mut Vec<Finding<'m>>,
-    manifest: &'m Manifest<M>,
-    limit: usize,
-) -> Result<(), AllocError>
-    ensures { OnOk result (Finds (target_findings limit (own_tables (held manifest.now)))
-        found.old.items found.new.items) }
-{
-    add_table(found, &manifest.dependencies, false, limit)?;
-    add_table(found, &manifest.build_dependencies, false, limit)?;
-    add_table(found, &manifest.dev_dependencies, true, limit)
-}
-
 /// Adds what is found of all tables of dependencies.
 pub(crate) fn add_tables<'m, M>(
     found: &mut Vec<Finding<'m>>,
@@ -108,6 +93,8 @@ pub(crate) fn add_tables<'m, M>(
     ensures { OnOk result (Finds (tables_findings limit (held manifest.now))
         found.old.items found.new.items) }
 {
-    add_own_tables(found, manifest, limit)?;
+    add_table(found, &manifest.dependencies, false, limit)?;
+    add_table(found, &manifest.build_dependencies, false, limit)?;
+    add_table(found, &manifest.dev_dependencies, true, limit)?;
     add_targets(found, &manifest.target, limit)
 }

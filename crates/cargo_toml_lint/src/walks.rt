@@ -4,7 +4,7 @@ ghost use Rattle.std.specs.Prelude.{length};
 ghost use Rattle.cargo_toml.specs.{Action.Text, Graph.Table};
 ghost use Rattle.cargo_toml_lint.specs.Linked.{AreFound, AreLed, AreLinks, AreWalks, Goes, is_of};
 ghost use Rattle.cargo_toml_lint.specs.{Findings.IsFound, Findings.is_hidden, Linked.name_at};
-ghost use Rattle.cargo_toml_lint.specs.{Reached.IsFlagged, Steps.CountsBy, Steps.private_at};
+ghost use Rattle.cargo_toml_lint.specs.{Reached.IsFlagged, Steps.CountsBy};
 ghost use Rattle.cargo_toml_lint.specs.declared.finding.Code.{Code};
 
 use crate::finding::{Code, Finding};
@@ -86,13 +86,6 @@ pub(crate) fn walks_of(alloc: Global, links: &Links<'_>) -> Result<Walks, AllocE
     })
 }
 
-// Whether the feature of this name is hidden or private.
-fn is_internal<S: BuildHasher>(features: &FeatureMap<'_, S>, name: &str) -> bool
-    ensures { result ≡ (is_hidden name.now || private_at features.now name.now) }
-{
-    is_hidden(name) || is_private(features, name)
-}
-
 // Whether the first of two sets has the place, and the second hasn't.
 fn is_alone(first: &[bool], second: &[bool], place: usize) -> bool
     requires first { place < length first.now }
@@ -127,7 +120,7 @@ pub(crate) fn add_place<'m, S: BuildHasher>(
         × CountsBy features.now t c f))) }
 {
     let name = links.name(place);
-    let is_internal = is_internal(features, name);
+    let is_internal = is_hidden(name) | is_private(features, name);
     let is_alone = is_alone(
         walks.by_default.as_slice(),
         walks.by_others.as_slice(),

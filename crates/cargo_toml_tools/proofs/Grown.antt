@@ -34,10 +34,6 @@ pub three_more : {A B : Type 0} (f : A → B) (a b c d : List A) (x y z : A) (p 
     → map f d ≡ map f a ++ (p ∷ q ∷ r ∷ [])
 three_more f a b c d x y z p q r first second third fourth fifth sixth = grind (arith, append_assoc, map-append)
 
-pub map_twice : {A B C : Type 0} (g : B → C) (f : A → B) (xs : List A) → map g (map f xs) ≡ map (λ x. g (f x)) xs
-map_twice g f [] = refl
-map_twice g f (x ∷ xs) = ap (λ t. g (f x) ∷ t) (map_twice g f xs)
-
 -- of one loop in another, and of the tables of a manifest
 pub ruleset nested = (mapped_left, rest_next, rest_none)
 

@@ -1,11 +1,10 @@
 -- What all features of some names do to dependencies.
-use Rattle.std.proofs.Common.{◌≡◌, ◌⊎◌, ◌∙◌, Bor, IsTrue, List, [], ◌∷◌, None, Option, Some, ap, fold, inl, inr, subst, sym}
-use Rattle.std.proofs.lemmas.{Bool.false≢true, Bool.or_left, Bool.or_right, Map.Text.is_eq-slice_cmp}
-use Rattle.std.specs.HashMap.{HashMap}
-use Rattle.cargo_toml.specs.{Action.Action, Action.IsJoin, Action.Text, Action.join_option, Feature.Feature, Views.table_in}
-use Rattle.cargo_toml_graph.proofs.{Joins.join_alike, Joins.join_halves, Joins.join_one, Texts.bytes_eq_refl}
-use Rattle.cargo_toml_lint.proofs.Gathered.{at_head, has_in}
-use Rattle.cargo_toml_tools.specs.Documented.{ActsOf}
+use Rattle.{std.proofs.lemmas.Bool.false≢true, std.proofs.lemmas.Bool.or_left, std.proofs.lemmas.Bool.or_right, std.proofs.lemmas.Map.Text.is_eq-slice_cmp}
+use Rattle.{std.specs.HashMap.HashMap, cargo_toml.specs.Feature.Feature, cargo_toml.specs.Views.table_in, cargo_toml_graph.proofs.Texts.bytes_eq_refl}
+use Rattle.std.proofs.Common.{[], ◌∙◌, ◌∷◌, ◌≡◌, ◌⊎◌, Bor, IsTrue, List, None, Option, Some, ap, fold, inl, inr, subst, sym}
+use Rattle.cargo_toml.specs.Action.{Action, IsJoin, Text, join_option}
+use Rattle.cargo_toml_graph.proofs.Joins.{join_alike, join_halves, join_one}
+use Rattle.{cargo_toml_lint.proofs.Gathered.at_head, cargo_toml_lint.proofs.Gathered.has_in, cargo_toml_tools.specs.Documented.ActsOf}
 
 module _ {S : Type 0} (m : HashMap (Bor Text) Feature S) (k : Text) where
   -- what the features of these names do to the dependency, joined to more

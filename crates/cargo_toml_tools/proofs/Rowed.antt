@@ -62,9 +62,7 @@ module _ {S : Type 0} (t : Table) (m : HashMap (Bor Text) Feature S) (has_defaul
       sym (append-nil (names_of_rows rows))
       ∙ ap (λ ks. names_of_rows rows ++ filter told ks) (sym none) ∙ h.names in
       record {
-        names = record {
-          exact = λ x. let by = those_among told names _ same x in (λ i. (by.0 i).1, λ u. by.1 ((are x).0 (has_told x u), u));
-          in_order = those_ascend told names _ same up;
-        };
+        names = λ x. let by = those_among told names _ same x in (λ i. (by.0 i).1, λ u. by.1 ((are x).0 (has_told x u), u));
+        in_order = those_ascend told names _ same up;
         each = h.each;
       }

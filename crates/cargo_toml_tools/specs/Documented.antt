@@ -9,8 +9,7 @@ use Rattle.cargo_toml.specs.Views.{action_at, set_has, table_in, value_at}
 use Rattle.cargo_toml.specs.{Ascending.Ascend, Feature.Feature, Graph.Table}
 use Rattle.cargo_toml.specs.{Manifests.ManifestMeaning, Reach.Among, Recursive.Enables}
 use Rattle.cargo_toml_lint.specs.Turning.{turning}
-use Rattle.cargo_toml_tools.specs.declared.document.listing.Row.{Row}
-use Rattle.cargo_toml_tools.specs.declared.document.reached.Reached.{Reached}
+use Rattle.cargo_toml_tools.specs.declared.document.{listing.Row.Row, reached.Reached.Reached}
 
 -- hidden by its name, or private by its table
 abbrev pub is_internal : Feature → Bool
@@ -21,18 +20,10 @@ abbrev pub is_shown : Bool → Feature → Bool
 is_shown has_default f =
     not (is_internal f) && (has_default || not (bytes_eq f.key.now (codes "default")))
 
--- another feature than the one of this name, neither hidden nor private
-abbrev pub is_told_beside : Text → Feature → Bool
-is_told_beside name f = not (bytes_eq f.key.now name) && not (is_internal f)
-
--- these texts and no others, each once, in byte order
-pub record AreTexts (P : Text → Type 0) (texts : List Text) : Type 0 where
-  pub exact : (x : Text) → Among texts x ↔ P x
-  pub in_order : Ascend texts
-
--- the feature x is told of beside that of this name
+-- the feature x is told of beside that of this name: it is another one, neither hidden nor private
 abbrev pub is_beside : {S : Type 0} → HashMap (Bor Text) Feature S → Text → Text → Bool
-is_beside m name x = option_map_or (is_told_beside name) (value_at m x) false
+is_beside m name x = option_map_or
+    (λ f. not (bytes_eq f.key.now name) && not (is_internal f)) (value_at m x) false
 
 -- the feature of a name, if it is told of
 abbrev pub told_at : {S : Type 0} → HashMap (Bor Text) Feature S → Bool → Text → Option Feature
@@ -66,7 +57,8 @@ module _ {S : Type 0} (t : Table) (m : HashMap (Bor Text) Feature S) where
 
   -- the rows are those of all features that are told of, in byte order of their names
   pub record AreRows (has_default : Bool) (rows : List Row) : Type 0 where
-    pub names : AreTexts (λ f. IsSome (told_at m has_default f)) (map (λ r. r.name.now) rows)
+    pub names : (x : Text) → Among (map (λ r. r.name.now) rows) x ↔ IsSome (told_at m has_default x)
+    pub in_order : Ascend (map (λ r. r.name.now) rows)
     pub each : AllByRecursion (λ r. IfSome (told_at m has_default r.name.now) (IsRowOf r)) rows
 
 -- the manifest has a list of `default`

@@ -1,15 +1,13 @@
 -- Manifests in files, what is documented of a text, and why a file gives none. What a file holds,
 -- nothing says.
-use Rattle.std.specs.Prelude.{◌≡◌, ◌⊎◌, None, Err, IsUtf8, List, true}
-use Rattle.std.specs.{declared.hash.DefaultHasher.DefaultHasher}
-use Rattle.std.specs.{declared.hash.RandomState.RandomState}
+use Rattle.std.specs.Prelude.{◌≡◌, ◌⊎◌, Err, IsUtf8, List, None, true}
+use Rattle.std.specs.declared.hash.{DefaultHasher.DefaultHasher, RandomState.RandomState}
 use Rattle.toml.specs.{View.view, declared.value.Value.Value}
-use Rattle.cargo_toml.specs.Manifests.{ManifestRefuses, manifest_meaning, manifest_reads, held}
+use Rattle.cargo_toml.specs.Manifests.{ManifestRefuses, held, manifest_meaning, manifest_reads}
 use Rattle.cargo_toml.specs.RealFiles.{IsTextFault, ReadsAs, any_root, real_folders, real_roots}
-use Rattle.cargo_toml.specs.Texts.{AnyRefuses, IsFromText, any_tree}
 use Rattle.cargo_toml.specs.{Action.Text, Completed.IsCompleted, Disk.IsInput, Error.Error}
-use Rattle.cargo_toml.specs.{Error.Memory, Manifest.Manifest, Limits.MAX_ITEMS, Parsed.IsParsed}
-use Rattle.cargo_toml.specs.{Views.answer_of}
+use Rattle.cargo_toml.specs.{Error.Memory, Limits.MAX_ITEMS, Manifest.Manifest, Parsed.IsParsed}
+use Rattle.cargo_toml.specs.{Texts.AnyRefuses, Texts.IsFromText, Texts.any_tree, Views.answer_of}
 use Rattle.cargo_toml_features.specs.declared.features.Features.{Features}
 use Rattle.cargo_toml_tools.specs.{Documented.AreRowsOf, declared.document.listing.Row.Row}
 
@@ -46,19 +44,16 @@ IsUncompleted path text =
     IsTextFault path text (manifest_meaning view) (manifest_reads any_tree)
     (ManifestRefuses any_tree AnyRefuses)
 
--- the rows are those of this manifest's features, resolved with none removed
-pub record AreRowsIn (m : Manifest Value) (rows : List Row) : Type 0 where
-  pub features : Features RandomState DefaultHasher
-  pub whole : IsParsed MAX_ITEMS (held m) (λ _. true) (answer_of features)
-  pub exact : AreRowsOf (held m) features.features rows
-
--- the text reads as a manifest, and just the rows of that were taken
+-- the text reads as a manifest, and just the rows of that were taken: those of its features,
+-- resolved with none removed
 pub record IsDocumented {T : Type 0} (took : T → List Row → T → Type 0) (text : Text) (old new : T)
     : Type 0 where
   pub manifest : Manifest Value
   pub read : IsManifestIn text manifest
+  pub features : Features RandomState DefaultHasher
+  pub whole : IsParsed MAX_ITEMS (held manifest) (λ _. true) (answer_of features)
   pub rows : List Row
-  pub exact : AreRowsIn manifest rows
+  pub exact : AreRowsOf (held manifest) features.features rows
   pub taken : took old rows new
 
 -- why nothing is documented of a text

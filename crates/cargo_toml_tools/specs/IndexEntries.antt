@@ -17,6 +17,7 @@ use Rattle.cargo_toml.specs.{InheritableValues.value_of, Packages.PackageMeaning
 use Rattle.cargo_toml.specs.{Requirements.requirement_text, Action.Item.Name, Action.Item.On}
 use Rattle.cargo_toml.specs.{InheritedDependencies.Entries, InheritedDependencies.entry_at}
 use Rattle.cargo_toml.specs.{Manifests.ManifestMeaning}
+use Rattle.cargo_toml_lint.specs.Findings.{asked_of}
 use Rattle.cargo_toml_tools.specs.Indexed.{DependencyTable, Wanted, elsewhere, lacks_version}
 use Rattle.cargo_toml_tools.specs.Indexed.{source_of, written_flag, dependency_tables, written}
 
@@ -57,13 +58,8 @@ abbrev pub req_text : Option (List Held) → Text
 req_text None = codes "*"
 req_text (Some r) = requirement_text r
 
--- the features that are asked for, and whether the default ones are
-abbrev pub asked_features : DependencyMeaning → List Text
-asked_features (simple r) = []
-asked_features (inherited i) = i.features
-asked_features (detailed d) = d.features
-
--- where the rest is left to a workspace that says otherwise, what is written of it counts
+-- whether the default features are asked for: where the rest is left to a workspace that says
+-- otherwise, what is written of it counts
 abbrev pub has_default : Option TomlMembers → Text → DependencyMeaning → Bool
 has_default table key (simple r) = true
 has_default table key (inherited i) = true
@@ -81,7 +77,7 @@ abbrev pub wanted_rows : DependencyTable → Text → DependencyMeaning → List
 wanted_rows t key d =
     (codes "name", string key)
     ∷ (codes "req", string (req_text (required_version d)))
-    ∷ (codes "features", text_array (asked_features d))
+    ∷ (codes "features", text_array (asked_of d))
     ∷ (codes "optional", boolean (is_optional d))
     ∷ (codes "default_features", boolean (has_default t.written key d)) ∷ []
 
@@ -141,14 +137,12 @@ list_rows false f = (f.0, text_array (if is_extended f.1 then [] else f.1)) ∷ 
 abbrev pub lists_object : Bool → List (Text × List Text) → Data
 lists_object extended fs = object (with_rows (flat_map (list_rows extended) fs) no_members)
 
--- what is there where some list is extended: those lists, and the second version
-abbrev pub second_rows : List (Text × List Text) → List (Text × Data)
-second_rows fs =
-    if list_any (λ f. is_extended f.1) fs
-    then (codes "features2", lists_object true fs) ∷ (codes "v", number (unsigned 2)) ∷ [] else []
-
+-- where some list is extended, those lists are there, too, and the second version
 abbrev pub feature_rows : List (Text × List Text) → List (Text × Data)
-feature_rows fs = (codes "features", lists_object false fs) ∷ second_rows fs
+feature_rows fs =
+    (codes "features", lists_object false fs)
+    ∷ (if list_any (λ f. is_extended f.1) fs
+    then (codes "features2", lists_object true fs) ∷ (codes "v", number (unsigned 2)) ∷ [] else [])
 
 -- ---- the line
 

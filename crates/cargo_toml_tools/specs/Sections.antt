@@ -5,12 +5,10 @@ use Rattle.std.specs.declared.alloc.Global.{Global}
 use Rattle.toml.specs.View.{table_view}
 use Rattle.cargo_toml.specs.{Action.Text, Reads.map_meaning}
 use Rattle.cargo_toml_package.specs.Replacing.{entries_meaning}
-use Rattle.cargo_toml_tools.specs.declared.index.IndexError.{IndexError}
-use Rattle.cargo_toml_tools.specs.declared.index.IndexError.TheVariants.{Memory, Refused}
-use Rattle.cargo_toml_tools.specs.declared.index.Options.{Options}
-use Rattle.cargo_toml_tools.specs.declared.index.refusals.Fault.{Fault}
-use Rattle.cargo_toml_tools.specs.declared.index.sections.Section.{Section}
 use Rattle.cargo_toml_tools.specs.Indexed.{DependencyTable, Refusal, Wanted}
+use Rattle.cargo_toml_tools.specs.declared.index.IndexError.TheVariants.{Memory, Refused}
+use Rattle.cargo_toml_tools.specs.declared.index.{IndexError.IndexError, Options.Options}
+use Rattle.cargo_toml_tools.specs.declared.index.{refusals.Fault.Fault, sections.Section.Section}
 
 abbrev pub lists_meaning : BTreeMap (String Global) (Vec (String Global) Global)
     → List (Text × List Text)

@@ -11,41 +11,26 @@ use cargo_toml::features::DepAction;
 pub use dot::graph;
 pub use listing::{Row, TakesRows, rows};
 pub use reached::Reached;
-use std::alloc::{AllocError, Global};
+use std::alloc::AllocError;
 use std::collections::BTreeMap;
 use std::fmt::Write;
 
 /// A page in Markdown on the features that users may ask for: each with its text, whether it is on
 /// by default, and what it turns on, by any number of steps. Optional dependencies that serve as
 /// features stand in a table of their own. Hidden and private features are left out.
-#[derive(Drop)]
-pub struct Page {
-    /// The page.
-    pub text: String,
-}
-
-impl Page {
-    /// No page yet.
-    pub fn new(alloc: Global) -> Page {
-        Page {
-            text: String::new(alloc),
-        }
-    }
-}
-
-impl TakesRows for Page {
+impl TakesRows for String {
     ghost use Rattle.std.specs.Prelude.{⊤};
 
     ghost took = { λ _ _ _. ⊤ };
 
     fn take(&mut self, name: Option<&str>, rows: &[Row<'_>]) -> Result<(), AllocError> {
-        self.text.push_str("# Features")?;
+        self.push_str("# Features")?;
         if let Some(name) = name {
-            write!(self.text, " of {}", Code(name))?;
+            write!(self, " of {}", Code(name))?;
         }
-        self.text.push_str("\n")?;
-        push_table(&mut self.text, rows, true)?;
-        push_table(&mut self.text, rows, false)
+        self.push_str("\n")?;
+        push_table(self, rows, true)?;
+        push_table(self, rows, false)
     }
 }
 

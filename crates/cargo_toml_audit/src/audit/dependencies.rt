@@ -8,10 +8,10 @@ ghost use Rattle.cargo_toml.specs.{Manifests.held, Reads.map_meaning, Targets.ta
 ghost use Rattle.cargo_toml.specs.{Dependencies.dependency_meaning, InheritedDependencies.is_left};
 ghost use Rattle.cargo_toml.specs.{Packages.held_package};
 ghost use Rattle.cargo_toml_package.specs.Replacing.{entries_meaning};
-ghost use Rattle.cargo_toml_audit.specs.Entries.{entries_of, in_target, listed_of, own_by_kind};
-ghost use Rattle.cargo_toml_audit.specs.Entries.{with_kind, inherited_by, inherited_in};
-ghost use Rattle.cargo_toml_audit.specs.Entries.{left_dependency, left_fields, named_if};
-ghost use Rattle.cargo_toml_audit.specs.Entries.{table_name, asked_by, asked_in, asking_of};
+ghost use Rattle.cargo_toml_tools.specs.Indexed.{table_name, target_by_kind};
+ghost use Rattle.cargo_toml_audit.specs.Entries.{asked_by, asked_in, asking_of, entries_of};
+ghost use Rattle.cargo_toml_audit.specs.Entries.{in_target, inherited_by, inherited_in, listed_of};
+ghost use Rattle.cargo_toml_audit.specs.Entries.{left_dependency, left_fields, named_if, with_kind};
 ghost use Rattle.cargo_toml_audit.specs.Oddities.{asking_key, further_from, further_of, oddity_of};
 
 use super::findings::find_if;
@@ -19,7 +19,7 @@ use super::{Code, Finding, Use};
 use crate::AllocResult;
 use crate::members::note;
 use cargo_toml::features::Kind;
-use cargo_toml::{Dependency, DepsSet, Inheritable, Manifest, Package, TargetDepsSet};
+use cargo_toml::{Dependency, DepsSet, Inheritable, Manifest, Package, Target, TargetDepsSet};
 use cargo_toml_tools::requirement::required_version;
 use cargo_toml_write::write::requirement::requirement_text;
 use std::alloc::Global;
@@ -36,52 +36,36 @@ pub struct Entry<'a> {
     pub dependency: &'a Dependency,
 }
 
-/// The tables of dependencies that a package has, or a target.
-#[derive(Clone, Copy)]
-struct Tables<'a> {
-    normal: &'a DepsSet,
-    dev: &'a DepsSet,
-    build: &'a DepsSet,
-}
-
 /// The dependencies of a manifest, and behind them those of its targets.
 pub fn entries<M>(alloc: Global, manifest: &Manifest<M>) -> AllocResult<Vec<Entry<'_>>>
     ensures { IfOk result (λ v. map listed_of v.items ≡ entries_of (held manifest.now)) }
 {
     let mut all = Vec::new(alloc);
-    let own = Tables {
-        normal: &manifest.dependencies,
-        dev: &manifest.dev_dependencies,
-        build: &manifest.build_dependencies,
-    };
-    add_tables(own, &mut all)?;
+    add_table(Kind::Normal, &manifest.dependencies, &mut all)?;
+    add_table(Kind::Dev, &manifest.dev_dependencies, &mut all)?;
+    add_table(Kind::Build, &manifest.build_dependencies, &mut all)?;
     add_targets(&manifest.target, &mut all)?;
     Ok(all)
 }
 
-#[tactic(auto, using(crate::proofs::Walks::left_next, crate::proofs::Walks::left_none))]
+#[tactic(auto, using(cargo_toml_tools::proofs::Grown::nested))]
 fn add_targets<'a>(targets: &'a TargetDepsSet, all: &mut Vec<Entry<'a>>) -> AllocResult<()>
     ensures { OnOk result (map listed_of all.new.items ≡ map listed_of all.old.items
         ++ flat_map in_target (map_meaning target_meaning targets.now)) }
 {
     for (_, target) in targets {
-        let tables = Tables {
-            normal: &target.dependencies,
-            dev: &target.dev_dependencies,
-            build: &target.build_dependencies,
-        };
-        add_tables(tables, all)?;
+        add_target(target, all)?;
     }
     Ok(())
 }
 
-fn add_tables<'a>(tables: Tables<'a>, all: &mut Vec<Entry<'a>>) -> AllocResult<()>
-    ensures { OnOk result (map listed_of all.new.items
-        ≡ map listed_of all.old.items ++ flat_map with_kind (own_by_kind tables.entry)) }
+fn add_target<'a>(target: &'a Target, all: &mut Vec<Entry<'a>>) -> AllocResult<()>
+    ensures { OnOk result (map listed_of all.new.items ≡ map listed_of all.old.items
+        ++ flat_map with_kind (target_by_kind (target_meaning target.now))) }
 {
-    add_table(Kind::Normal, tables.normal, all)?;
-    add_table(Kind::Dev, tables.dev, all)?;
-    add_table(Kind::Build, tables.build, all)
+    add_table(Kind::Normal, &target.dependencies, all)?;
+    add_table(Kind::Dev, &target.dev_dependencies, all)?;
+    add_table(Kind::Build, &target.build_dependencies, all)
 }
 
 fn add_table<'a>(kind: Kind, table: &'a DepsSet, all: &mut Vec<Entry<'a>>) -> AllocResult<()>
@@ -260,55 +244,42 @@ fn add_use(folder: &str, entry: Entry<'_>, uses: &mut Vec<Use>) -> AllocResult<(
     Ok(())
 }
 
-/// What was asked for so far.
-#[derive(Drop)]
-struct Asked {
-    /// The names of crates.
-    names: BTreeSet<String>,
-    /// A requirement and the name, in one text.
-    keys: BTreeSet<String>,
-}
-
 /// What asks for a crate that was asked for before, and by a requirement that is new.
 pub fn further(alloc: Global, uses: &[Use]) -> AllocResult<Vec<Finding>>
     ensures { IfOk result (λ all. map oddity_of all.items
         ≡ further_from (λ t. false) (λ t. false) (map asking_of uses.now)) }
 {
     let mut all = Vec::new(alloc);
-    let mut asked = Asked {
-        names: BTreeSet::new(alloc),
-        keys: BTreeSet::new(alloc),
-    };
+    let mut names = BTreeSet::new(alloc);
+    let mut keys = BTreeSet::new(alloc);
     for one in uses {
-        add_further(one, &mut asked, &mut all)?;
+        add_further(one, &mut names, &mut keys, &mut all)?;
     }
     Ok(all)
 }
 
-fn add_further(one: &Use, asked: &mut Asked, all: &mut Vec<Finding>) -> AllocResult<()>
+/// Adds what asks for one of these names, but by none of these keys, which have a requirement and
+/// the name. Both are noted.
+fn add_further(
+    one: &Use,
+    names: &mut BTreeSet<String>,
+    keys: &mut BTreeSet<String>,
+    all: &mut Vec<Finding>,
+) -> AllocResult<()>
     ensures found { OnOk result (map oddity_of all.new.items ≡ map oddity_of all.old.items
-        ++ further_of (contains_text asked.old.names) (contains_text asked.old.keys)
-        (asking_of one.now)) }
-    ensures names { OnOk result ((t : List ℕ) → contains_text asked.new.names t
-        ≡ (contains_text asked.old.names t || bytes_eq (asking_of one.now).name t)) }
-    ensures keys { OnOk result ((t : List ℕ) → contains_text asked.new.keys t
-        ≡ (contains_text asked.old.keys t || bytes_eq (asking_key (asking_of one.now)) t)) }
+        ++ further_of (contains_text names.old) (contains_text keys.old) (asking_of one.now)) }
+    ensures names { OnOk result ((t : List ℕ) → contains_text names.new t
+        ≡ (contains_text names.old t || bytes_eq (asking_of one.now).name t)) }
+    ensures keys { OnOk result ((t : List ℕ) → contains_text keys.new t
+        ≡ (contains_text keys.old t || bytes_eq (asking_key (asking_of one.now)) t)) }
 {
     let alloc = *all.allocator();
     let name = one.name.as_str();
-    let key = asking_key(alloc, one)?;
-    let is_further = asked.names.contains(name) && !asked.keys.contains(key.as_str());
-    find_if(all, Code::SeveralRequirements, is_further, name)?;
-    note(alloc, &mut asked.names, name, true)?;
-    note(alloc, &mut asked.keys, key.as_str(), true)
-}
-
-/// A requirement, in which there is no `|`, and the name of the crate.
-fn asking_key(alloc: Global, one: &Use) -> AllocResult<String>
-    ensures { IfOk result (λ key. string_bytes key ≡ asking_key (asking_of one.now)) }
-{
     let requirement = one.requirement.as_str();
-    let name = one.name.as_str();
+    // there is no `|` in a requirement
     let key = format!(in alloc; "{requirement}|{name}")?;
-    Ok(key)
+    let is_further = names.contains(name) && !keys.contains(key.as_str());
+    find_if(all, Code::SeveralRequirements, is_further, name)?;
+    note(alloc, names, name, true)?;
+    note(alloc, keys, key.as_str(), true)
 }

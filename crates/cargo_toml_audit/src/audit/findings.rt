@@ -117,7 +117,9 @@ fn add_other(
     if has_given(own, given) {
         return Ok(());
     }
-    let words = other(*findings.allocator(), own, given)?;
+    let alloc = *findings.allocator();
+    let own = own.unwrap_or("none");
+    let words = format!(in alloc; "{own}, where the workspace has {given}")?;
     find(findings, code, folder, words)
 }
 
@@ -141,13 +143,8 @@ fn has_given(own: Option<&str>, given: &str) -> bool
     }
 }
 
-fn other(alloc: Global, own: Option<&str>, given: &str) -> AllocResult<String> {
-    let own = own.unwrap_or("none");
-    format!(in alloc; "{own}, where the workspace has {given}")
-}
-
 /// Adds the dependencies of the workspace that no member inherits, and those that are optional.
-#[tactic(auto, using(crate::proofs::Walks::left_next, crate::proofs::Walks::left_none))]
+#[tactic(auto, using(cargo_toml_tools::proofs::Grown::nested))]
 pub fn add_shared(
     dependencies: &DepsSet,
     inherited: &BTreeSet<String>,
@@ -226,10 +223,7 @@ pub fn refusal_rows<M>(
 pub fn named_by<M>(package: &Option<Package<M>>) -> Option<&str>
     ensures { option_map (λ t. t.now) result ≡ named_by (option_map held_package «package».now) }
 {
-    match package {
-        Some(package) => package.workspace.as_deref(),
-        None => None,
-    }
+    package.as_ref()?.workspace.as_deref()
 }
 
 /// Whether a path that a package at a place names leads to another workspace than the root's.

@@ -16,18 +16,50 @@ use std::collections::{BTreeMap, BTreeSet};
 pub fn lines(alloc: Global, audit: &Audit) -> AllocResult<String> {
     let mut text = String::new(alloc);
     for (folder, member) in &shown_members(alloc, audit)? {
-        let inherits = member.inherits.as_slice().join(alloc, ", ")?;
-        push_member(&mut text, folder.as_str(), member, inherits.as_str())?;
+        let keys = member.inherits.as_slice().join(alloc, ", ")?;
+        let keys = if keys.is_empty() { "-" } else { keys.as_str() };
+        push_cells(&mut text, "member", &member_cells(folder.as_str(), member))?;
+        push_cells(&mut text, " |", &[("inherits", Some(keys))])?;
+        text.push_str("\n")?;
     }
     for finding in &shown_findings(alloc, audit)? {
-        let subject = finding.subject.as_str();
-        push_line(
-            &mut text,
-            "finding",
-            &[finding.code.word(), subject, finding.words.as_str()],
-        )?;
+        push_cells(&mut text, "finding", &finding_cells(finding))?;
+        text.push_str("\n")?;
     }
     Ok(text)
+}
+
+/// What stands under a key, if anything does.
+type Cell<'a> = (&'static str, Option<&'a str>);
+
+/// What is told of a member, except for what it inherits.
+fn member_cells<'a>(folder: &'a str, member: &'a Member) -> [Cell<'a>; 7] {
+    [
+        ("folder", Some(folder)),
+        ("name", Some(member.name.as_str())),
+        ("version", Some(member.version.as_str())),
+        ("edition", Some(member.edition.as_str())),
+        ("rust_version", member.rust_version.as_deref()),
+        ("license", member.license.as_deref()),
+        ("publish", Some(member.publish.as_str())),
+    ]
+}
+
+fn finding_cells(finding: &Finding) -> [Cell<'_>; 3] {
+    [
+        ("code", Some(finding.code.word())),
+        ("subject", Some(finding.subject.as_str())),
+        ("words", Some(finding.words.as_str())),
+    ]
+}
+
+fn push_cells(text: &mut String, word: &str, cells: &[Cell<'_>]) -> AllocResult<()> {
+    text.push_str(word)?;
+    for (i, cell) in cells.iter().enumerate() {
+        text.push_str(if i == 0 { " " } else { " | " })?;
+        push_escaped(text, cell.1.unwrap_or("-"), Format::Line)?;
+    }
+    Ok(())
 }
 
 /// The members by their folders, as they are seen from the workspace's.
@@ -68,11 +100,10 @@ fn shown_findings(alloc: Global, audit: &Audit) -> AllocResult<BTreeSet<Finding>
 fn requirements(alloc: Global, audit: &Audit) -> AllocResult<BTreeMap<String, String>> {
     let mut uses = BTreeSet::new(alloc);
     for one in &audit.uses {
-        let folder = seen_from(alloc, audit.root.as_str(), one.folder.as_str())?;
         uses.insert(Use {
             name: one.name.clone()?,
             requirement: one.requirement.clone()?,
-            folder,
+            folder: seen_from(alloc, audit.root.as_str(), one.folder.as_str())?,
         })?;
     }
     let mut all: BTreeMap<String, String> = BTreeMap::new(alloc);
@@ -101,38 +132,10 @@ fn push_use(words: &mut String, one: &Use, last: &str) -> AllocResult<()> {
     words.push_str(one.folder.as_str())
 }
 
-fn push_member<'a>(
-    text: &mut String,
-    folder: &'a str,
-    member: &'a Member,
-    inherits: &'a str,
-) -> AllocResult<()> {
-    let cells = [
-        folder,
-        member.name.as_str(),
-        member.version.as_str(),
-        member.edition.as_str(),
-        member.rust_version.as_deref().unwrap_or("-"),
-        member.license.as_deref().unwrap_or("-"),
-        member.publish.as_str(),
-        if inherits.is_empty() { "-" } else { inherits },
-    ];
-    push_line(text, "member", &cells)
-}
-
-fn push_line(text: &mut String, word: &str, cells: &[&str]) -> AllocResult<()> {
-    text.push_str(word)?;
-    for (i, cell) in cells.iter().enumerate() {
-        text.push_str(if i == 0 { " " } else { " | " })?;
-        push_escaped(text, *cell, Format::Line)?;
-    }
-    text.push_str("\n")
-}
-
 /// The same as a line of JSON, an object of two lists: `findings` and `members`.
 pub fn json(alloc: Global, audit: &Audit) -> AllocResult<String> {
-    let members = member_values(alloc, &shown_members(alloc, audit)?)?;
-    let findings = finding_values(alloc, &shown_findings(alloc, audit)?)?;
+    let members = member_values(alloc, audit)?;
+    let findings = finding_values(alloc, audit)?;
     let mut report = Map::new(alloc);
     put(&mut report, alloc, "members", Value::from(members))?;
     put(&mut report, alloc, "findings", Value::from(findings))?;
@@ -141,49 +144,28 @@ pub fn json(alloc: Global, audit: &Audit) -> AllocResult<String> {
     Ok(text)
 }
 
-fn member_values(alloc: Global, members: &BTreeMap<String, &Member>) -> AllocResult<Vec<Value>> {
+fn member_values(alloc: Global, audit: &Audit) -> AllocResult<Vec<Value>> {
     let mut values = Vec::new(alloc);
-    for (folder, member) in members {
-        push(&mut values, member_value(alloc, folder.as_str(), member)?)?;
+    for (folder, member) in &shown_members(alloc, audit)? {
+        let mut object = object(alloc, &member_cells(folder.as_str(), member))?;
+        put_texts(alloc, &mut object, "inherits", member.inherits.as_slice())?;
+        push(&mut values, Value::from(object))?;
     }
     Ok(values)
 }
 
-fn finding_values(alloc: Global, findings: &BTreeSet<Finding>) -> AllocResult<Vec<Value>> {
+fn finding_values(alloc: Global, audit: &Audit) -> AllocResult<Vec<Value>> {
     let mut values = Vec::new(alloc);
-    for finding in findings {
-        push(&mut values, finding_value(alloc, finding)?)?;
+    for finding in &shown_findings(alloc, audit)? {
+        let object = object(alloc, &finding_cells(finding))?;
+        push(&mut values, Value::from(object))?;
     }
     Ok(values)
 }
 
-fn member_value(alloc: Global, folder: &str, member: &Member) -> AllocResult<Value> {
-    let rows = [
-        ("folder", Some(folder)),
-        ("name", Some(member.name.as_str())),
-        ("version", Some(member.version.as_str())),
-        ("edition", Some(member.edition.as_str())),
-        ("rust_version", member.rust_version.as_deref()),
-        ("license", member.license.as_deref()),
-        ("publish", Some(member.publish.as_str())),
-    ];
-    let mut object = object(alloc, &rows)?;
-    put_texts(alloc, &mut object, "inherits", member.inherits.as_slice())?;
-    Ok(Value::from(object))
-}
-
-fn finding_value(alloc: Global, finding: &Finding) -> AllocResult<Value> {
-    let rows = [
-        ("code", Some(finding.code.word())),
-        ("subject", Some(finding.subject.as_str())),
-        ("words", Some(finding.words.as_str())),
-    ];
-    Ok(Value::from(object(alloc, &rows)?))
-}
-
-fn object(alloc: Global, rows: &[(&str, Option<&str>)]) -> AllocResult<Map<String, Value>> {
+fn object(alloc: Global, cells: &[Cell<'_>]) -> AllocResult<Map<String, Value>> {
     let mut object = Map::new(alloc);
-    for (key, text) in rows {
+    for (key, text) in cells {
         put_text(alloc, &mut object, *key, *text)?;
     }
     Ok(object)

@@ -3,6 +3,7 @@ ghost use Rattle.std.specs.Prelude.{◌≡◌, ◌≢◌, ◌++◌, [], IfErr, I
 ghost use Rattle.std.specs.{Prelude.string_bytes, Option.option_map_or};
 ghost use Rattle.cargo_toml.specs.{Action.Text, Error.Error, Error.Memory};
 ghost use Rattle.cargo_toml_tools.specs.FromFiles.{IsManifestIn, IsUnreadable};
+ghost use Rattle.cargo_toml_tools.specs.Indexed.{is_error};
 ghost use Rattle.cargo_toml_audit.specs.Steps.{AddsCompleted, AddsMade, AddsMemberAt, AddsPlace};
 ghost use Rattle.cargo_toml_audit.specs.AuditedFiles.{HasErrors, base_of, has_error, is_rootless};
 ghost use Rattle.cargo_toml_audit.specs.AuditedFiles.{refusal, refusal_code};
@@ -236,12 +237,13 @@ fn has_errors<R: RandomSource + AllocGlobal>(rt: &R, manifest: &Manifest) -> Res
 fn any_error(findings: &[Fault<'_>]) -> bool
     ensures { result ≡ has_error findings.now }
 {
-    for found in findings {
-        if found.code.level() == Level::Error {
-            return true;
-        }
-    }
-    false
+    findings.iter().any(|found| is_error(found.code.level()))
+}
+
+fn is_error(level: Level) -> bool
+    ensures { result ≡ is_error level }
+{
+    matches!(level, Level::Error)
 }
 
 /// Adds what a member is whose manifest is completed, or that nothing can be told of it.

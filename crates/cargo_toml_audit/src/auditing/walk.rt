@@ -10,7 +10,6 @@ use super::place::At;
 use crate::audit::{Audit, Root};
 use crate::members::{excludes, note, set_of};
 use cargo_toml::Error;
-use std::alloc::{AllocError, Global};
 use std::collections::BTreeSet;
 use std::io;
 use std::random::RandomSource;

@@ -1,27 +1,19 @@
 //! Places of folders: absolute paths with no `.` and no `..` in them.
 ghost use Rattle.std.specs.Prelude.{◌≡◌, IfOk, OnOk, map, string_bytes};
-ghost use Rattle.std.specs.Path.{path_join};
-ghost use Rattle.cargo_toml_audit.specs.Places.{compared, ends_in_name, excludes, is_nothing};
-ghost use Rattle.cargo_toml_audit.specs.Places.{is_rooted, lies_in, lies_in_some, manifest_path};
-ghost use Rattle.cargo_toml_audit.specs.Places.{normalized, one_further, or_dot, pieces, place_of};
-ghost use Rattle.cargo_toml_audit.specs.Places.{root_of, with_names};
+ghost use Rattle.cargo_toml_audit.specs.Places.{begins_at, ends_in_name, excludes, is_nothing};
+ghost use Rattle.cargo_toml_audit.specs.Places.{lies_in, lies_in_some, manifest_path, normalized};
+ghost use Rattle.cargo_toml_audit.specs.Places.{one_further, or_dot, pieces, place_of, with_names};
 
 use crate::AllocResult;
 use cargo_toml::Workspace;
 use cargo_toml_parts::paths::{ancestors, join};
 use std::alloc::Global;
 
-fn is_rooted(path: &str) -> bool
-    ensures { result ≡ is_rooted path.now }
+/// Where a path begins: where all paths do, or in this folder.
+pub fn begins_at<'a>(folder: &'a str, path: &str) -> &'a str
+    ensures { result.now ≡ begins_at folder.now path.now }
 {
-    path.starts_with('/')
-}
-
-/// What a path begins with: a slash, or nothing.
-fn root_of(path: &str) -> &'static str
-    ensures { result.now ≡ root_of path.now }
-{
-    if is_rooted(path) { "/" } else { "" }
+    if path.starts_with('/') { "/" } else { folder }
 }
 
 /// What stands between the slashes of a path.
@@ -31,26 +23,27 @@ pub fn pieces<'a>(alloc: Global, path: &'a str) -> AllocResult<Vec<&'a str>>
     path.split('/').collect(alloc)
 }
 
-/// The path with no `.` in it, and with `..` at its front alone. The folder itself is `.`.
-pub fn normalized(alloc: Global, path: &str) -> AllocResult<String>
-    ensures { IfOk result (λ text. string_bytes text ≡ normalized path.now) }
+/// The path with no `.` in it, and with `..` at its front alone, unless each is to stay as it is
+/// written. The folder itself is `.`.
+pub fn normalized(alloc: Global, path: &str, keeps_up: bool) -> AllocResult<String>
+    ensures { IfOk result (λ text. string_bytes text ≡ normalized keeps_up path.now) }
 {
     let mut names = Vec::new(alloc);
     for name in pieces(alloc, path)?.as_slice() {
-        step(&mut names, *name)?;
+        step(&mut names, *name, keeps_up)?;
     }
     with_names(alloc, path, names.as_slice())
 }
 
 /// Goes one name further.
-fn step<'a>(names: &mut Vec<&'a str>, name: &'a str) -> AllocResult<()>
+fn step<'a>(names: &mut Vec<&'a str>, name: &'a str, keeps_up: bool) -> AllocResult<()>
     ensures { OnOk result (map (λ t. t.now) names.new.items
-        ≡ one_further (map (λ t. t.now) names.old.items) name.now) }
+        ≡ one_further keeps_up (map (λ t. t.now) names.old.items) name.now) }
 {
     if is_nothing(name) {
         return Ok(());
     }
-    if name == ".." && can_go_back(names.as_slice()) {
+    if (name == "..") & !keeps_up && can_go_back(names.as_slice()) {
         names.pop();
         return Ok(());
     }
@@ -72,25 +65,12 @@ fn can_go_back(names: &[&str]) -> bool
     !names.is_empty() && names[names.len() - 1] != ".."
 }
 
-/// The path as Cargo compares it: with no `.` in it, and with each `..` as it is written.
-fn compared(alloc: Global, path: &str) -> AllocResult<String>
-    ensures { IfOk result (λ text. string_bytes text ≡ compared path.now) }
-{
-    let mut names = Vec::new(alloc);
-    for name in pieces(alloc, path)?.as_slice() {
-        if !is_nothing(*name) {
-            names.push(*name)?;
-        }
-    }
-    with_names(alloc, path, names.as_slice())
-}
-
 /// The path that begins as this one and has these names, or `.` where that is nothing.
 fn with_names(alloc: Global, path: &str, names: &[&str]) -> AllocResult<String>
     ensures { IfOk result
         (λ text. string_bytes text ≡ with_names path.now (map (λ t. t.now) names.now)) }
 {
-    let mut whole = String::from_str(alloc, root_of(path))?;
+    let mut whole = String::from_str(alloc, begins_at("", path))?;
     let joined = names.join(alloc, "/")?;
     whole.push_str(joined.as_str())?;
     or_dot(alloc, whole)
@@ -111,7 +91,7 @@ pub fn place_of(alloc: Global, folder: &str, path: &str) -> AllocResult<String>
     ensures { IfOk result (λ place. string_bytes place ≡ place_of folder.now path.now) }
 {
     let whole = join(alloc, folder, path)?;
-    normalized(alloc, whole.as_str())
+    normalized(alloc, whole.as_str(), false)
 }
 
 /// The path of the manifest in a folder.
@@ -132,21 +112,16 @@ pub fn lies_in(alloc: Global, place: &str, outer: &str) -> AllocResult<bool>
     Ok(place.as_bytes().starts_with(front.as_str().as_bytes()))
 }
 
-/// Whether what lies at a path is this one of the entries of a list in `root`, or lies in it.
-fn lies_in_entry(alloc: Global, root: &str, path: &str, entry: &str) -> AllocResult<bool>
-    ensures { IfOk result (λ b. b ≡ lies_in path.now (compared (path_join root.now entry.now))) }
-{
-    let whole = join(alloc, root, entry)?;
-    let outer = compared(alloc, whole.as_str())?;
-    lies_in(alloc, path, outer.as_str())
-}
-
+/// Whether what lies at a path is one of the entries of a list in `root`, or lies in one. As Cargo
+/// compares them, each `..` of an entry stays.
 fn lies_in_some(alloc: Global, root: &str, path: &str, entries: &[String]) -> AllocResult<bool>
     ensures { IfOk result
         (λ b. b ≡ lies_in_some root.now path.now (map string_bytes entries.now)) }
 {
     for entry in entries {
-        if lies_in_entry(alloc, root, path, entry.as_str())? {
+        let whole = join(alloc, root, entry.as_str())?;
+        let outer = normalized(alloc, whole.as_str(), true)?;
+        if lies_in(alloc, path, outer.as_str())? {
             return Ok(true);
         }
     }

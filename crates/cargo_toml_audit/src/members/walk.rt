@@ -6,7 +6,7 @@ ghost use Rattle.std.specs.Prelude.{◌≡◌, ◌&&◌, IfOk, map, not, string_
 ghost use Rattle.std.specs.{BTreeMap.IsEmpty, List.flat_map};
 ghost use Rattle.cargo_toml.specs.RealFiles.{is_absent};
 ghost use Rattle.cargo_toml_audit.specs.MemberFolders.{further_in, places_if_right, subfolders};
-ghost use Rattle.cargo_toml_audit.specs.MemberFolders.{all_below, begins_at, places_of, with_dots};
+ghost use Rattle.cargo_toml_audit.specs.MemberFolders.{all_below, places_of, with_dots};
 ghost use Rattle.cargo_toml_audit.specs.MemberFolders.{by_found, is_plain, is_there, led, named_so};
 ghost use Rattle.cargo_toml_audit.specs.MemberFolders.{by_link, further, led_to, matched, place_if};
 ghost use Rattle.cargo_toml_audit.specs.MemberFolders.{Tells, below, ended, own_if, path_if, skips};
@@ -14,7 +14,7 @@ ghost use Rattle.cargo_toml_audit.specs.Patterns.{begins_with_dot, part_of};
 
 use super::is_wrong;
 use super::patterns::{Token, is_deep, is_pattern, matches, tokens_of};
-use super::places::{normalized, pieces, place_of};
+use super::places::{begins_at, normalized, pieces, place_of};
 use crate::AllocResult;
 use cargo_toml_parts::paths::join;
 use std::alloc::Global;
@@ -153,7 +153,7 @@ impl<'a, R: Files + AllocGlobal> Looking<'a, R> {
         if self.look_at(path)? != There::Folder {
             return Ok(places);
         }
-        places.push(normalized(self.rt.alloc(), path)?)?;
+        places.push(normalized(self.rt.alloc(), path, false)?)?;
         Ok(places)
     }
 
@@ -382,13 +382,6 @@ fn own_if(alloc: Global, holds: bool, root: &str, entry: &str) -> AllocResult<Ve
         places.push(place_of(alloc, root, entry)?)?;
     }
     Ok(places)
-}
-
-/// Where an entry begins: in the root, or where all paths begin.
-fn begins_at<'a>(root: &'a str, entry: &str) -> &'a str
-    ensures { result.now ≡ begins_at root.now entry.now }
-{
-    if entry.starts_with('/') { "/" } else { root }
 }
 
 /// Whether a name is `**`, or the empty one behind a slash right behind that.

@@ -1,5 +1,5 @@
 //! What a feature turns on, by any number of steps.
-ghost use Rattle.std.specs.Prelude.{◌≡◌, ◌&&◌, IfOk, IsTrue};
+ghost use Rattle.std.specs.Prelude.{◌≡◌, IfOk, IsTrue};
 ghost use Rattle.cargo_toml.specs.{Action.IsJoin, Action.Text, Graph.Table, Views.action_at};
 ghost use Rattle.cargo_toml.specs.{Views.set_has};
 ghost use Rattle.cargo_toml_lint.specs.Linked.{AreFound, AreLinks};
@@ -35,7 +35,7 @@ pub(crate) fn reach<'m, S: BuildHasher>(
 {
     let mut names = links.turned_on(alloc, name)?;
     let actions = actions_of(alloc, features, &names)?;
-    keep_told(&mut names, features, name);
+    names.retain(|other| is_beside(features, name, *other));
     Ok(Reached {
         features: names,
         actions,
@@ -59,18 +59,6 @@ fn actions_of<'m, S: BuildHasher>(
         }
     }
     Ok(actions)
-}
-
-/// Leaves those that are told of beside the feature of this name.
-fn keep_told<'a, 'm, S: BuildHasher>(
-    names: &mut BTreeSet<&'m str>,
-    features: &'a FeatureMap<'m, S>,
-    name: &'a str,
-)
-    ensures { (x : Text) → set_has names.new x
-        ≡ (set_has names.old x && is_beside features.now name.now x) }
-{
-    names.retain(|other| is_beside(features, name, *other));
 }
 
 /// Whether the last is another feature, and isn't private.

@@ -4,7 +4,7 @@ ghost use Rattle.cargo_toml.specs.{Limits.MAX_ITEMS, Manifests.held, Parsed.IsPa
 ghost use Rattle.cargo_toml.specs.{Reached.IsKeyed, Views.answer_of};
 ghost use Rattle.cargo_toml_tools.specs.FromFiles.{IsDocumented, IsOfInput, IsUndocumented};
 
-use crate::document::{Page, TakesRows, graph, rows};
+use crate::document::{TakesRows, graph, rows};
 use cargo_toml::features::{Features, Resolver};
 use cargo_toml::{Error, Manifest};
 use cargo_toml_manifest::HeldManifest;
@@ -43,9 +43,9 @@ pub fn document_text<R: RandomSource + AllocGlobal>(
     if dot {
         return graph_of(rt, text);
     }
-    let mut page = Page::new(rt.alloc());
+    let mut page = String::new(rt.alloc());
     document(rt, text, &mut page)?;
-    Ok(page.text)
+    Ok(page)
 }
 
 /// The graph of the features of the manifest in this text.

@@ -1,10 +1,9 @@
-use Rattle.std.proofs.Common.{rules, ℕ, Bool, IsTrue}
+use Rattle.std.proofs.Common.{Bool, IsTrue, rules, ℕ}
 use Rattle.cargo_toml.specs.Manifests.{ManifestMeaning, manifest_meaning}
 use Rattle.cargo_toml.specs.Parsed.{IsParsed, parsed_entries, parsed_table, requirements}
-use Rattle.cargo_toml.specs.{Action.Text, Admitted.admitted, OwnBins.own_of, Removal.is_removed, Resolved.Answer, Limits.MAX_ITEMS, Views.answer_of}
-use Rattle.cargo_toml_graph.proofs.InByteOrder.{passed_once}
-use Rattle.cargo_toml_features.proofs.Agreement.{settled}
-use Rattle.cargo_toml_bench.specs.Alike.{AreAlike}
+use Rattle.{cargo_toml.specs.Action.Text, cargo_toml.specs.Admitted.admitted, cargo_toml.specs.Limits.MAX_ITEMS, cargo_toml.specs.OwnBins.own_of}
+use Rattle.{cargo_toml.specs.Removal.is_removed, cargo_toml.specs.Resolved.Answer, cargo_toml.specs.Views.answer_of, cargo_toml_bench.specs.Alike.AreAlike}
+use Rattle.{cargo_toml_features.proofs.Agreement.settled, cargo_toml_graph.proofs.InByteOrder.passed_once}
 use Rattle.cargo_toml_bench.proofs.bodies.resolve_by_both.Goals as goal
 
 -- Two answers to one manifest.

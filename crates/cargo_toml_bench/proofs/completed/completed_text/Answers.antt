@@ -1,18 +1,17 @@
-use Rattle.std.proofs.Common.{arith, IfSome, Option, Some, option_map, string_bytes, subst, sym}
-use Rattle.std.proofs.lemmas.Result.{IfOk-weaker}
-use Rattle.toml.specs.{Parse.parse_document, View.view, declared.value.Value.Value}
-use Rattle.cargo_toml.specs.{Asked.WorkspaceMeets, Choosing.from, Manifest.Manifest, Manifests.held, Manifests.manifest_meaning, Reread.SharedIsTold}
-use Rattle.cargo_toml.specs.{Reread.told, Sharing.shared_of}
-use Rattle.cargo_toml_package.specs.{declared.workspace.Workspace.Workspace, Workspaces.workspace_meaning}
-use Rattle.cargo_toml_bench.specs.{Printing.Spells, Versioned.IsPrinted}
+use Rattle.{std.proofs.lemmas.Result.IfOk-weaker, toml.specs.Parse.parse_document, toml.specs.View.view, toml.specs.declared.value.Value.Value}
+use Rattle.std.proofs.Common.{IfSome, Option, Some, arith, option_map, string_bytes, subst, sym}
+use Rattle.{cargo_toml.specs.Asked.WorkspaceMeets, cargo_toml.specs.Choosing.from, cargo_toml.specs.Manifest.Manifest, cargo_toml.specs.Manifests.held}
+use Rattle.{cargo_toml.specs.Manifests.manifest_meaning, cargo_toml.specs.Reread.IsTold, cargo_toml.specs.Reread.SharedIsTold, cargo_toml.specs.Reread.told}
+use Rattle.{cargo_toml.specs.Sharing.shared_of, cargo_toml_bench.specs.Spelled.Spells, cargo_toml_bench.specs.Versioned.IsPrinted}
+use Rattle.{cargo_toml_package.specs.Workspaces.workspace_meaning, cargo_toml_package.specs.declared.workspace.Workspace.Workspace}
 use Rattle.cargo_toml_bench.proofs.completed.completed_text.Goals as goal
 
 -- what a workspace that is told gives is told
 shared_told : (w : Option (Workspace Value)) → IfSome (option_map (workspace_meaning view) w) (WorkspaceMeets told) → IfSome (shared_of w) SharedIsTold
 shared_told w h = grind arith
 
-pub manifest_text-requires : goal.manifest_text-requires
-manifest_text-requires g c =
+pub returns : goal.returns
+returns g c =
     let old : Manifest Value = c.deref_mut-manifest.result.now in
     let new : Manifest Value = c.complete_from_abstract_filesystem.new.self in
     let workspace : Manifest Value = c.deref.result.now in
@@ -22,22 +21,19 @@ manifest_text-requires g c =
     let root_spelled : Spells c.args.root.now (manifest_meaning view workspace) =
     subst (λ (x : Manifest Value). Spells c.args.root.now (manifest_meaning view x)) (sym c.deref.ensures) c.in_ok-root.ensures.manifest in
     let law = c.completed_manifests_are_told.ensures in
-    let given = c.in_ok-complete_from_abstract_filesystem.ensures.completed.given in
+    let completed = c.in_ok-complete_from_abstract_filesystem.ensures.completed in
+    let is_told : IsTold (manifest_meaning view new) =
     (law.alike new).0 (law.completed (held old) (held new) (from (Some (shared_of workspace.workspace, c.args.path.now))) _
     ((law.alike old).1 (read (parse_document c.args.member.now) (manifest_meaning view old) spelled.reads))
-    (shared_told workspace.workspace (read (parse_document c.args.root.now) (manifest_meaning view workspace) root_spelled.reads).workspace) given.2.1)
-
-pub returns : goal.returns
-returns g c =
-    let old : Manifest Value = c.deref_mut-manifest.result.now in
-    let new : Manifest Value = c.complete_from_abstract_filesystem.new.self in
-    let workspace : Manifest Value = c.deref.result.now in
-    IfOk-weaker c.manifest_text.result (λ text. IsPrinted (manifest_meaning view new) (string_bytes text)) _ (λ text printed. record {
+    (shared_told workspace.workspace (read (parse_document c.args.root.now) (manifest_meaning view workspace) root_spelled.reads).workspace) completed.given.2.1) in
+    IfOk-weaker c.manifest_text.result (λ text. IsTold (manifest_meaning view new) → IsPrinted (manifest_meaning view new) (string_bytes text)) _
+    (λ text printed. record {
       member = old;
-      spelled = subst (λ (x : Manifest Value). Spells c.args.member.now (manifest_meaning view x)) (sym c.deref_mut-manifest.ensures.value) c.in_ok-held.ensures.manifest;
+      spelled = spelled;
       workspace = workspace;
-      root_spelled = subst (λ (x : Manifest Value). Spells c.args.root.now (manifest_meaning view x)) (sym c.deref.ensures) c.in_ok-root.ensures.manifest;
+      root_spelled = root_spelled;
       whole = new;
-      completed = c.in_ok-complete_from_abstract_filesystem.ensures.completed;
-      printed = printed;
-    }) c.manifest_text.ensures
+      completed = completed;
+      printed = printed is_told;
+    })
+    c.manifest_text.ensures

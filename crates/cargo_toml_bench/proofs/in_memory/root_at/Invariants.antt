@@ -1,5 +1,4 @@
-use Rattle.std.{proofs.Common.◌≡◌, proofs.Common.drop, specs.Option.option_copied}
-use Rattle.cargo_toml_bench.specs.InMemory.{told_root_at}
+use Rattle.{std.proofs.Common.◌≡◌, std.proofs.Common.drop, std.specs.Option.option_copied, cargo_toml_bench.specs.InMemory.told_root_at}
 use Rattle.cargo_toml_bench.proofs.in_memory.root_at.Given as goal
 
 abbrev pub invariant-loop-root : goal.invariant-loop-root

@@ -1,8 +1,6 @@
-use Rattle.std.proofs.Common.{◌≡◌, ℕ, Bool, true, cond, ◌||◌, List, [], ◌∷◌, ◌++◌, map, take, get_or, length, ◌+◌, ◌<◌, sym, arith, string_bytes}
-use Rattle.std.proofs.Math.Bool.{or-false, or_assoc}
-use Rattle.std.proofs.lemmas.{List.take_more, List.map_push, Map.Text.hash_set_updates_text}
-use Rattle.std.specs.{Str.bytes_eq, List.list_any}
-use Rattle.cargo_toml_graph.proofs.Texts.{bytes_eq_sym}
+use Rattle.{std.proofs.Math.Bool.or-false, std.proofs.Math.Bool.or_assoc, std.proofs.lemmas.List.map_push, std.proofs.lemmas.List.take_more}
+use Rattle.{std.proofs.lemmas.Map.Text.hash_set_updates_text, std.specs.List.list_any, std.specs.Str.bytes_eq, cargo_toml_graph.proofs.Texts.bytes_eq_sym}
+use Rattle.std.proofs.Common.{[], ◌++◌, ◌+◌, ◌<◌, ◌||◌, ◌∷◌, ◌≡◌, Bool, List, arith, cond, get_or, length, map, string_bytes, sym, take, true, ℕ}
 use Rattle.cargo_toml_bench.proofs.in_memory.set_of.Goals as goal
 
 -- A set of texts that takes one more.

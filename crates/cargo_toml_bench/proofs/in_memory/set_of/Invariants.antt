@@ -1,5 +1,4 @@
-use Rattle.std.proofs.Common.{map, take, string_bytes}
-use Rattle.cargo_toml.specs.Folders.{HasTexts}
+use Rattle.{std.proofs.Common.map, std.proofs.Common.string_bytes, std.proofs.Common.take, cargo_toml.specs.Folders.HasTexts}
 use Rattle.cargo_toml_bench.proofs.in_memory.set_of.Given as goal
 
 abbrev pub invariant-loop-name : goal.invariant-loop-name

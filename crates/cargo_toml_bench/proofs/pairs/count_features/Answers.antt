@@ -5,7 +5,7 @@ use Rattle.cargo_toml.specs.{Error.Error, Filter.Asked, Completing.Outcome, Lent
 use Rattle.cargo_toml.specs.{Manifest.Manifest, Manifests.ManifestMeaning, Manifests.held, Parsed.IsParsed, Parsed.IsParsedBy, Parsed.parsed_table}
 use Rattle.cargo_toml.specs.{Views.answer_of, Views.resolution_of, Views.value_at, Action.Text, Feature.Feature, Graph.IsResolved, Reach.Among, Reach.IsOnce}
 use Rattle.cargo_toml_features.specs.declared.features.Features.{Features}
-use Rattle.cargo_toml_bench.proofs.Asked.{keeps_none, parsed_at}
+use Rattle.cargo_toml_bench.proofs.Asked.{parsed_at, tells_none}
 use Rattle.cargo_toml_graph.{specs.Removal.lists_text, proofs.BinLists.among-true, proofs.BinLists.is_among-true}
 use Rattle.cargo_toml_resolve.specs.Texts.{texts_now}
 use Rattle.cargo_toml_bench.specs.Pairs.{IsFeatureCount, IsHidden}
@@ -27,7 +27,7 @@ module _ {M F S H : Type 0} (old new : Manifest M) (outcome : Outcome (ManifestM
   parsed_of_left unfiltered same lent slot a left is there told =
       let by : IsParsedBy limit (held new) g filter (answer_of a) =
       told_of lent a left (subst (λ s. IsSome (with_lent lent s)) is there) (subst (λ s. Told (with_lent lent s)) is told) in
-      parsed_at (λ _. false) (answer_of a) same (held new) (by.told (λ _. false) (keeps_none g filter unfiltered))
+      parsed_at (λ _. false) (answer_of a) same (held new) (by.told (λ _. false) (tells_none g filter (λ _. false) unfiltered (λ n. refl)))
 
 -- How many features a map has: their names, each once.
 listed_keys : (ks : List (Bor Text)) (f : Text) → lists_text (texts_now ks) f ≡ list_any (λ (k : Bor Text). bytes_eq f k.now) ks

@@ -1,9 +1,6 @@
-use Rattle.std.proofs.Common.{sym, subst}
-use Rattle.std.proofs.lemmas.{List.nil_from_length, Option.MatchOption-at_none}
-use Rattle.cargo_toml_graph.specs.Reach.{IsOnce}
-use Rattle.cargo_toml_resolve.specs.Texts.{texts_now}
-use Rattle.cargo_toml_bench.specs.Removing.{ChangesAll, Loses}
-use Rattle.cargo_toml_bench.proofs.Taken.{nothing_changes, turn}
+use Rattle.{std.proofs.Common.subst, std.proofs.Common.sym, std.proofs.lemmas.List.nil_from_length, std.proofs.lemmas.Option.MatchOption-at_none}
+use Rattle.{cargo_toml_bench.proofs.Taken.nothing_changes, cargo_toml_bench.proofs.Taken.turn, cargo_toml_bench.specs.Removing.ChangesAll}
+use Rattle.{cargo_toml_bench.specs.Removing.Loses, cargo_toml_graph.specs.Reach.IsOnce, cargo_toml_resolve.specs.Texts.texts_now}
 use Rattle.cargo_toml_bench.proofs.plain.+lose_all.Goals as goal
 
 pub returns-in_default : goal.returns-in_default

@@ -1,6 +1,5 @@
-use Rattle.std.proofs.Common.{ap, sym, ◌∙◌}
-use Rattle.std.specs.Option.{option_copied_mut}
-use Rattle.cargo_toml_bench.{specs.Removing.Loses, proofs.Taken.changed_at}
+use Rattle.{std.specs.Option.option_copied_mut, cargo_toml_bench.proofs.Taken.changed_at, cargo_toml_bench.specs.Removing.Loses}
+use Rattle.std.proofs.Common.{◌∙◌, ap, sym}
 use Rattle.cargo_toml_bench.proofs.plain.lose_at.Goals as goal
 
 pub returns-in_ok-lose : goal.returns-in_ok-lose

@@ -1,8 +1,7 @@
-use Rattle.std.proofs.Common.{◌≡◌, ◌||◌, List, [], ◌∷◌, bytes_eq, refl, ap₂, rules, true, false, Bor, ap, sym, ◌∙◌}
-use Rattle.std.proofs.lemmas.{Bool.cond-true, Bool.cond-false, List.map_push}
-use Rattle.std.specs.List.{list_any}
-use Rattle.cargo_toml_graph.{specs.Action.Text, specs.Removal.lists_text, proofs.Texts.bytes_eq_sym}
-use Rattle.cargo_toml_resolve.specs.Texts.{texts_now}
+use Rattle.{std.proofs.lemmas.List.map_push, std.specs.List.list_any, cargo_toml_graph.proofs.Texts.bytes_eq_sym, cargo_toml_graph.specs.Action.Text}
+use Rattle.std.proofs.Common.{[], ◌||◌, ◌∙◌, ◌∷◌, ◌≡◌, Bor, List, ap, ap₂, bytes_eq, false, refl, rules, sym, true}
+use Rattle.std.proofs.lemmas.Bool.{cond-false, cond-true}
+use Rattle.{cargo_toml_graph.specs.Removal.lists_text, cargo_toml_resolve.specs.Texts.texts_now}
 use Rattle.cargo_toml_bench.proofs.plain.put_bin.Goals as goal
 
 -- What stands in a list of texts.

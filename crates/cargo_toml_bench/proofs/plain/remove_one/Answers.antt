@@ -1,5 +1,4 @@
-use Rattle.std.proofs.Common.{sym, ◌∙◌}
-use Rattle.cargo_toml_bench.proofs.Taken.{redirected, taken_out}
+use Rattle.{std.proofs.Common.◌∙◌, std.proofs.Common.sym, cargo_toml_bench.proofs.Taken.redirected, cargo_toml_bench.proofs.Taken.taken_out}
 use Rattle.cargo_toml_bench.proofs.plain.remove_one.Goals as goal
 
 pub returns-in_ok-insert : goal.returns-in_ok-insert

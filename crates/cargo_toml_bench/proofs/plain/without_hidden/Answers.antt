@@ -1,8 +1,7 @@
-use Rattle.std.proofs.Common.{◌≡◌, ◌∙◌, None, ap, not, subst, sym}
-use Rattle.cargo_toml_graph.specs.{Action.Text, Ascending.Ascend, Removal.lists_text}
-use Rattle.cargo_toml_features.specs.Views.{value_at}
-use Rattle.cargo_toml_resolve.specs.Texts.{texts_now}
+use Rattle.std.proofs.Common.{◌∙◌, ◌≡◌, None, ap, not, subst, sym}
 use Rattle.cargo_toml_bench.proofs.Resolving.{answers, some_is}
+use Rattle.{cargo_toml_features.specs.Views.value_at, cargo_toml_graph.specs.Action.Text, cargo_toml_graph.specs.Ascending.Ascend}
+use Rattle.{cargo_toml_graph.specs.Removal.lists_text, cargo_toml_resolve.specs.Texts.texts_now}
 use Rattle.cargo_toml_bench.proofs.plain.without_hidden.Goals as goal
 
 pub returns : goal.returns

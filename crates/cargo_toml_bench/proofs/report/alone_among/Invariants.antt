@@ -1,6 +1,5 @@
-use Rattle.std.{proofs.Common.◌≡◌, proofs.Common.take, specs.Prelude.filter}
-use Rattle.cargo_toml_resolve.specs.Texts.{texts_now}
-use Rattle.cargo_toml_bench.specs.{Alone.is_alone_at, Reports.texts}
+use Rattle.{std.specs.Prelude.filter, cargo_toml_bench.specs.Alone.is_alone_at, cargo_toml_bench.specs.Reports.texts, cargo_toml_resolve.specs.Texts.texts_now}
+use Rattle.std.proofs.Common.{◌≡◌, take}
 use Rattle.cargo_toml_bench.proofs.report.alone_among.Given as goal
 
 abbrev pub invariant-loop-name : goal.invariant-loop-name

@@ -1,8 +1,7 @@
-use Rattle.std.proofs.Common.{◌≡◌, ◌∙◌, IfOk, sym}
-use Rattle.std.proofs.lemmas.{Bool.Decides.same_from_decides, Iterator.items_from_collect, Result.IfOk-weaker}
+use Rattle.{std.proofs.Common.◌∙◌, std.proofs.Common.◌≡◌, std.proofs.Common.IfOk, std.proofs.Common.sym, std.proofs.lemmas.Bool.Decides.same_from_decides}
+use Rattle.{std.proofs.lemmas.Iterator.items_from_collect, std.proofs.lemmas.Result.IfOk-weaker, cargo_toml_graph.proofs.BinLists.among-true}
 use Rattle.std.proofs.lemmas.Iterator.Consumers.{YieldsList-from_copied, YieldsList-from_rest}
-use Rattle.cargo_toml_graph.proofs.BinLists.{among-true, is_among-true}
-use Rattle.cargo_toml_resolve.proofs.InOrder.{all_taken, taken_in_order}
+use Rattle.{cargo_toml_graph.proofs.BinLists.is_among-true, cargo_toml_resolve.proofs.InOrder.all_taken, cargo_toml_resolve.proofs.InOrder.taken_in_order}
 use Rattle.cargo_toml_bench.proofs.sets.names_in_order.Goals as goal
 
 pub returns-clause-all : goal.returns-clause-all

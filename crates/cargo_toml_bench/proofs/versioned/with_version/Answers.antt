@@ -5,7 +5,7 @@ use Rattle.toml.specs.{Data.Data, View.view, declared.value.Value.Value, Parse.p
 use Rattle.cargo_toml.specs.Manifests.{ManifestMeaning, by_zero_rule, is_zero, manifest_meaning}
 use Rattle.cargo_toml.specs.{Inheritable.TheVariants.Set, Manifest.Manifest, Package.Package, Packages.PackageMeaning, Packages.package_meaning, Reread.IsTold}
 use Rattle.cargo_toml.specs.{Reread.reread, Versions.Parts, WrittenPackages.IsVersionAgain, WrittenPackages.VersionAgain}
-use Rattle.cargo_toml_bench.specs.{Versioned.with_version, Versioned.IsPrinted, Versioned.IsVersioned, Printing.Spells}
+use Rattle.cargo_toml_bench.specs.{Versioned.with_version, Versioned.IsPrinted, Versioned.IsVersioned, Spelled.Spells}
 use Rattle.cargo_toml_bench.proofs.versioned.with_version.Goals as goal
 
 -- A manifest with another version of its package: it is still told, and read again as it is.
@@ -32,18 +32,6 @@ meant_with : (v : Version) (m : Manifest Value) → manifest_meaning view (recor
     ≡ with_version (parts_of v) (manifest_meaning view m)
 meant_with v m = ap (λ (q : Option (PackageMeaning Data)). record (manifest_meaning view m) { «package» = q }) (package_meant v m.«package»)
 
-pub manifest_text-requires : goal.manifest_text-requires
-manifest_text-requires c =
-    let m : ManifestMeaning Data = manifest_meaning view c.deref_mut.result.now in
-    let v = parts_of c.in_ok-version.version in
-    let meant : manifest_meaning view c.deref.result.now ≡ with_version v m =
-    ap (manifest_meaning view) (c.deref.ensures ∙ c.set_version.ensures) ∙ meant_with c.in_ok-version.version c.deref_mut.result.now in
-    let spelled : Spells c.args.bytes.now m =
-    subst (λ (x : Manifest Value). Spells c.args.bytes.now (manifest_meaning view x)) (sym c.deref_mut.ensures.value) c.in_ok-held.ensures.manifest in
-    subst (λ (x : ManifestMeaning Data). IsTold x) (sym meant)
-    (told_with v m (c.read_manifests_are_told.ensures.of_document (parse_document c.args.bytes.now) m spelled.reads)
-    (c.read_dependencies_are_told.ensures.versions c.args.version.now v c.in_ok-version.ensures))
-
 pub returns : goal.returns
 returns c =
     let m : ManifestMeaning Data = manifest_meaning view c.deref_mut.result.now in
@@ -52,13 +40,19 @@ returns c =
     ap (manifest_meaning view) (c.deref.ensures ∙ c.set_version.ensures) ∙ meant_with c.in_ok-version.version c.deref_mut.result.now in
     let spelled : Spells c.args.bytes.now m =
     subst (λ (x : Manifest Value). Spells c.args.bytes.now (manifest_meaning view x)) (sym c.deref_mut.ensures.value) c.in_ok-held.ensures.manifest in
-    IfOk-weaker c.manifest_text.result (λ text. IsPrinted (manifest_meaning view c.deref.result.now) (string_bytes text)) (λ text. IsVersioned c.args.bytes.now c.args.version.now (string_bytes text))
+    let is_told : IsTold (manifest_meaning view c.deref.result.now) =
+    subst (λ (x : ManifestMeaning Data). IsTold x) (sym meant)
+    (told_with v m (c.read_manifests_are_told.ensures.of_document (parse_document c.args.bytes.now) m spelled.reads)
+    (c.read_dependencies_are_told.ensures.versions c.args.version.now v c.in_ok-version.ensures)) in
+    IfOk-weaker c.manifest_text.result
+    (λ text. IsTold (manifest_meaning view c.deref.result.now) → IsPrinted (manifest_meaning view c.deref.result.now) (string_bytes text))
+    (λ text. IsVersioned c.args.bytes.now c.args.version.now (string_bytes text))
     (λ text printed. record {
       manifest = m;
       spelled = spelled;
       parts = v;
       version = c.in_ok-version.ensures;
-      printed = subst (λ (x : ManifestMeaning Data). IsPrinted x (string_bytes text)) meant printed;
+      printed = subst (λ (x : ManifestMeaning Data). IsPrinted x (string_bytes text)) meant (printed is_told);
       same = λ says zero. same_with v m (c.read_manifests_are_told.ensures.stays (parse_document c.args.bytes.now) m spelled.reads says) zero;
     })
     c.manifest_text.ensures

@@ -1,11 +1,8 @@
-use Rattle.std.proofs.Common.{◌≡◌, ◌↔◌, ◌∙◌, List, [], IsSome, Option, ap, length, subst, sym}
-use Rattle.std.proofs.lemmas.Result.{IfOk-weaker}
-use Rattle.toml.specs.{Data.Data, Parse.parse_document}
-use Rattle.toml.proofs.Views.{view-Table}
-use Rattle.cargo_toml.specs.{Manifests.ManifestMeaning, Manifests.manifest_reads, Texts.any_tree}
-use Rattle.cargo_toml.specs.{Texts.document_reads}
-use Rattle.cargo_toml_check.specs.{Blamed.reads, declared.search.Fault.Fault}
-use Rattle.cargo_toml_check.proofs.Silent.{alike_empty}
+use Rattle.{std.proofs.lemmas.Result.IfOk-weaker, toml.proofs.Views.view-Table, toml.specs.Data.Data, toml.specs.Parse.parse_document}
+use Rattle.std.proofs.Common.{[], ◌↔◌, ◌∙◌, ◌≡◌, IsSome, List, Option, ap, length, subst, sym}
+use Rattle.cargo_toml.specs.Manifests.{ManifestMeaning, manifest_reads}
+use Rattle.cargo_toml.specs.Texts.{any_tree, document_reads}
+use Rattle.{cargo_toml_check.proofs.Silent.alike_empty, cargo_toml_check.specs.Blamed.reads, cargo_toml_check.specs.declared.search.Fault.Fault}
 use Rattle.cargo_toml_check.proofs.check.faults_in.Goals as goal
 
 pub returns : goal.returns

@@ -1,7 +1,5 @@
 use Rattle.std.proofs.Common.{◌≡◌, map}
-use Rattle.serde_json.specs.View.{members_view}
-use Rattle.cargo_toml_check.specs.Listed.{action_json}
-use Rattle.cargo_toml_tools.specs.IndexEntries.{with_rows}
+use Rattle.{serde_json.specs.View.members_view, cargo_toml_check.specs.Listed.action_json, cargo_toml_tools.specs.IndexEntries.with_rows}
 use Rattle.cargo_toml_check.proofs.features.actions_json.Given as goal
 
 abbrev pub invariant-loop-key : goal.invariant-loop-key

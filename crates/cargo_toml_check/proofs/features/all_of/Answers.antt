@@ -1,11 +1,8 @@
-use Rattle.std.proofs.Common.{◌≡◌, ◌∙◌, Bor, List, ap, rules}
-use Rattle.std.proofs.lemmas.Map.Iter.{rest_all, rest_more}
-use Rattle.std.specs.{List.flat_map, Map.Iter.deref}
-use Rattle.serde_json.specs.{Data.no_members, Data.object, View.members_view}
-use Rattle.cargo_toml.specs.Action.{Text}
-use Rattle.cargo_toml_check.specs.Listed.{row_at}
-use Rattle.cargo_toml_tools.specs.IndexEntries.{with_rows}
+use Rattle.{std.proofs.lemmas.Map.Iter.rest_all, std.proofs.lemmas.Map.Iter.rest_more, std.specs.List.flat_map, std.specs.Map.Iter.deref}
+use Rattle.std.proofs.Common.{◌∙◌, ◌≡◌, Bor, List, ap, rules}
 use Rattle.cargo_toml_check.proofs.Blaming.{rows_all, rows_more}
+use Rattle.{serde_json.specs.Data.no_members, serde_json.specs.Data.object, serde_json.specs.View.members_view, cargo_toml.specs.Action.Text}
+use Rattle.{cargo_toml_check.specs.Listed.row_at, cargo_toml_tools.specs.IndexEntries.with_rows}
 use Rattle.cargo_toml_check.proofs.features.all_of.Goals as goal
 
 pub loop-name-preserved : goal.loop-name-preserved

@@ -1,7 +1,4 @@
-use Rattle.std.proofs.Common.{◌≡◌}
-use Rattle.std.specs.List.{flat_map}
-use Rattle.serde_json.specs.View.{members_view}
-use Rattle.cargo_toml_check.specs.Listed.{row_at}
+use Rattle.{std.proofs.Common.◌≡◌, std.specs.List.flat_map, serde_json.specs.View.members_view, cargo_toml_check.specs.Listed.row_at}
 use Rattle.cargo_toml_tools.specs.IndexEntries.{with_rows}
 use Rattle.cargo_toml_check.proofs.features.all_of.Given as goal
 

@@ -1,6 +1,5 @@
-use Rattle.std.proofs.Common.{◌≡◌}
-use Rattle.cargo_toml.specs.{Reads.map_meaning, Reads.pairs_meaning, Targets.target_meaning}
-use Rattle.cargo_toml_check.specs.Listed.{are_cut_targets}
+use Rattle.{std.proofs.Common.◌≡◌, cargo_toml.specs.Targets.target_meaning, cargo_toml_check.specs.Listed.are_cut_targets}
+use Rattle.cargo_toml.specs.Reads.{map_meaning, pairs_meaning}
 use Rattle.cargo_toml_check.proofs.features.are_cut_targets.Given as goal
 
 abbrev pub invariant-loop-name : goal.invariant-loop-name

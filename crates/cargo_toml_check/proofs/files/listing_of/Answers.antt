@@ -1,9 +1,6 @@
-use Rattle.std.proofs.Common.{Bool, false}
-use Rattle.std.proofs.lemmas.Result.{err_from_is_err_and}
-use Rattle.serde_json.specs.View.{view}
-use Rattle.cargo_toml.specs.{Action.Text, Manifests.held, Views.answer_of}
-use Rattle.cargo_toml_discovery.proofs.Faults.{from_input}
+use Rattle.{std.proofs.Common.Bool, std.proofs.Common.false, std.proofs.lemmas.Result.err_from_is_err_and, serde_json.specs.View.view}
 use Rattle.cargo_toml_lint.proofs.Resolving.{parsed_at, tells_of}
+use Rattle.{cargo_toml.specs.Action.Text, cargo_toml.specs.Manifests.held, cargo_toml.specs.Views.answer_of, cargo_toml_discovery.proofs.Faults.from_input}
 use Rattle.cargo_toml_check.proofs.files.listing_of.Goals as goal
 
 pub returns-in_err-state-clause-refused : goal.returns-in_err-state-clause-refused

@@ -1,9 +1,7 @@
-use Rattle.std.proofs.Common.{◌≡◌, ◌<◌, ◌∙◌, length, map, ap, arith, false, is_some}
-use Rattle.std.proofs.{lemmas.List.map-append, lemmas.Grind.common_steps}
-use Rattle.toml.specs.View.{view}
-use Rattle.cargo_toml_check.specs.Blamed.{blamed_parts, inner_paths, path_of, reads_alone}
-use Rattle.cargo_toml_check.specs.Alone.{part_of}
+use Rattle.{std.proofs.lemmas.Grind.common_steps, std.proofs.lemmas.List.map-append, toml.specs.View.view, cargo_toml_check.specs.Alone.part_of}
+use Rattle.std.proofs.Common.{◌<◌, ◌∙◌, ◌≡◌, ap, arith, false, is_some, length, map}
 use Rattle.cargo_toml_check.proofs.Blaming.{told_inner}
+use Rattle.cargo_toml_check.specs.Blamed.{blamed_parts, inner_paths, path_of, reads_alone}
 use Rattle.cargo_toml_check.proofs.search.+blame.Goals as goal
 
 pub blame-returns-clause-found : goal.blame-returns-clause-found

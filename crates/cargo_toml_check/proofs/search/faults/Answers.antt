@@ -1,7 +1,6 @@
 use Rattle.std.proofs.Common.{[], is_some}
-use Rattle.toml.specs.View.{view}
 use Rattle.cargo_toml_check.specs.Blamed.{blamed_parts, inner_paths, reads}
-use Rattle.cargo_toml_check.proofs.Silent.{silent_by}
+use Rattle.{toml.specs.View.view, cargo_toml_check.proofs.Silent.silent_by}
 use Rattle.cargo_toml_check.proofs.search.faults.Goals as goal
 
 pub returns-clause-silent : goal.returns-clause-silent

@@ -1,9 +1,6 @@
-use Rattle.std.proofs.Common.{◌≡◌, ◌∙◌, ap, map, rules}
-use Rattle.std.proofs.lemmas.List.{take_all}
-use Rattle.serde_json.specs.{Data.array, View.items_of}
-use Rattle.toml.specs.View.{view}
-use Rattle.cargo_toml_check.specs.Shown.{json_of}
-use Rattle.cargo_toml_check.proofs.Blaming.{items_json}
+use Rattle.{std.proofs.lemmas.List.take_all, toml.specs.View.view, serde_json.specs.Data.array, serde_json.specs.View.items_of}
+use Rattle.std.proofs.Common.{◌∙◌, ◌≡◌, ap, map, rules}
+use Rattle.{cargo_toml_check.proofs.Blaming.items_json, cargo_toml_check.specs.Shown.json_of}
 use Rattle.cargo_toml_check.proofs.show.+json.Goals as goal
 
 pub array_of-returns : goal.array_of-returns

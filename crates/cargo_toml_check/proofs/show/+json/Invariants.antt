@@ -1,7 +1,6 @@
-use Rattle.std.proofs.Common.{◌≡◌, map, take}
-use Rattle.serde_json.specs.View as json
-use Rattle.toml.specs.View.{members_view, view}
+use Rattle.{std.proofs.Common.◌≡◌, std.proofs.Common.map, std.proofs.Common.take, toml.specs.View.members_view, toml.specs.View.view}
 use Rattle.cargo_toml_check.specs.Shown.{json_of, with_json}
+use Rattle.serde_json.specs.View as json
 use Rattle.cargo_toml_check.proofs.show.+json.Given as goal
 
 abbrev pub invariant-array_of-items : goal.invariant-array_of-items

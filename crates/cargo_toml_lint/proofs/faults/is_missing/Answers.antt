@@ -1,4 +1,4 @@
-use Rattle.std.proofs.Common.{rules}
+use Rattle.cargo_toml_lint.proofs.Cited.{rules}
 use Rattle.cargo_toml_lint.proofs.Items.{acting, naming}
 use Rattle.cargo_toml_lint.proofs.faults.is_missing.Goals as goal
 

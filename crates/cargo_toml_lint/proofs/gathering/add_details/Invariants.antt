@@ -1,7 +1,4 @@
-use Rattle.std.proofs.Common.{◌≡◌, ◌++◌, [], Some, map, string_bytes}
-use Rattle.std.specs.List.{flat_map}
-use Rattle.cargo_toml.specs.{Action.Text, Details.Detail, Details.detail_of, Reads.map_meaning}
-use Rattle.cargo_toml_lint.specs.{Findings.about, Findings.told, declared.finding.Code.TheVariants.FeatureTable}
+use Rattle.cargo_toml_lint.proofs.Cited.{◌++◌, ◌≡◌, [], about, Detail, detail_of, FeatureTable, flat_map, map, map_meaning, Some, string_bytes, Text, told}
 use Rattle.cargo_toml_lint.proofs.gathering.add_details.Given as goal
 
 abbrev pub invariant-loop-name : goal.invariant-loop-name

@@ -1,7 +1,4 @@
-use Rattle.std.proofs.Common.{◌≡◌, ◌++◌, List, map}
-use Rattle.cargo_toml.specs.Action.{Text}
-use Rattle.std.specs.List.{flat_map}
-use Rattle.cargo_toml_lint.specs.{Findings.about, Findings.feature_findings, Names.held_names, Names.listed_by, Steps.is_beyond}
+use Rattle.cargo_toml_lint.proofs.Cited.{◌++◌, ◌≡◌, about, feature_findings, flat_map, held_names, is_beyond, List, listed_by, map, Text}
 use Rattle.cargo_toml_lint.proofs.Gathered.{list_of}
 use Rattle.cargo_toml_lint.proofs.gathering.add_features.Given as goal
 

@@ -1,5 +1,4 @@
-use Rattle.std.proofs.Common.{◌≡◌, ◌++◌, map, string_bytes, take}
-use Rattle.cargo_toml_lint.specs.{Findings.about, Findings.required_findings, Names.held_names}
+use Rattle.cargo_toml_lint.proofs.Cited.{◌++◌, ◌≡◌, about, held_names, map, required_findings, string_bytes, take}
 use Rattle.cargo_toml_lint.proofs.gathering.add_product.Given as goal
 
 abbrev pub invariant-loop-text : goal.invariant-loop-text

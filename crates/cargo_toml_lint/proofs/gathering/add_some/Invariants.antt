@@ -1,7 +1,4 @@
-use Rattle.std.proofs.Common.{◌≡◌, ◌++◌, map, take}
-use Rattle.std.specs.List.{flat_map}
-use Rattle.cargo_toml.specs.Products.{product_meaning}
-use Rattle.cargo_toml_lint.specs.{Findings.about, Findings.product_findings, Names.held_names}
+use Rattle.cargo_toml_lint.proofs.Cited.{◌++◌, ◌≡◌, about, flat_map, held_names, map, product_findings, product_meaning, take}
 use Rattle.cargo_toml_lint.proofs.gathering.add_some.Given as goal
 
 abbrev pub invariant-loop-product : goal.invariant-loop-product

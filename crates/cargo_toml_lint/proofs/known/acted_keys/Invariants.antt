@@ -1,6 +1,5 @@
-use Rattle.std.proofs.Common.{◌≡◌, ◌++◌, map, string_bytes}
-use Rattle.cargo_toml_lint.{specs.Known.acted_keys, specs.Names.key_of, proofs.Gathered.list_of}
-use Rattle.cargo_toml.specs.Reads.{map_meaning}
+use Rattle.cargo_toml_lint.proofs.Cited.{◌++◌, ◌≡◌, acted_keys, key_of, map, map_meaning, string_bytes}
+use Rattle.cargo_toml_lint.proofs.Gathered.{list_of}
 use Rattle.cargo_toml_lint.proofs.known.acted_keys.Given as goal
 
 abbrev pub invariant-loop-texts : goal.invariant-loop-texts

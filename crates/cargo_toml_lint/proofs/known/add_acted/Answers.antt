@@ -1,4 +1,4 @@
-use Rattle.std.proofs.{Common.rules, lemmas.List.append-nil, lemmas.List.map_push}
+use Rattle.cargo_toml_lint.proofs.Cited.{append-nil, map_push, rules}
 use Rattle.cargo_toml_lint.proofs.Items.{acting, naming}
 use Rattle.cargo_toml_lint.proofs.known.add_acted.Goals as goal
 

@@ -1,5 +1,4 @@
-use Rattle.std.proofs.Common.{◌≡◌, ◌++◌, map, string_bytes, take}
-use Rattle.cargo_toml_lint.specs.{Known.acted_by, Names.key_of}
+use Rattle.cargo_toml_lint.proofs.Cited.{◌++◌, ◌≡◌, acted_by, key_of, map, string_bytes, take}
 use Rattle.cargo_toml_lint.proofs.known.add_list.Given as goal
 
 abbrev pub invariant-loop-text : goal.invariant-loop-text

@@ -1,6 +1,5 @@
-use Rattle.std.proofs.Common.{◌≡◌, ◌++◌, map}
-use Rattle.cargo_toml.specs.{Dependencies.dependency_meaning, Reads.map_meaning}
-use Rattle.cargo_toml_lint.{specs.Known.keys_in, specs.Names.key_of, proofs.Adding.entry_of}
+use Rattle.cargo_toml_lint.proofs.Cited.{◌++◌, ◌≡◌, dependency_meaning, key_of, keys_in, map, map_meaning}
+use Rattle.cargo_toml_lint.proofs.Adding.{entry_of}
 use Rattle.cargo_toml_lint.proofs.known.add_table.Given as goal
 
 abbrev pub invariant-loop-key : goal.invariant-loop-key

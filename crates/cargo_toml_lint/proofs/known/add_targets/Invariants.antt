@@ -1,6 +1,5 @@
-use Rattle.cargo_toml.specs.{Action.Text, Reads.map_meaning, Targets.TargetMeaning, Targets.target_meaning}
-use Rattle.std.{proofs.Common.◌≡◌, proofs.Common.◌++◌, proofs.Common.map, specs.List.flat_map}
-use Rattle.cargo_toml_lint.{specs.Known.target_keys, specs.Names.key_of, proofs.Adding.target_of}
+use Rattle.cargo_toml_lint.proofs.Cited.{◌++◌, ◌≡◌, flat_map, key_of, map, map_meaning, target_keys, target_meaning, TargetMeaning, Text}
+use Rattle.cargo_toml_lint.proofs.Adding.{target_of}
 use Rattle.cargo_toml_lint.proofs.known.add_targets.Given as goal
 
 abbrev pub invariant-loop-target : goal.invariant-loop-target

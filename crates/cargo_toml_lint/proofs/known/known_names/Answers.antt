@@ -1,24 +1,11 @@
-use Rattle.std.proofs.Common.{◌≡◌, ◌∙◌, Bool, List, ap, map}
-use Rattle.cargo_toml.specs.Action.{Text}
-use Rattle.cargo_toml_lint.specs.Known.{Marked, Names, has_key, has_marked}
-use Rattle.cargo_toml_lint.specs.Names.{key_of}
-use Rattle.cargo_toml_lint.specs.declared.known.Key.{Key}
+use Rattle.cargo_toml_lint.proofs.Cited.{◌∙◌, ap, false, has_key, is_name, key_of, map, map_meaning, string_bytes, true}
 use Rattle.cargo_toml_lint.proofs.known.known_names.Goals as goal
 
-held_as : {ks : Marked} (test : Marked → Text → Bool) (has : Text → Bool) (xs ys : List Key)
-    → ((k : Text) → has k ≡ test (map key_of xs) k) → xs ≡ ys → map key_of ys ≡ ks → has ≡ test ks
-held_as test has xs ys each same is =
-    λ i k. (each k ∙ ap (λ zs. test (map key_of zs) k) same ∙ ap (λ zs. test zs k) is) i
-
-all_same : (l : Text → Bool) {d e o p a b r s : Text → Bool} → d ≡ e → o ≡ p → a ≡ b → r ≡ s
-    → ◌≡◌ {A = Names} (record { listed = l; dependency = d; optional = o; acted = a; reserved = r })
-    (record { listed = l; dependency = e; optional = p; acted = b; reserved = s })
-all_same l d o a r =
-    λ i. record { listed = l; dependency = d i; optional = o i; acted = a i; reserved = r i }
-
 pub returns-clause-names : goal.returns-clause-names
-returns-clause-names g c = all_same _
-    (held_as has_key _ _ _ c.in_ok-all_of.ensures c.as_slice.ensures.value c.in_ok-keys.ensures)
-    (held_as has_marked _ _ _ c.in_ok-marked_of.ensures c.as_slice-2.ensures.value c.in_ok-keys.ensures)
-    (held_as has_key _ _ _ c.in_ok-all_of-2.ensures c.as_slice-3.ensures.value c.in_ok-acted.ensures)
-    (held_as has_marked _ _ _ c.in_ok-marked_of-2.ensures c.as_slice-4.ensures.value c.in_ok-acted.ensures)
+returns-clause-names g c = λ i. record {
+  listed = is_name (map_meaning (λ v. map string_bytes v.items) c.args.manifest.now.features);
+  dependency = λ k. (c.in_ok-set_of.ensures k ∙ ap (λ ks. has_key false (map key_of ks) k) c.as_slice.ensures.value ∙ ap (λ ks. has_key false ks k) c.in_ok-keys.ensures) i;
+  optional = λ k. (c.in_ok-set_of-2.ensures k ∙ ap (λ ks. has_key true (map key_of ks) k) c.as_slice-2.ensures.value ∙ ap (λ ks. has_key true ks k) c.in_ok-keys.ensures) i;
+  acted = λ k. (c.in_ok-set_of-3.ensures k ∙ ap (λ ks. has_key false (map key_of ks) k) c.as_slice-3.ensures.value ∙ ap (λ ks. has_key false ks k) c.in_ok-acted.ensures) i;
+  reserved = λ k. (c.in_ok-set_of-4.ensures k ∙ ap (λ ks. has_key true (map key_of ks) k) c.as_slice-4.ensures.value ∙ ap (λ ks. has_key true ks k) c.in_ok-acted.ensures) i;
+}

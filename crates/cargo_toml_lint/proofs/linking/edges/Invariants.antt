@@ -1,6 +1,4 @@
-use Rattle.std.proofs.Common.{map}
-use Rattle.cargo_toml_features.specs.Places.{nth_text}
-use Rattle.cargo_toml_lint.specs.{Linked.Passes, Names.held_names, Names.listed_by, Turning.turned}
+use Rattle.cargo_toml_lint.proofs.Cited.{held_names, listed_by, map, nth_text, Passes, turned}
 use Rattle.cargo_toml_lint.proofs.Edges.{IsFilled}
 use Rattle.cargo_toml_lint.proofs.linking.edges.Given as goal
 

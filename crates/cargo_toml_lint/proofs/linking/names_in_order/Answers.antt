@@ -1,5 +1,4 @@
-use Rattle.std.proofs.Common.{rules, ◌++◌, ap, append_assoc, append-nil}
-use Rattle.std.proofs.lemmas.Map.Iter.{rest_all, rest_more}
+use Rattle.cargo_toml_lint.proofs.Cited.{◌++◌, ap, append-nil, append_assoc, rest_all, rest_more, rules}
 use Rattle.cargo_toml_lint.proofs.Gathered.{among_now}
 use Rattle.cargo_toml_lint.proofs.linking.names_in_order.Goals as goal
 

@@ -1,4 +1,4 @@
-use Rattle.std.proofs.Common.{◌≡◌, ◌++◌}
+use Rattle.cargo_toml_lint.proofs.Cited.{◌++◌, ◌≡◌}
 use Rattle.cargo_toml_lint.proofs.linking.names_in_order.Given as goal
 
 abbrev pub invariant-loop-name : goal.invariant-loop-name

@@ -1,15 +1,9 @@
-use Rattle.std.proofs.Common.{◌∙◌, [], List, Option, ap, map, option_map, string_bytes, sym}
-use Rattle.std.specs.{Option.option_copied, Prelude.unwrap_or}
-use Rattle.cargo_toml.specs.Action.{Text}
-use Rattle.cargo_toml_lint.proofs.Edges.{listed_at, texts_of}
+use Rattle.cargo_toml_lint.proofs.Cited.{arith}
+use Rattle.cargo_toml_lint.proofs.Edges.{listed_at}
 use Rattle.cargo_toml_lint.proofs.linking.texts_of.Goals as goal
 
 pub returns-in-Some : goal.returns-in-Some
-returns-in-Some c = ap (map string_bytes) c.as_slice.ensures.value
-    ∙ sym (ap (λ (o : Option (List Text)). unwrap_or o []) (listed_at c.args.known.now.features.now c.args.name.now
-    ∙ ap (option_map texts_of) (sym c.get.ensures.value ∙ ap option_copied c.in-Some.is)))
+returns-in-Some c = grind (arith, listed_at c.args.known.now.features.now c.args.name.now, c.get.ensures.value, c.in-Some.is, c.as_slice.ensures.value)
 
 pub returns-in-None : goal.returns-in-None
-returns-in-None c =
-    sym (ap (λ (o : Option (List Text)). unwrap_or o []) (listed_at c.args.known.now.features.now c.args.name.now
-    ∙ ap (option_map texts_of) (sym c.get.ensures.value ∙ ap option_copied c.in-None.is)))
+returns-in-None c = grind (arith, listed_at c.args.known.now.features.now c.args.name.now, c.get.ensures.value, c.in-None.is)

@@ -1,4 +1,4 @@
-use Rattle.std.proofs.Common.{◌≡◌, arith, length}
+use Rattle.cargo_toml_lint.proofs.Cited.{◌≡◌, arith, length}
 use Rattle.cargo_toml_lint.proofs.{Counted.all_places, Counted.more_places, Leading.has_place}
 use Rattle.cargo_toml_lint.proofs.linting.add_counting.Goals as goal
 

@@ -1,7 +1,4 @@
-use Rattle.std.proofs.Common.{◌≡◌, ◌<◌, ◌↔◌, ◌⊎◌, [], ℕ, None}
-use Rattle.cargo_toml.specs.{Action.Text, Graph.Table}
-use Rattle.cargo_toml_lint.specs.Linked.{AreLinks, name_at}
-use Rattle.cargo_toml_lint.specs.{Findings.IsFound, Steps.CountsBy, declared.finding.Code.Code}
+use Rattle.cargo_toml_lint.proofs.Cited.{◌<◌, ◌↔◌, ◌≡◌, ◌⊎◌, [], AreLinks, Code, CountsBy, IsFound, name_at, None, Table, Text, ℕ}
 use Rattle.cargo_toml_lint.proofs.linting.add_counting.Given as goal
 
 abbrev pub invariant-loop-place : goal.invariant-loop-place

@@ -1,5 +1,5 @@
-use Rattle.cargo_toml_lint.specs.contracts.finding.FindingOrd.TheImpl.Laws as laws
 use Rattle.cargo_toml_lint.proofs.Sorting.{new_sorted, same_found}
+use Rattle.cargo_toml_lint.specs.contracts.finding.FindingOrd.TheImpl.Laws as laws
 use Rattle.cargo_toml_lint.proofs.linting.in_order.Goals as goal
 
 pub returns-clause-same : goal.returns-clause-same

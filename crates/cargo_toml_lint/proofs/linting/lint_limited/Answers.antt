@@ -1,4 +1,4 @@
-use Rattle.cargo_toml.specs.Manifests.{manifest_meaning}
+use Rattle.cargo_toml_lint.proofs.Cited.{manifest_meaning}
 use Rattle.cargo_toml_lint.proofs.Exact.{holds_is}
 use Rattle.cargo_toml_lint.proofs.linting.lint_limited.Goals as goal
 

@@ -1,6 +1,4 @@
-use Rattle.std.proofs.{Common.Bool, Common.true, Common.◌∙◌, lemmas.Result.IfOk-weaker}
-use Rattle.cargo_toml.specs.{Action.Text, Manifests.manifest_meaning, Parsed.IsParsed}
-use Rattle.cargo_toml.specs.Views.{answer_of}
+use Rattle.cargo_toml_lint.proofs.Cited.{◌∙◌, answer_of, Bool, IfOk-weaker, IsParsed, manifest_meaning, Text, true}
 use Rattle.cargo_toml_lint.proofs.Resolving.{parsed_at, tells_of}
 use Rattle.cargo_toml_lint.proofs.linting.resolve_whole.Goals as goal
 

@@ -1,6 +1,4 @@
-use Rattle.std.proofs.{Common.rules, Common.tests, lemmas.Iterator.YieldsList-from_chars}
-use Rattle.std.proofs.lemmas.Iterator.Search.{all_from_yields_List}
-use Rattle.cargo_toml_lint.specs.Taken.{may_follow}
+use Rattle.cargo_toml_lint.proofs.Cited.{all_from_yields_List, may_follow, rules, tests, YieldsList-from_chars}
 use Rattle.cargo_toml_lint.proofs.names.all_may_follow.Goals as goal
 
 pub returns : goal.returns

@@ -1,6 +1,4 @@
-use Rattle.std.proofs.Common.{rules, ◌≡◌, ◌<◌, ℕ, List, [], ◌∷◌, Option, Some, None, length, get_or, slice_get, refl, ap, arith}
-use Rattle.std.proofs.lemmas.Iterator.{YieldsList-from_chars}
-use Rattle.std.proofs.lemmas.Iterator.Consumers.{YieldsList-turn, YieldsList-end}
+use Rattle.cargo_toml_lint.proofs.Cited.{◌<◌, ◌∷◌, ◌≡◌, [], ap, arith, get_or, length, List, None, Option, refl, rules, slice_get, Some, YieldsList-end, YieldsList-from_chars, YieldsList-turn, ℕ}
 use Rattle.cargo_toml_lint.proofs.names.first_char.Goals as goal
 
 at_first : (all : List ℕ) (r : Option ℕ)

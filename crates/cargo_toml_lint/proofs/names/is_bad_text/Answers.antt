@@ -1,4 +1,4 @@
-use Rattle.std.proofs.Common.{rules, ap₂}
+use Rattle.cargo_toml_lint.proofs.Cited.{ap₂, rules}
 use Rattle.cargo_toml_lint.proofs.names.is_bad_text.Goals as goal
 
 pub returns-in-Some : goal.returns-in-Some

@@ -1,6 +1,4 @@
-use Rattle.std.proofs.Common.{sym, lit<, nat_eq, None}
-use Rattle.std.proofs.lemmas.Str.Pattern.{split_once_first}
-use Rattle.cargo_toml_features.proofs.ActionTexts.{none_found}
+use Rattle.cargo_toml_lint.proofs.Cited.{lit<, nat_eq, None, none_found, split_once_first, sym}
 use Rattle.cargo_toml_lint.proofs.names.split_slash.Goals as goal
 
 pub returns-in-None-clause-found : goal.returns-in-None-clause-found

@@ -1,5 +1,4 @@
-use Rattle.std.proofs.Common.{◌≡◌, ◌<◌, ◌≤◌, ℕ, false, get_or, length}
-use Rattle.std.specs.Prelude.{◌||◌}
+use Rattle.cargo_toml_lint.proofs.Cited.{◌<◌, ◌||◌, ◌≡◌, ◌≤◌, false, get_or, length, ℕ}
 use Rattle.cargo_toml_lint.proofs.reach.join.Given as goal
 
 abbrev pub invariant-loop-k : goal.invariant-loop-k

@@ -1,7 +1,5 @@
-use Rattle.std.proofs.Common.{arith, false, length-append, sym, ◌∙◌}
-use Rattle.std.proofs.lemmas.List.{get_or_read}
-use Rattle.cargo_toml_lint.proofs.Rows.{left_less, left_taken}
-use Rattle.cargo_toml_lint.proofs.Searching.{meets_new, meets_old, meets_row, stood}
+use Rattle.cargo_toml_lint.proofs.Cited.{◌∙◌, arith, false, get_or_read, length-append, sym}
+use Rattle.cargo_toml_lint.proofs.{Rows.left_less, Rows.left_taken, Searching.meets_new, Searching.meets_old, Searching.meets_row, Searching.stood}
 use Rattle.cargo_toml_lint.proofs.reach.meet.Goals as goal
 
 pub returns-then-index-clause-goes_on : goal.returns-then-index-clause-goes_on

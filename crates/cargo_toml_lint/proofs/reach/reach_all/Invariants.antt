@@ -1,5 +1,4 @@
-use Rattle.std.proofs.Common.{◌≡◌, ◌<◌, ℕ}
-use Rattle.cargo_toml_lint.specs.Reached.{IsWhole, Stands}
+use Rattle.cargo_toml_lint.proofs.Cited.{◌<◌, ◌≡◌, IsWhole, Stands, ℕ}
 use Rattle.cargo_toml_lint.proofs.reach.reach_all.Given as goal
 
 abbrev pub invariant-loop-x : goal.invariant-loop-x

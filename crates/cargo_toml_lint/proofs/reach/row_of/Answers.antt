@@ -1,6 +1,4 @@
-use Rattle.std.proofs.Common.{◌∷◌, [], arith, inl, refl, subst, sym}
-use Rattle.cargo_toml.specs.Reach.{Among}
-use Rattle.cargo_toml_graph.proofs.BinLists.{among-second}
+use Rattle.cargo_toml_lint.proofs.Cited.{◌∷◌, [], Among, among-second, arith, inl, refl, subst, sym}
 use Rattle.cargo_toml_lint.proofs.Searching.{path_inside, search_ends}
 use Rattle.cargo_toml_lint.proofs.reach.row_of.Goals as goal
 

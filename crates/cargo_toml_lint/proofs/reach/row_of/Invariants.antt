@@ -1,5 +1,4 @@
-use Rattle.std.proofs.Common.{◌+◌, length}
-use Rattle.cargo_toml_lint.specs.Reached.{Searches, edges_left}
+use Rattle.cargo_toml_lint.proofs.Cited.{◌+◌, edges_left, length, Searches}
 use Rattle.cargo_toml_lint.proofs.reach.row_of.Given as goal
 
 abbrev pub invariant-loop-x : goal.invariant-loop-x

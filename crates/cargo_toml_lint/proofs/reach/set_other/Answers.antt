@@ -1,4 +1,4 @@
-use Rattle.std.proofs.Common.{arith}
+use Rattle.cargo_toml_lint.proofs.Cited.{arith}
 use Rattle.cargo_toml_lint.proofs.Rows.{flag_set}
 use Rattle.cargo_toml_lint.proofs.reach.set_other.Goals as goal
 

@@ -1,5 +1,4 @@
-use Rattle.std.proofs.Common.{◌≡◌, ℕ, [], length}
-use Rattle.cargo_toml_lint.specs.Reached.{row_at}
+use Rattle.cargo_toml_lint.proofs.Cited.{◌≡◌, [], length, row_at, ℕ}
 use Rattle.cargo_toml_lint.proofs.reach.unsettled.Given as goal
 
 abbrev pub invariant-loop : goal.invariant-loop

@@ -1,5 +1,4 @@
-use Rattle.std.proofs.Common.{◌≡◌, ◌++◌, map, string_bytes, take}
-use Rattle.cargo_toml_lint.specs.{Findings.about, Findings.request_findings}
+use Rattle.cargo_toml_lint.proofs.Cited.{◌++◌, ◌≡◌, about, map, request_findings, string_bytes, take}
 use Rattle.cargo_toml_lint.proofs.tables.add_entry.Given as goal
 
 abbrev pub invariant-loop-text : goal.invariant-loop-text

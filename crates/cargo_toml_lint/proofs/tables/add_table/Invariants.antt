@@ -1,6 +1,4 @@
-use Rattle.std.proofs.Common.{◌≡◌, ◌++◌, map}
-use Rattle.cargo_toml.specs.{Dependencies.dependency_meaning, Reads.map_meaning}
-use Rattle.cargo_toml_lint.specs.{Findings.about, Findings.table_findings}
+use Rattle.cargo_toml_lint.proofs.Cited.{◌++◌, ◌≡◌, about, dependency_meaning, map, map_meaning, table_findings}
 use Rattle.cargo_toml_lint.proofs.Adding.{entry_of}
 use Rattle.cargo_toml_lint.proofs.tables.add_table.Given as goal
 

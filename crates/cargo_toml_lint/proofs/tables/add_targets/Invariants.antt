@@ -1,6 +1,4 @@
-use Rattle.cargo_toml.specs.{Action.Text, Reads.map_meaning, Targets.TargetMeaning, Targets.target_meaning}
-use Rattle.std.{proofs.Common.◌≡◌, proofs.Common.◌++◌, proofs.Common.map, specs.List.flat_map}
-use Rattle.cargo_toml_lint.specs.Findings.{about, target_findings}
+use Rattle.cargo_toml_lint.proofs.Cited.{◌++◌, ◌≡◌, about, flat_map, map, map_meaning, target_findings, target_meaning, TargetMeaning, Text}
 use Rattle.cargo_toml_lint.proofs.Adding.{target_of}
 use Rattle.cargo_toml_lint.proofs.tables.add_targets.Given as goal
 

@@ -1,8 +1,5 @@
-use Rattle.std.proofs.Common.{◌≡◌, ◌↔◌, ◌⊎◌, ◌&&◌, [], append_assoc, arith, sym, subst, ◌∙◌}
-use Rattle.std.proofs.lemmas.Bool.{and_from, and_parts}
-use Rattle.cargo_toml.specs.Action.{Text}
-use Rattle.cargo_toml_lint.proofs.Leading.{cyclic_at, only_default_at, unreachable_at}
-use Rattle.cargo_toml_lint.{specs.Findings.IsFound, specs.Steps.CountsBy, proofs.Counted.all_found}
+use Rattle.cargo_toml_lint.proofs.Cited.{◌&&◌, ◌||◌, ◌↔◌, ◌∙◌, ◌≡◌, ◌⊎◌, [], and_from, and_parts, append_assoc, arith, CountsBy, is_hidden, IsFound, name_at, private_at, subst, sym, Text}
+use Rattle.cargo_toml_lint.proofs.{Counted.all_found, Leading.cyclic_at, Leading.only_default_at, Leading.unreachable_at}
 use Rattle.cargo_toml_lint.proofs.walks.add_place.Goals as goal
 
 pub returns : goal.returns
@@ -12,7 +9,9 @@ returns g c =
     let w = c.args.walks.now in
     let place = c.args.place in
     let told = rw c.name-name.ensures at c.is_implied.ensures in
-    let internal = rw c.name-name.ensures at c.is_internal-is_internal.ensures in
+    let hidden = rw c.name-name.ensures at c.is_hidden.ensures in
+    let private = rw c.name-name.ensures at c.is_private.ensures in
+    let internal : (c.is_hidden.result || c.is_private.result) ≡ (is_hidden (name_at l place) || private_at m (name_at l place)) = λ i. hidden i || private i in
     let alone = rw (c.as_slice.ensures.value, c.as_slice-2.ensures.value) at c.is_alone-is_alone.ensures in
     let left = rw (c.as_slice-3.ensures.value, c.name-name.ensures) at c.is_left_alone-is_left_alone.ensures in
     let found = c.args.found.now.items in
@@ -25,7 +24,7 @@ returns g c =
     subst (λ (n : Text). IsFound new d f x ↔ (IsFound found d f x
     ⊎ ((x ≡ []) × (n ≡ f) × CountsBy m t d f))) c.name-name.ensures
     (all_found m t c.name-name.result.now c.is_implied.result
-    (c.is_internal-is_internal.result && c.is_alone-is_alone.result) c.is_in_ring.result c.is_left_alone-is_left_alone.result
+    ((c.is_hidden.result || c.is_private.result) && c.is_alone-is_alone.result) c.is_in_ring.result c.is_left_alone-is_left_alone.result
     (rw c.name-name.ensures (λ h. sym told ∙ h, λ h. told ∙ h))
     (rw c.name-name.ensures (
       λ h. let r = and_parts _ _ h in (sym internal ∙ r.0, only.0 (alone.0 r.1)),

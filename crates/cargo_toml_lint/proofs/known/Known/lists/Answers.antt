@@ -1,4 +1,4 @@
-use Rattle.std.proofs.Common.{map, string_bytes, ◌∙◌}
+use Rattle.cargo_toml_lint.proofs.Cited.{◌∙◌, map, string_bytes}
 use Rattle.cargo_toml_lint.proofs.Gathered.{listed_in}
 use Rattle.cargo_toml_lint.proofs.known.Known.lists.Goals as goal
 

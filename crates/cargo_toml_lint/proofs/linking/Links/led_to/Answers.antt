@@ -1,8 +1,6 @@
-use Rattle.std.proofs.{Common.sym, Common.◌∙◌, lemmas.Bool.false≢true}
-use Rattle.cargo_toml_features.proofs.TextKeys.{inserted}
-use Rattle.cargo_toml_lint.specs.{Linked.names_of, Reached.Path}
+use Rattle.cargo_toml_lint.proofs.Cited.{◌∙◌, false≢true, inserted, names_of, Path, sym}
 use Rattle.cargo_toml_lint.proofs.Placed.{so_far_none, so_far_put, so_far_skip}
-use Rattle.cargo_toml_lint.proofs.linking.Links.led_to.Goals.{then-leads+in_ok-insert, else-leads}
+use Rattle.cargo_toml_lint.proofs.linking.Links.led_to.Goals.{else-leads, then-leads+in_ok-insert}
 use Rattle.cargo_toml_lint.proofs.linking.Links.led_to.Goals as goal
 
 pub loop-other-init : goal.loop-other-init

@@ -1,4 +1,5 @@
-use Rattle.cargo_toml_lint.{specs.Linked.names_of, specs.Reached.Path, proofs.Placed.SoFar}
+use Rattle.cargo_toml_lint.proofs.Cited.{names_of, Path}
+use Rattle.cargo_toml_lint.proofs.Placed.{SoFar}
 use Rattle.cargo_toml_lint.proofs.linking.Links.led_to.Given as goal
 
 abbrev pub invariant-loop-other : goal.invariant-loop-other

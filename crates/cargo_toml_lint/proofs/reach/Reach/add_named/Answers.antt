@@ -1,7 +1,5 @@
-use Rattle.std.proofs.Common.{arith, ◌∙◌}
-use Rattle.std.proofs.lemmas.List.{take_all}
-use Rattle.cargo_toml_lint.proofs.Rows.{among_more}
-use Rattle.cargo_toml_lint.proofs.Searching.{target_at}
+use Rattle.cargo_toml_lint.proofs.Cited.{◌∙◌, arith, take_all}
+use Rattle.cargo_toml_lint.proofs.{Rows.among_more, Searching.target_at}
 use Rattle.cargo_toml_lint.proofs.reach.Reach.add_named.Goals as goal
 
 pub set_other-requires : goal.set_other-requires

@@ -1,6 +1,4 @@
-use Rattle.std.proofs.Common.{◌≡◌, ◌≢◌, ◌⊎◌, ◌↔◌, ℕ, length, take}
-use Rattle.cargo_toml.specs.Reach.{Among}
-use Rattle.cargo_toml_lint.specs.Reached.{IsFlagged}
+use Rattle.cargo_toml_lint.proofs.Cited.{◌↔◌, ◌≡◌, ◌≢◌, ◌⊎◌, Among, IsFlagged, length, take, ℕ}
 use Rattle.cargo_toml_lint.proofs.reach.Reach.add_named.Given as goal
 
 abbrev pub invariant-loop-x : goal.invariant-loop-x

@@ -1,8 +1,6 @@
-use Rattle.cargo_toml_lint.proofs.reach.Reach.is_in_ring.Goals.{else-x-own-via-then-x-own+else-leads, else-x-own-via-else-x-own}
-use Rattle.std.proofs.Common.{rules, refl, inr, subst, sym, get_or, ◌∙◌}
-use Rattle.std.proofs.{lemmas.Bool.false≢true, lemmas.List.take_all}
-use Rattle.cargo_toml.specs.{Reach.Among, Reach.Reaches.edge}
+use Rattle.cargo_toml_lint.proofs.Cited.{◌∙◌, Among, edge, false≢true, get_or, inr, refl, rules, subst, sym, take_all}
 use Rattle.cargo_toml_lint.proofs.{Rows.among_more, Searching.first_step, Searching.target_at}
+use Rattle.cargo_toml_lint.proofs.reach.Reach.is_in_ring.Goals.{else-x-own-via-else-x-own}
 use Rattle.cargo_toml_lint.proofs.reach.Reach.is_in_ring.Goals as goal
 
 pub leads-requires-clause-from : goal.leads-requires-clause-from

@@ -1,6 +1,4 @@
-use Rattle.std.proofs.Common.{◌≢◌, ℕ, take}
-use Rattle.cargo_toml.specs.Reach.{Among}
-use Rattle.cargo_toml_lint.specs.Reached.{Path}
+use Rattle.cargo_toml_lint.proofs.Cited.{◌≢◌, Among, Path, take, ℕ}
 use Rattle.cargo_toml_lint.proofs.reach.Reach.is_in_ring.Given as goal
 
 abbrev pub invariant-loop-x : goal.invariant-loop-x

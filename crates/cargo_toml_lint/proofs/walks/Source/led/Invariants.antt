@@ -1,5 +1,4 @@
-use Rattle.std.proofs.Common.{◌≡◌, ◌↔◌, ◌<◌, ℕ, IsTrue, length}
-use Rattle.cargo_toml_lint.specs.{Linked.Goes, Linked.is_of, Linked.name_at, Reached.IsFlagged}
+use Rattle.cargo_toml_lint.proofs.Cited.{◌<◌, ◌↔◌, ◌≡◌, Goes, is_of, IsFlagged, IsTrue, length, name_at, ℕ}
 use Rattle.cargo_toml_lint.proofs.walks.Source.led.Given as goal
 
 abbrev pub invariant-loop-a : goal.invariant-loop-a

@@ -1,9 +1,8 @@
-use Rattle.std.proofs.Common.{None, ap, subst, sym, ◌∙◌}
-use Rattle.std.proofs.lemmas.Map.Iter.{rest_all, rest_more}
-use Rattle.std.specs.{Map.Iter.deref, Option.option_copied, Option.option_map_or}
-use Rattle.cargo_toml.specs.{Action.IsJoin, Action.join_option, Feature.Feature, Views.action_at}
-use Rattle.cargo_toml_graph.proofs.JoinLaws.{join_option_none}
+use Rattle.{std.proofs.lemmas.Map.Iter.rest_all, std.proofs.lemmas.Map.Iter.rest_more, std.specs.Map.Iter.deref, std.specs.Option.option_copied}
+use Rattle.{std.specs.Option.option_map_or, cargo_toml.specs.Action.IsJoin, cargo_toml.specs.Action.join_option, cargo_toml.specs.Feature.Feature}
+use Rattle.std.proofs.Common.{◌∙◌, None, ap, subst, sym}
 use Rattle.cargo_toml_tools.proofs.Reaching.{joined, joined_is, joined_next}
+use Rattle.{cargo_toml.specs.Views.action_at, cargo_toml_graph.proofs.JoinLaws.join_option_none}
 use Rattle.cargo_toml_tools.proofs.document.reached.actions_of.Goals as goal
 
 pub loop-name-preserved-in-Continue-1 : goal.loop-name-preserved-in-Continue-1

@@ -11,11 +11,9 @@ pub returns-clause-documented : goal.returns-clause-documented
 returns-clause-documented g c = record {
   manifest = c.deref-manifest.result.now;
   read = record { utf8 = c.utf8.text; reads = rw c.deref-manifest.ensures c.in_ok-held.ensures };
+  features = c.in_ok-resolved.resolved;
+  whole = c.in_ok-resolved.ensures.whole;
   rows = c.as_slice.result.now;
-  exact = record {
-    features = c.in_ok-resolved.resolved;
-    whole = c.in_ok-resolved.ensures.whole;
-    exact = rw c.as_slice.ensures.value (c.in_ok-rows.ensures c.in_ok-resolved.ensures.keyed);
-  };
+  exact = rw c.as_slice.ensures.value (c.in_ok-rows.ensures c.in_ok-resolved.ensures.keyed);
   taken = c.in_ok-take.ensures;
 }

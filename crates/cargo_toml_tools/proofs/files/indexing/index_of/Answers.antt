@@ -1,8 +1,6 @@
-use Rattle.std.proofs.Common.{◌≡◌, ◌∙◌, Bor, None, Option, Some, ap, refl, rules, string_bytes, subst}
-use Rattle.std.{proofs.lemmas.Result.err_from_is_err_and, specs.Option.option_copied, specs.Option.option_or}
-use Rattle.serde_json.specs.View.{view}
-use Rattle.cargo_toml.specs.Manifests.{held}
-use Rattle.cargo_toml_tools.specs.{IndexEntries.index_data, Sections.wanted_of}
+use Rattle.{std.proofs.lemmas.Result.err_from_is_err_and, std.specs.Option.option_copied, std.specs.Option.option_or, serde_json.specs.View.view}
+use Rattle.std.proofs.Common.{◌∙◌, ◌≡◌, Bor, None, Option, Some, ap, refl, rules, string_bytes, subst}
+use Rattle.{cargo_toml.specs.Manifests.held, cargo_toml_tools.specs.IndexEntries.index_data, cargo_toml_tools.specs.Sections.wanted_of}
 use Rattle.cargo_toml_tools.proofs.files.indexing.index_of.Goals as goal
 
 or_copied : {A : Type 0} (o p : Option (Bor A)) → option_copied (option_or o p) ≡ option_or (option_copied o) (option_copied p)

@@ -1,8 +1,6 @@
+use Rattle.{std.proofs.lemmas.Iterator.YieldsList-from_slice, std.proofs.lemmas.Iterator.Search.any_from_yields_List, cargo_toml.specs.Action.Text}
 use Rattle.std.proofs.Common.{◌∙◌, Bor, rules, sym, tests}
-use Rattle.std.proofs.lemmas.{Iterator.YieldsList-from_slice, Iterator.Search.any_from_yields_List}
-use Rattle.cargo_toml.specs.Action.{Text, item_of}
-use Rattle.cargo_toml_lint.proofs.Gathered.{any_map}
-use Rattle.cargo_toml_tools.specs.IndexEntries.{is_newer}
+use Rattle.{cargo_toml.specs.Action.item_of, cargo_toml_lint.proofs.Gathered.any_map, cargo_toml_tools.specs.IndexEntries.is_newer}
 use Rattle.cargo_toml_tools.proofs.index.features.is_extended.Goals as goal
 
 pub returns : goal.returns

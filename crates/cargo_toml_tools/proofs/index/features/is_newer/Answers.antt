@@ -1,5 +1,4 @@
-use Rattle.std.proofs.Common.{rules}
-use Rattle.cargo_toml_lint.proofs.Items.{acting, naming}
+use Rattle.{std.proofs.Common.rules, cargo_toml_lint.proofs.Items.acting, cargo_toml_lint.proofs.Items.naming}
 use Rattle.cargo_toml_tools.proofs.index.features.is_newer.Goals as goal
 
 pub returns-then-acts : goal.returns-then-acts

@@ -1,5 +1,4 @@
-use Rattle.std.proofs.Common.{rules}
-use Rattle.cargo_toml_package.proofs.Entries.{entry_at-map}
+use Rattle.{std.proofs.Common.rules, cargo_toml_package.proofs.Entries.entry_at-map}
 use Rattle.cargo_toml_tools.proofs.index.features.keeps.Goals as goal
 
 pub returns-in-Some : goal.returns-in-Some

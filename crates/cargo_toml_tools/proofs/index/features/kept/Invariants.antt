@@ -1,6 +1,5 @@
+use Rattle.{std.specs.Prelude.filter, cargo_toml_tools.specs.IndexEntries.is_kept, cargo_toml_tools.specs.Sections.table_of}
 use Rattle.std.proofs.Common.{◌≡◌, map, string_bytes, take}
-use Rattle.std.specs.Prelude.{filter}
-use Rattle.cargo_toml_tools.specs.{IndexEntries.is_kept, Sections.table_of}
 use Rattle.cargo_toml_tools.proofs.index.features.kept.Given as goal
 
 abbrev pub invariant-loop-text : goal.invariant-loop-text

@@ -1,8 +1,6 @@
-use Rattle.std.proofs.Common.{rules, map, sym, ◌∙◌}
-use Rattle.std.proofs.lemmas.Result.{on_ok_weaker}
-use Rattle.serde_json.specs.View.{members_view}
-use Rattle.cargo_toml_tools.specs.{Sections.lists_meaning, IndexEntries.kept_lists, Sections.table_of}
-use Rattle.cargo_toml_tools.proofs.Placed.{second_version}
+use Rattle.{std.proofs.lemmas.Result.on_ok_weaker, serde_json.specs.View.members_view, cargo_toml_tools.proofs.Placed.second_version}
+use Rattle.std.proofs.Common.{◌∙◌, map, rules, sym}
+use Rattle.{cargo_toml_tools.specs.IndexEntries.kept_lists, cargo_toml_tools.specs.Sections.lists_meaning, cargo_toml_tools.specs.Sections.table_of}
 use Rattle.cargo_toml_tools.proofs.index.features.put_features.Goals as goal
 
 pub returns : goal.returns

@@ -1,10 +1,7 @@
-use Rattle.std.proofs.Common.{◌≡◌, ◌||◌, false, List, map, true}
-use Rattle.std.specs.List.{flat_map, list_any}
-use Rattle.serde_json.specs.View.{members_view}
-use Rattle.cargo_toml.specs.Action.{Text}
-use Rattle.cargo_toml_tools.specs.IndexEntries.{is_extended, kept_lists, list_rows}
-use Rattle.cargo_toml_tools.specs.{Sections.lists_meaning, IndexEntries.with_rows, Sections.table_of}
-use Rattle.cargo_toml_tools.proofs.Told.{list_of}
+use Rattle.{std.specs.List.flat_map, std.specs.List.list_any, serde_json.specs.View.members_view, cargo_toml.specs.Action.Text}
+use Rattle.std.proofs.Common.{◌||◌, ◌≡◌, List, false, map, true}
+use Rattle.cargo_toml_tools.specs.IndexEntries.{is_extended, kept_lists, list_rows, with_rows}
+use Rattle.{cargo_toml_tools.proofs.Told.list_of, cargo_toml_tools.specs.Sections.lists_meaning, cargo_toml_tools.specs.Sections.table_of}
 use Rattle.cargo_toml_tools.proofs.index.features.put_lists.Given as goal
 
 abbrev pub invariant-loop-name : goal.invariant-loop-name

@@ -1,4 +1,4 @@
-use Rattle.cargo_toml_audit.proofs.Paths.{refl, sym}
+use Rattle.cargo_toml_audit.proofs.Paths.{sym}
 use Rattle.cargo_toml_audit.proofs.Walked.{told_there}
 use Rattle.cargo_toml_audit.proofs.members.walk.Looking.look_at.Goals as goal
 
@@ -6,4 +6,4 @@ pub returns-in-Some : goal.returns-in-Some
 returns-in-Some g c = λ d h. (h, sym (h.there _ _ (sym c.in-Some.ensures.value)))
 
 pub returns : goal.returns
-returns g c = told_there _ _ _ _ _ (sym c.in_default.ensures.value) c.in_ok-from_str.ensures.ok c.in_ok-insert.ensures.updates refl
+returns g c = told_there _ _ _ _ _ (sym c.in_default.ensures.value) c.in_ok-from_str.ensures.ok c.in_ok-insert.ensures.updates

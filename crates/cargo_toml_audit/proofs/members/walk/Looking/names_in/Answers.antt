@@ -1,5 +1,5 @@
 use Rattle.std.proofs.lemmas.Result.{MatchResult-weaker}
-use Rattle.cargo_toml_audit.proofs.Paths.{◌∙◌, refl, string_bytes, sym, zip_same}
+use Rattle.cargo_toml_audit.proofs.Paths.{◌∙◌, string_bytes, sym, zip_same}
 use Rattle.cargo_toml_audit.proofs.Walked.{told_names}
 use Rattle.cargo_toml_audit.proofs.members.walk.Looking.names_in.Goals as goal
 
@@ -10,6 +10,6 @@ returns-in-Some g c =
 
 pub returns : goal.returns
 returns g c = λ d h.
-    let t = told_names c.args.self.now.looks (record { there = c.args.self.now.looks.there; names = c.insert.new.self }) _ c.args.folder.now c.in_ok-listing.listing
-    (sym c.in_default.ensures.value) c.in_ok-from_str.ensures.ok c.in_ok-insert.ensures.updates refl d h in
+    let t = told_names c.args.self.now.looks c.insert.new.self _ c.args.folder.now c.in_ok-listing.listing
+    (sym c.in_default.ensures.value) c.in_ok-from_str.ensures.ok c.in_ok-insert.ensures.updates d h in
     (t.0, zip_same string_bytes _ (λ x y e. e) _ _ c.in_ok-names.ensures.cases.0 ∙ t.1)

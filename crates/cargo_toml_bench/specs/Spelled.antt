@@ -1,13 +1,10 @@
--- A report as text.
-use Rattle.std.specs.Prelude.{◌≡◌, ◌⊎◌, ℕ, List, [], ◌∷◌, ◌++◌, Option, Some, None, IsUtf8, codes}
-use Rattle.std.specs.List.{flat_map}
+-- Which manifest bytes spell, and why they spell none.
+use Rattle.std.specs.Prelude.{◌≡◌, ◌⊎◌, ℕ, List, Option, Some, None, IsUtf8, codes}
 use Rattle.std.specs.declared.io.Error.{Error as IoError}
 use Rattle.toml.specs.{Data.Data, Parse.parse_document}
-use Rattle.cargo_toml.specs.Error.{Error, Io, Memory}
-use Rattle.cargo_toml.specs.Manifests.{ManifestMeaning, manifest_reads, ManifestRefuses}
-use Rattle.cargo_toml.specs.Texts.{any_tree, AnyRefuses, document_reads, DocumentRefuses}
-use Rattle.cargo_toml.specs.{Faults.IsOther, Limits.MAX_ITEMS, Action.Text, Parsed.parsed_table}
-use Rattle.cargo_toml_bench.specs.Reports.{optional_keys, AreUnreferenced}
+use Rattle.cargo_toml.specs.Manifests.{ManifestMeaning, ManifestRefuses, manifest_reads}
+use Rattle.cargo_toml.specs.Texts.{AnyRefuses, DocumentRefuses, any_tree, document_reads}
+use Rattle.cargo_toml.specs.{Error.Error, Error.Io, Error.Memory, Faults.IsOther}
 
 module _ {M : Type 0} (tree_reads : Data → Option M) where
   -- the bytes are the text of a manifest that holds m, with metadata that are read so
@@ -38,23 +35,3 @@ RefusesBytes bytes e = RefusesText any_tree AnyRefuses bytes e
 -- why nothing is printed: that, or the output couldn't be written
 abbrev pub RefusesToPrint : List ℕ → Error → Type 0
 RefusesToPrint bytes e = ((fault : IoError) × (e ≡ Io fault)) ⊎ RefusesBytes bytes e
-
--- the word, the name and the end of a line; the same for each name
-abbrev pub line_with : Text → Text → Text
-line_with word name = word ++ name ++ 10 ∷ []
-
-abbrev pub lines_with : Text → List Text → Text
-lines_with word names = flat_map (line_with word) names
-
--- a line for each optional dependency, then one for each unreferenced feature
-abbrev pub report_text : List Text → List Text → Text
-report_text optional unreferenced =
-    lines_with (codes "optional ") optional ++ lines_with (codes "unreferenced ") unreferenced
-
--- the text is the report of the manifest that the bytes spell
-pub record IsReport (bytes : List ℕ) (text : Text) : Type 0 where
-  pub manifest : ManifestMeaning Data
-  pub spelled : Spells bytes manifest
-  pub unreferenced : List Text
-  pub exact : AreUnreferenced (parsed_table MAX_ITEMS manifest) unreferenced
-  pub whole : text ≡ report_text (optional_keys manifest.dependencies) unreferenced

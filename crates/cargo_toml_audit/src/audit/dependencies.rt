@@ -275,11 +275,19 @@ fn add_further(
 {
     let alloc = *all.allocator();
     let name = one.name.as_str();
-    let requirement = one.requirement.as_str();
-    // there is no `|` in a requirement
-    let key = format!(in alloc; "{requirement}|{name}")?;
+    let key = asking_key(alloc, one)?;
     let is_further = names.contains(name) && !keys.contains(key.as_str());
     find_if(all, Code::SeveralRequirements, is_further, name)?;
     note(alloc, names, name, true)?;
     note(alloc, keys, key.as_str(), true)
+}
+
+/// A requirement, in which there is no `|`, and the name of the crate.
+fn asking_key(alloc: Global, one: &Use) -> AllocResult<String>
+    ensures { IfOk result (λ key. string_bytes key ≡ asking_key (asking_of one.now)) }
+{
+    let requirement = one.requirement.as_str();
+    let name = one.name.as_str();
+    let key = format!(in alloc; "{requirement}|{name}")?;
+    Ok(key)
 }

@@ -37,6 +37,10 @@ fn add_first<'m>(
         ++ first_entries limit kind (option_copied target.entry)
         (map_meaning dependency_meaning table.now)) }
 {
+    // Many tables are empty, and to begin a walk over one costs more than this test.
+    if table.is_empty() {
+        return Ok(());
+    }
     for (key, dep) in table.iter().take(limit) {
         entries.push(ParseDependency {
             key: key.as_str(),

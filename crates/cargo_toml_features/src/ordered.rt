@@ -67,7 +67,8 @@ pub fn is_there(features: &[Feature<'_>], name: &str) -> bool
     }
 }
 
-// Puts a feature in its place, below those that aren't below it.
+// Puts a feature in its place, below those that aren't below it. Most come last, and then none is
+// moved.
 fn insert_at<'m>(
     features: &mut Vec<Feature<'m>>,
     place: usize,
@@ -80,6 +81,10 @@ fn insert_at<'m>(
         ≡ (if bytes_eq f feature.entry.key.now then Some feature.entry
         else feature_at features.old.items f)) }
 {
+    if place == features.len() {
+        features.push(feature)?;
+        return Ok(());
+    }
     features.insert(place, feature)?;
     Ok(())
 }

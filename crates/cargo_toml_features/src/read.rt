@@ -20,8 +20,9 @@ use cargo_toml_package::FeatureDetail;
 use std::alloc::{AllocError, Global};
 use std::collections::{BTreeMap, BTreeSet};
 
-// Room for `default` and for the few features that dependencies imply.
-const ROOM: usize = 17;
+// Beside what is listed there is room for `default`, and for as many features that dependencies
+// imply, but for no more than so many.
+const ROOM: usize = 16;
 
 /// What the lists of features say, before dependencies are looked at.
 #[derive(Drop)]
@@ -156,7 +157,9 @@ pub fn read_features<'m>(
     ensures fresh { IfOk result (λ r.
         AreFresh (listed_of listings.now) (named_details listings.now) r.features.items) }
 {
-    let mut features = Vec::with_capacity(alloc, listings.len().saturating_add(ROOM))?;
+    let count = listings.len();
+    let room = count.saturating_add(count.min(ROOM)).saturating_add(1);
+    let mut features = Vec::with_capacity(alloc, room)?;
     let mut acting = Acting::new(alloc);
     for listing in listings {
         read_listing(alloc, &mut features, &mut acting, *listing)?;

@@ -1,6 +1,7 @@
 -- The texts of a set, as a list, lists that are gathered of sets, and sets of the texts of numbers.
-use Rattle.std.proofs.Common.{arith, ◌≡◌, ◌↔◌, List, [], ◌∷◌, map, IsTrue, Result, Ok, Err, IfOk, Vec, Global, Bor, subst, sym, inl, inr, ◌∙◌, ◌⊎◌, ◌++◌, ◌<◌, ℕ, length, get_or, bytes_eq, refl, ap}
-use Rattle.std.proofs.lemmas.{Bool.false≢true, Bool.or_left, Bool.or_right, Bool.or_cases, Map.Text.is_eq-slice_cmp, Slice.Eq.bytes_eq-Decides, List.map_push, List.length-map}
+use Rattle.std.proofs.Common.{arith, ◌≡◌, ◌↔◌, List, [], ◌∷◌, map, IsTrue, Result, Ok, Err, IfOk, Vec, Global, Bor, subst, sym, inl, inr, ◌∙◌, ◌⊎◌, ◌++◌, ◌||◌, ◌+◌, ◌<◌, ℕ, Bool, length, get_or, take, bytes_eq, refl, ap}
+use Rattle.std.proofs.lemmas.{Bool.false≢true, Bool.or_left, Bool.or_right, Bool.or_cases, Map.Text.is_eq-slice_cmp, Slice.Eq.bytes_eq-Decides, List.map_push, List.length-map, List.take_more, List.Folds.list_any-append, Grind.common_steps}
+use Rattle.std.proofs.Math.Bool.{or-false}
 use Rattle.std.specs.{BTreeMap.is_at, BTreeSet.BTreeSet, Cmp.Lexicographic.slice_cmp, List.list_any, List.Sorted.IsStrictlySortedBy, Ordering.nat_cmp}
 use Rattle.cargo_toml_graph.{specs.Action.Text, specs.Reach.Among, specs.Ascending.Ascend, proofs.SortedTexts.texts_ascend, proofs.BinLists.is_among-true, proofs.BinLists.among-true}
 use Rattle.cargo_toml_features.specs.{Views.set_has, Places.nth_text}
@@ -78,3 +79,15 @@ pub set_of_numbers : {E : Type 0} (texts : List (Bor Text)) (numbers : List ℕ)
     IfOk r (λ s. (x : Text) → IsTrue (set_has s x) ↔ Among (texts_now ks) x) → IfOk r (HasTextsOf (texts_now texts) numbers)
 set_of_numbers texts numbers ks (Err e) inside are h = tt
 set_of_numbers texts numbers ks (Ok s) inside are h = has_all texts numbers s inside (λ x. subst (λ l. IsTrue (set_has s x) ↔ Among l x) are (h x))
+
+-- one more is put into a set
+pub one_inserted : (texts : List Text) (nodes : List ℕ) (i : ℕ) (s n : Text → Bool) (k : Text) → i < length nodes → k ≡ nth_text texts (get_or nodes i 0)
+    → ((t : Text) → s t ≡ list_any (bytes_eq t) (map (nth_text texts) (take i nodes))) → ((t : Text) → n t ≡ (s t || bytes_eq t k))
+    → (t : Text) → n t ≡ list_any (bytes_eq t) (map (nth_text texts) (take (i + 1) nodes))
+one_inserted texts nodes i s n k lt is were put t = grind (arith, common_steps, take_more, map_push, list_any-append, or-false)
+
+-- a set in which each was put
+pub set_of_inserted : {E : Type 0} (texts : List (Bor Text)) (numbers : List ℕ) (r : Result (BTreeSet (Bor Text)) E) → ((x : ℕ) → Among numbers x → x < length texts)
+    → IfOk r (λ s. (x : Text) → IsTrue (set_has s x) ↔ Among (map (nth_text (texts_now texts)) numbers) x) → IfOk r (HasTextsOf (texts_now texts) numbers)
+set_of_inserted texts numbers (Err e) inside h = tt
+set_of_inserted texts numbers (Ok s) inside h = has_all texts numbers s inside h

@@ -53,6 +53,15 @@ led_nowhere v names actions x l = elim l [
     no_action [] none k p = p
     no_action (e ∷ es) none k p = absurd (omega arith)
 
+-- what is said of a feature holds in its place
+pub leads_not_at : (vs : List Feature) (j i : ℕ) (v : Feature) (x : Text) → j ≡ i → i < length vs → v ≡ get_or vs i v → ¬ LeadsTo v x → ¬ LeadsAt vs j x
+leads_not_at vs j i v x at lt read none =
+    subst (λ k. ¬ LeadsAt vs k x) (sym at) (subst (λ o. ¬ (IsTrue (option_map_or (λ d. set_has d.0 x) (option_map deeds_of o) false) ⊎ IsPlain (option_map_or (λ d. action_at d.1 x) (option_map deeds_of o) None))) (sym (slice_get_read vs (length vs) i v refl lt read)) none)
+
+-- where none leads anywhere, all have learnt
+pub all_learnt : (vs : List Feature) → ((j : ℕ) (x : Text) → j < length vs → ¬ LeadsAt vs j x) → LearnBy (LeaderBelow vs (length vs)) vs vs
+all_learnt vs none = nobody_learns (LeaderBelow vs (length vs)) vs (λ y e l. none l.0 (nth_text (names_of vs) y) l.1 l.2.2)
+
 -- the first n features have told what they lead to
 abbrev pub HaveLearnt : ℕ → List Feature → List Feature → Type 0
 HaveLearnt n old new = LearnBy (LeaderBelow old n) old new

@@ -7,7 +7,7 @@ ghost use Rattle.cargo_toml_features.specs.{InOrder.resolution_among, Views.set_
 ghost use Rattle.cargo_toml_features.specs.Places.{nth_text};
 ghost use Rattle.cargo_toml_resolve.specs.Enabling.{AreSameButEnablers, GainEnabler, LeaderBelow};
 ghost use Rattle.cargo_toml_resolve.specs.{Enabling.LeadsTo, Enabling.LearnBy, Numbering.Gains};
-ghost use Rattle.cargo_toml_resolve.specs.Texts.{texts_now};
+ghost use Rattle.cargo_toml_resolve.specs.{Parts.LeadsAt, Texts.texts_now};
 
 use crate::numbering::{Cursor, keys_of, leads_nowhere, push_actions, push_target};
 use cargo_toml_features::action::add_text;
@@ -112,6 +112,19 @@ fn learn_leaders<'m>(
     Ok(())
 }
 
+// Whether none of the features leads anywhere.
+fn lead_nowhere(features: &[Feature<'_>]) -> bool
+    ensures { IsTrue result → (j : ℕ) (x : Text) → j < length features.now
+        → ¬ LeadsAt features.now j x }
+{
+    for feature in features {
+        if !leads_nowhere(feature) {
+            return false;
+        }
+    }
+    true
+}
+
 /// Each feature learns which others enable it: those that name it, and those that act plainly on
 /// the dependency of its name.
 ///
@@ -124,6 +137,10 @@ pub fn set_enablers<'m>(alloc: Global, features: &mut Vec<Feature<'m>>) -> Resul
     ensures unremoved { OnOk result ((t : Table) → AreTable t features.old.items →
         IsUnremoved t (resolution_among features.new.items)) }
 {
+    // Most manifests have no feature, and in most long lists none leads to another.
+    if lead_nowhere(features.as_slice()) {
+        return Ok(());
+    }
     let keys = keys_of(alloc, features.as_slice())?;
     learn_leaders(alloc, features, keys.as_slice())
 }

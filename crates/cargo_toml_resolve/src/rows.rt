@@ -37,12 +37,12 @@ fn part(nodes: &[Node], span: Span) -> &[Node]
 }
 
 impl Rows {
-    /// No rows, with room for so many. It fails only where memory runs out.
+    /// No rows, with room for so many, and for as many nodes. It fails only where memory runs out.
     pub fn with_capacity(alloc: Global, count: usize) -> Result<Rows, AllocError>
         ensures { IfOk result (λ rows. rows ≡ []) }
     {
         Ok(Rows {
-            nodes: Vec::new(alloc),
+            nodes: Vec::with_capacity(alloc, count)?,
             spans: Vec::with_capacity(alloc, count)?,
         })
     }

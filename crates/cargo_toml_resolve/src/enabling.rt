@@ -32,6 +32,12 @@ fn push_names(
     if named.is_empty() {
         return Ok(());
     }
+    if named.len() == 1 {
+        if let Some(name) = named.first() {
+            push_target(row, *name, keys, own, cursor)?;
+        }
+        return Ok(());
+    }
     for name in named.iter() {
         push_target(row, *name, keys, own, cursor)?;
     }

@@ -102,6 +102,13 @@ fn name_row<'m>(
     if named.is_empty() {
         return Ok(());
     }
+    if named.len() == 1 {
+        if let Some(name) = named.first() {
+            let node = node_of(texts, count, *name, cursor)?;
+            row.push(node)?;
+        }
+        return Ok(());
+    }
     for name in named.iter() {
         let node = node_of(texts, count, *name, cursor)?;
         row.push(node)?;
@@ -175,6 +182,14 @@ pub(crate) fn push_actions(
         return Ok(());
     }
     let mut cursor = Cursor { near: own.place() };
+    if actions.len() == 1 {
+        if let Some((key, action)) = actions.first_key_value() {
+            if is_plain(action) {
+                push_target(row, *key, keys, own, &mut cursor)?;
+            }
+        }
+        return Ok(());
+    }
     for (key, action) in actions.iter() {
         if is_plain(action) {
             push_target(row, *key, keys, own, &mut cursor)?;

@@ -28,3 +28,15 @@ pub fn hidden_flags<F: Fn(&str) -> bool>(
     }
     Ok(flags)
 }
+
+/// Whether some feature is removed.
+pub fn hides_any<F: Fn(&str) -> bool>(features: &[Feature<'_>], filter: Option<&F>) -> bool
+    requires { HasNameFilter F.Fn filter }
+{
+    for feature in features {
+        if is_hidden(filter, feature.key) {
+            return true;
+        }
+    }
+    false
+}

@@ -142,12 +142,20 @@ pub fn kept_of<'m, S: BuildHasher + Clone>(
 {
     // Most manifests have no hidden feature: then nothing is numbered and no path is walked. Where
     // there is one, its removal finds what enables the others.
-    if flags.contains(&true) {
-        let graph = number(alloc, features.as_slice(), flags)?;
-        let walked = remove(alloc, &mut features, graph)?;
-        hashed_apart(alloc, state, features, &walked)
-    } else {
-        set_enablers(alloc, &mut features)?;
-        all_hashed(alloc, state, features)
-    }
+    let graph = number(alloc, features.as_slice(), flags)?;
+    let walked = remove(alloc, &mut features, graph)?;
+    hashed_apart(alloc, state, features, &walked)
+}
+
+/// Where none is removed.
+pub fn all_kept<'m, S: BuildHasher + Clone>(
+    alloc: Global,
+    state: &S,
+    mut features: Vec<Feature<'m>>,
+) -> Result<Kept<'m, S>, AllocError>
+    requires in_order { AreInOrder features.items }
+    requires no_enablers { HaveNoEnablers features.items }
+{
+    set_enablers(alloc, &mut features)?;
+    all_hashed(alloc, state, features)
 }

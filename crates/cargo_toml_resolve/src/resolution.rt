@@ -7,9 +7,9 @@ ghost use Rattle.cargo_toml_features.specs.{Reached.IsKeyed, Views.listed_of, Vi
 ghost use Rattle.cargo_toml_features.specs.Views.{entry_of};
 ghost use Rattle.cargo_toml_resolve.specs.{Filter.HasNameFilter, Removed.IsAnswerBy};
 
-use crate::flags::hidden_flags;
+use crate::flags::{hidden_flags, hides_any};
 use crate::hashing::hashed_dependencies;
-use crate::kept::{Kept, kept_of};
+use crate::kept::{Kept, all_kept, kept_of};
 use cargo_toml_features::admit::Listing;
 use cargo_toml_features::features::{Features, ParseDependency};
 use cargo_toml_features::required::Requirement;
@@ -53,16 +53,21 @@ pub fn resolve<'m: 'd, 'd, F: Fn(&str) -> bool, S: BuildHasher + Clone>(
         features,
         dependencies,
     } = resolve_all(alloc, lists.listings, lists.entries, lists.requirements)?;
-    let flags = hidden_flags(alloc, features.as_slice(), filter)?;
+    let removes = hides_any(features.as_slice(), filter);
     let Kept {
         features: kept,
         hidden: hidden_features,
-    } = kept_of(alloc, state, features, flags.as_slice())?;
+    } = if removes {
+        let flags = hidden_flags(alloc, features.as_slice(), filter)?;
+        kept_of(alloc, state, features, flags.as_slice())?
+    } else {
+        all_kept(alloc, state, features)?
+    };
     let dependencies = hashed_dependencies(state.clone()?, alloc, dependencies)?;
     Ok(Features {
         features: kept,
         dependencies,
-        removed_hidden_features: flags.contains(&true),
+        removed_hidden_features: removes,
         hidden_features,
     })
 }

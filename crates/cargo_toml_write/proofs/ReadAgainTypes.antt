@@ -240,7 +240,7 @@ unfolding IsStrictlySortedBy
 as_detail i d says (ms, is, (features, features_held, (optional, optional_held, (workspace, workspace_held, last)))) =
     let none : workspace ≡ None = subst (λ (b : Bool). IsHeld truth_way (unless_missing false b) workspace) says workspace_held in
     let same = last ∙ ap (λ (o : Option Data). put_some (codes "workspace") o (put_some (codes "optional") optional (put_some (codes "features") features no_members))) none in
-    (no_members, ms, is, (tt, tt), (None, refl, (None, refl, (None, refl, (None, refl, (None, refl, (None, refl, (None, refl, (None, refl, (None, refl, (features, features_held, (optional, optional_held, (None, refl, same)))))))))))))
+    (no_members, ms, is, (tt, tt), (None, refl, (None, refl, (None, refl, (None, refl, (None, refl, (None, refl, (None, refl, (None, refl, (None, refl, (None, refl, (features, features_held, (optional, optional_held, (None, refl, same))))))))))))))
 
 at_flag : (b : Bool) (i : InheritedMeaning) (d : Data) → i.workspace ≡ b → inherited_way.trees i d
     → dependency_way.trees (cond b (inherited i) (detailed (record no_detail { features = i.features; optional = i.optional }))) d

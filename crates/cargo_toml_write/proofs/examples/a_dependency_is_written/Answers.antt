@@ -7,4 +7,4 @@ pub returns : goal.returns
 unfolding IsStrictlySortedBy
 returns c =
     let std : Items = item (string (codes "std")) no_items in
-    (no_members, _, refl, (tt, tt), (None, refl, (None, refl, (None, refl, (None, refl, (Some _, refl, (None, refl, (None, refl, (None, refl, (None, refl, (Some (array std), (std, refl, (refl, tt)), (Some _, refl, (None, refl, refl)))))))))))))
+    (no_members, _, refl, (tt, tt), (None, refl, (None, refl, (None, refl, (None, refl, (Some _, refl, (None, refl, (None, refl, (None, refl, (None, refl, (None, refl, (Some (array std), (std, refl, (refl, tt)), (Some _, refl, (None, refl, refl))))))))))))))

@@ -32,7 +32,7 @@ TABLES = [("dependencies", "normal"), ("dev-dependencies", "dev"), ("build-depen
 CRATES_IO = "https://github.com/rust-lang/crates.io-index"
 INHERITED = [
     *("version", "edition", "authors", "categories", "exclude", "include", "keywords", "publish"),
-    *("readme", "description", "documentation", "homepage", "license", "license-file"),
+    *("readme", "description", "documentation", "homepage", "funding", "license", "license-file"),
     *("repository", "rust-version"),
 ]
 

@@ -438,7 +438,7 @@ metadata_step way held meaning reads x o f r here again rest = step (optional_of
 module _ {X W M : Type 0} (way : Way W) (held : X → W) (meaning : X → M) (reads : Data → Option M) (p : Package X) where
   members_again : (ms : Members) → VersionAgain (inheritable_map parts_of p.version) → MetadataAgain way held meaning reads p.metadata
       → AllHeld (package_rows way (package_meaning held p)) ms → package_of_table reads ms ≡ Some (package_meaning meaning p)
-  members_again ms version metadata (name, (its_version, (edition, (rust_version, (build, (workspace, (authors, (links, (description, (homepage, (documentation, (readme, (keywords, (categories, (exclude, (include, (license, (license_file, (repository, (default_run, (support, (autobins, (autolib, (autoexamples, (autotests, (autobenches, (publish, (resolver, (its_metadata, end))))))))))))))))))))))))))))) =
+  members_again ms version metadata (name, (its_version, (edition, (rust_version, (build, (workspace, (authors, (links, (description, (homepage, (funding, (documentation, (readme, (keywords, (categories, (exclude, (include, (license, (license_file, (repository, (default_run, (support, (autobins, (autolib, (autoexamples, (autotests, (autobenches, (publish, (resolver, (its_metadata, end)))))))))))))))))))))))))))))) =
       search (values_back, eithers, metadata_step {N = PackageMeaning M} way held meaning reads) depth 80 fits 40000
 
   pub package_again : VersionAgain (inheritable_map parts_of p.version) → MetadataAgain way held meaning reads p.metadata

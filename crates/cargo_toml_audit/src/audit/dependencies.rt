@@ -124,7 +124,7 @@ fn package_keys<M>(alloc: Global, package: &Option<Package<M>>) -> AllocResult<V
 }
 
 /// The keys that a package may leave to the workspace.
-fn leavable_rows<M>(package: &Package<M>) -> [Row; 16]
+fn leavable_rows<M>(package: &Package<M>) -> [Row; 17]
     ensures { map (λ r. (r.0.now, r.1)) result ≡ leavable_rows (held_package «package».now) }
 {
     [
@@ -140,6 +140,7 @@ fn leavable_rows<M>(package: &Package<M>) -> [Row; 16]
         ("description", is_inherited(&package.description)),
         ("documentation", is_inherited(&package.documentation)),
         ("homepage", is_inherited(&package.homepage)),
+        ("funding", is_inherited(&package.funding)),
         ("license", is_inherited(&package.license)),
         ("license-file", is_inherited(&package.license_file)),
         ("repository", is_inherited(&package.repository)),

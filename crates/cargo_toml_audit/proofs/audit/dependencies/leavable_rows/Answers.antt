@@ -26,4 +26,5 @@ returns g c =
     (row (λ v. map string_bytes v.items) _ _ _ _ _ (ap not c.is_set-7.ensures) (row publish_meaning _ _ _ _ _ (ap not c.is_set-8.ensures)
     (row file_meaning _ _ _ _ _ (ap not c.is_set-9.ensures) (text_row _ _ _ _ _ c.is_inherited.ensures (text_row _ _ _ _ _ c.is_inherited-2.ensures
     (text_row _ _ _ _ _ c.is_inherited-3.ensures (text_row _ _ _ _ _ c.is_inherited-4.ensures (text_row _ _ _ _ _ c.is_inherited-5.ensures
-    (text_row _ _ _ _ _ c.is_inherited-6.ensures (text_row _ _ _ _ _ c.is_inherited-7.ensures refl)))))))))))))))
+    (text_row _ _ _ _ _ c.is_inherited-6.ensures (text_row _ _ _ _ _ c.is_inherited-7.ensures
+    (text_row _ _ _ _ _ c.is_inherited-8.ensures refl))))))))))))))))

@@ -108,7 +108,8 @@ struct Lists {
     entered: BTreeSet<String>,
 }
 
-/// Reads where the entries of `members` lead, and finds what is odd of the lists.
+/// Reads where the entries of `members` lead, and finds what is listed twice, and entries that are
+/// no patterns.
 fn read_lists<R: Files + AllocGlobal>(
     looking: &mut Looking<'_, R>,
     root: Root<'_>,
@@ -121,7 +122,12 @@ fn read_lists<R: Files + AllocGlobal>(
     let alloc = looking.rt.alloc();
     let all = looking.listed(root.place, root.workspace.members.as_slice())?;
     let mut first = included(alloc, root.place, root.workspace, all.as_slice())?;
-    find_in_lists(alloc, root, first.as_slice(), findings)?;
+    let twice = repeats(alloc, first.as_slice())?;
+    let wrong = wrong_entries(alloc, root.workspace.members.as_slice())?;
+    let wrong_defaults = wrong_entries(alloc, root.workspace.default_members.as_slice())?;
+    find_all(findings, Code::ListedTwice, twice.as_slice())?;
+    find_all(findings, Code::BadPattern, wrong.as_slice())?;
+    find_all(findings, Code::BadPattern, wrong_defaults.as_slice())?;
     let listed = set_of(alloc, all.as_slice())?;
     let entered = set_of(alloc, first.as_slice())?;
     first.push(String::from_str(alloc, root.place)?)?;
@@ -150,24 +156,6 @@ fn find_beside<R: Files + AllocGlobal>(
     find_astray(looking, root, known, findings)?;
     let unseen = unseen(looking.rt.alloc(), &looking.looks)?;
     find_all(findings, Code::Unseen, unseen.as_slice())
-}
-
-/// Finds what is listed twice, by the places that are entered, and entries that are no patterns.
-fn find_in_lists(
-    alloc: Global,
-    root: Root<'_>,
-    entered: &[String],
-    findings: &mut Vec<Finding>,
-) -> AllocResult<()>
-    ensures { OnOk result (oddities_of findings.new ≡ oddities_of findings.old
-        ++ found_in_lists (base_of root.entry) (map string_bytes entered.now)) }
-{
-    let twice = repeats(alloc, entered)?;
-    let wrong = wrong_entries(alloc, root.workspace.members.as_slice())?;
-    let wrong_defaults = wrong_entries(alloc, root.workspace.default_members.as_slice())?;
-    find_all(findings, Code::ListedTwice, twice.as_slice())?;
-    find_all(findings, Code::BadPattern, wrong.as_slice())?;
-    find_all(findings, Code::BadPattern, wrong_defaults.as_slice())
 }
 
 /// The places that entries of `members` lead to, those of them that aren't excluded, and those of

@@ -123,5 +123,5 @@ fn joined(alloc: Global, names: &[String]) -> AllocResult<String>
     if names.is_empty() {
         return String::from_str(alloc, "no");
     }
-    names.join(alloc, ", ")
+    Ok(names.join(alloc, ", ")?)
 }

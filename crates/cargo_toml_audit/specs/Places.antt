@@ -1,6 +1,7 @@
 -- Paths of folders: a path is its bytes, and its names stand between slashes.
 use Rattle.std.specs.Prelude.{◌++◌, ◌&&◌, ◌||◌, ◌==◌, ◌-◌, Bool, true, false, List, [], ◌∷◌, codes}
-use Rattle.std.specs.Prelude.{bytes_eq, filter, fold, get_or, if◌then◌else◌, length, nat_eq, not, take}
+use Rattle.std.specs.Prelude.{bytes_eq, filter, fold, get_or, if◌then◌else◌, length, nat_eq, not}
+use Rattle.std.specs.Prelude.{take}
 use Rattle.std.specs.List.{join_by, list_any, slice_split, starts_with}
 use Rattle.std.specs.Path.{path_join}
 use Rattle.cargo_toml.specs.Action.{Text}

@@ -1,5 +1,6 @@
 -- Which names a manifest has.
-use Rattle.std.specs.Prelude.{Bool, true, false, ◌&&◌, ◌||◌, not, List, [], ◌∷◌, ◌++◌, bytes_eq, map}
+use Rattle.std.specs.Prelude.{Bool, true, false, ◌&&◌, ◌||◌, not, List, [], ◌∷◌, ◌++◌, bytes_eq}
+use Rattle.std.specs.Prelude.{map}
 use Rattle.std.specs.List.{flat_map, list_any}
 use Rattle.cargo_toml.specs.Action.{Text, Item, item_of}
 use Rattle.cargo_toml.specs.{InheritedDependencies.Entries, InheritedManifests.own_tables}

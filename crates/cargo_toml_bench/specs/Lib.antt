@@ -1,6 +1,7 @@
 -- what the proved callers promise, and what files in memory state: a user has to believe these
 pub mod Reports
 pub mod Spelled
+pub mod Printing
 pub mod Alike
 pub mod Pairs
 pub mod Audiences

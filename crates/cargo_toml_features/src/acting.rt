@@ -45,6 +45,7 @@ fn searchable<'m>(texts: Vec<&'m str>) -> Vec<&'m str>
 }
 
 // Whether the text is one of these.
+#[inline(always)]
 fn holds(texts: &[&str], text: &str) -> bool
     requires { IsSearchable (map (λ t. t.now) texts.now) }
     ensures { result ≡ list_any (bytes_eq text.now) (map (λ t. t.now) texts.now) }

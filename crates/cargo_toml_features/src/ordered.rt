@@ -19,6 +19,7 @@ fn is_below(features: &[Feature<'_>], place: usize, name: &str) -> bool
 }
 
 /// How many features stand below a name. Where names come in their order, all do.
+#[inline(always)]
 pub fn lower_bound(features: &[Feature<'_>], name: &str) -> usize
     requires { AreInOrder features.now }
     ensures { IsBoundOf features.now result name.now }
@@ -31,6 +32,7 @@ pub fn lower_bound(features: &[Feature<'_>], name: &str) -> usize
 }
 
 // Whether the feature at this place has the name.
+#[inline(always)]
 fn stands_at(features: &[Feature<'_>], place: usize, name: &str) -> bool
     ensures yes { IsTrue result → (place < length features.now)
         × (nth_text (names_of features.now) place ≡ name.now) }

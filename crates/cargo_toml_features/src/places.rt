@@ -28,6 +28,7 @@ pub fn empty_slots<'n, V: Drop>(
 }
 
 // Whether the name stands at this place.
+#[inline(always)]
 fn stands_at(names: &[&str], place: usize, name: &str) -> bool
     ensures { IsTrue result
         → (place < length names.now) × (nth_text (map (λ n. n.now) names.now) place ≡ name.now) }
@@ -37,6 +38,7 @@ fn stands_at(names: &[&str], place: usize, name: &str) -> bool
 
 /// Where a name stands, if it does. It is looked for at `near` and the place before it first: where
 /// names are looked up in their order and `near` is the place after the last one, they stand there.
+#[inline(always)]
 pub fn place_near(names: &[&str], name: &str, near: usize) -> Option<usize>
     requires { Ascend (map (λ n. n.now) names.now) }
     ensures found { IfSome result
@@ -63,6 +65,7 @@ impl<'n, V: Drop> Slots<'n, V> {
     }
 
     /// The key of a name, if it is there. It is looked for as by [`place_near`].
+    #[inline(always)]
     pub fn key_near(&self, name: &str, near: usize) -> Option<Node>
         ensures found { IfSome result (λ k. (k < length self.now.names.items)
             × (nth_text (names_in self.now) k ≡ name.now)) }
@@ -73,6 +76,7 @@ impl<'n, V: Drop> Slots<'n, V> {
     }
 
     /// Puts a value under a key.
+    #[inline(always)]
     pub fn put(&mut self, key: Node, value: V)
         requires key { key < length self.old.names.items }
         ensures same_names { HaveSameNames self.old self.new }

@@ -21,6 +21,7 @@ use std::alloc::{AllocError, Global};
 use std::collections::BTreeMap;
 
 // Where the entry stands.
+#[inline(always)]
 fn target_key<'m>(entry: &ParseDependency<'m, '_>) -> TargetKey<'m>
     ensures { target_in result ≡ (entry_of entry.now).target }
 {
@@ -31,6 +32,7 @@ fn target_key<'m>(entry: &ParseDependency<'m, '_>) -> TargetKey<'m>
 }
 
 // What is recorded of a key before its first target.
+#[inline(always)]
 fn without_targets<'m: 'd, 'd>(
     alloc: Global,
     entry: &ParseDependency<'m, 'd>,
@@ -44,6 +46,7 @@ fn without_targets<'m: 'd, 'd>(
 }
 
 // One more entry of the key: the first dependency for each target stays.
+#[inline(always)]
 fn add_target<'m: 'd, 'd>(
     dependency: &mut FeatureDependency<'d>,
     entry: &ParseDependency<'m, 'd>,
@@ -57,6 +60,7 @@ fn add_target<'m: 'd, 'd>(
 }
 
 // Whether an entry counts by itself.
+#[inline(always)]
 fn counts<'m>(mentions: &Mentions<'m>, entry: &ParseDependency<'m, '_>) -> bool
     requires { AreInOrder mentions.now.features.items }
     ensures { result ≡ counts_alone (is_mentioned_in mentions.now) (entry_of entry.now) }
@@ -101,6 +105,7 @@ fn counting_entries<'m: 'd, 'd>(
 }
 
 // Records an entry under its key.
+#[inline(always)]
 fn record_at<'m: 'd, 'd>(
     alloc: Global,
     dependencies: &mut Slots<'d, FeatureDependency<'d>>,
@@ -125,6 +130,7 @@ fn record_at<'m: 'd, 'd>(
 // Records an entry if it counts; `is_counted` says whether it does by itself. The answer is the
 // place after it, or else `near`, where it is looked for first. The key of an entry that counts by
 // itself is a name.
+#[inline(always)]
 fn record_entry<'m: 'd, 'd>(
     alloc: Global,
     dependencies: &mut Slots<'d, FeatureDependency<'d>>,

@@ -58,6 +58,7 @@ pub fn keys_in_order<'m, X, S: BuildHasher>(
 }
 
 /// Whether two texts are the same. Most differ in length, which is seen without a call.
+#[inline(always)]
 pub fn is_same(a: &str, b: &str) -> bool
     ensures { result ≡ bytes_eq a.now b.now }
 {

@@ -1,12 +1,13 @@
 -- Features that the filter refuses, by their flags, and answers without them.
-use Rattle.std.proofs.Common.{◌≡◌, ◌↔◌, ◌&&◌, ◌||◌, ◌<◌, not, ℕ, suc, Bool, true, false, List, [], ◌∷◌, length, Bor, Option, Some, None, IfSome, IsTrue, bytes_eq, codes, nat_eq, arith, refl, sym, inl, inr}
+use Rattle.std.proofs.Common.{◌≡◌, ◌↔◌, ◌&&◌, ◌||◌, ◌<◌, not, ℕ, suc, Bool, true, false, List, [], ◌∷◌, length, Bor, Option, Some, None, IfSome, IsTrue, bytes_eq, codes, nat_eq, arith, refl, sym, inl, inr, is_some, ◌∙◌}
 use Rattle.std.proofs.lemmas.{Bool.false≢true, Bool.and_from, Bool.and_parts, Bool.or_cases, Bool.or_left, Bool.or_right, Slice.Eq.bytes_eq-Decides}
-use Rattle.{std.specs.List.slice_index_or, std.specs.List.starts_with, cargo_toml_resolve.proofs.InPlace.has_place}
+use Rattle.std.specs.{List.slice_index_or, List.starts_with, BTreeSet.BTreeSet, HashMap.HashMap}
+use Rattle.{cargo_toml_features.specs.Views.value_at, cargo_toml_resolve.proofs.InPlace.has_place}
 use Rattle.cargo_toml_graph.specs.{Action.Text, Admitted.Listed, Admitted.is_below, Graph.Table, Graph.IsKept, Redirects.RedirectsTo, Removal.is_removed}
 use Rattle.cargo_toml_graph.proofs.{Members.label_within, Members.resolved_alike, PassedBins.grown_weaker, PassedBins.passed_alike}
 use Rattle.cargo_toml_features.specs.{declared.features.Feature.Feature, InOrder.AreInOrder, InOrder.AreTable, InOrder.names_of, InOrder.table_among, Marks.NamedDetails, Marks.details_listed, Recorded.Entry, Resolved.Answer}
 use Rattle.cargo_toml_features.{specs.Resolved.IsAnswer, specs.Resolved.IsAnswerWithout, specs.Resolved.table_of, specs.Places.nth_text, proofs.Agreement.told_by_listed}
-use Rattle.cargo_toml_resolve.specs.{Numbers.IsWanted, Filter.Answers, Filter.Asked, Filter.HasNameFilter, Filter.IsFlagOf, Filter.IsHiddenName, Filter.FilterTells, Numbering.IsFlagged, Removed.IsAnswerBy, Removed.IsRemovedBy}
+use Rattle.cargo_toml_resolve.specs.{Numbers.IsWanted, Filter.Answers, Filter.Asked, Filter.HasNameFilter, Filter.IsFlagOf, Filter.IsHiddenName, Filter.FilterTells, Numbering.IsFlagged, Removed.IsAnswerBy, Removed.IsRemovedBy, KeptFeatures.AreKeptBy, KeptFeatures.AreKept}
 
 -- the flag of the feature of this name, by looking it up
 abbrev pub flag_at : List Feature → List Bool → Text → Bool
@@ -61,6 +62,21 @@ module _ {F : Type 0} (g : Asked F) (filter : Option (Bor F)) where
     -- and one that isn't refused is kept
     pub kept_by : (f : Text) → IsTrue (t.has f) → ¬ IsRemovedBy g filter t f → IsHiddenName f → Answers g filter f true
     kept_by f known stays hidden = grind (arith, flag_of f known)
+
+    -- what is kept by each test that tells the flags is kept by the filter
+    module _ {S : Type 0} (features : HashMap (Bor Text) Feature S) (hidden : HashMap (Bor Text) (BTreeSet (Bor Text)) S)
+        (all : (removed : Text → Bool) → ((f : Text) → IsTrue (removed f) ↔ IsFlagged vs flags f) → AreKept t removed vs features hidden) where
+      stands_hidden : (r : Text) → IsTrue (is_some (value_at hidden r)) ↔ IsFlagged vs flags r
+      stands_hidden r =
+          let same = (all (flag_at vs flags) (flag_is vs flags)).redirected r in
+          let is = flag_is vs flags r in (λ y. is.0 (sym same ∙ y), λ w. same ∙ is.1 w)
+
+      pub are_kept_by : AreKeptBy g filter t vs features hidden
+      are_kept_by = record {
+        removed = λ r. (λ y. (removed_by r).0 ((stands_hidden r).0 y), λ d. (stands_hidden r).1 ((removed_by r).1 d));
+        kept = all (λ r. is_some (value_at hidden r)) stands_hidden;
+        answered = kept_by;
+      }
 
 module _ (listed : Listed) (entries : List Entry) (details : NamedDetails) (own : Text → List Text) where
   abbrev t : Table

@@ -1,15 +1,21 @@
 -- Texts that get numbers, and rows of numbers, one after another.
 use Rattle.std.proofs.Common.{◌≡◌, ◌≢◌, ◌↔◌, ◌⊎◌, ◌<◌, ◌≤◌, ◌+◌, ℕ, zero, suc, Bool, true, false, List, [], ◌∷◌, ◌++◌, length, map, take, get_or, replicate, slice_get, IsTrue, Option, Some, None, is_some, option_map, Bor, refl, sym, ap}
-use Rattle.std.proofs.Common.{subst, inl, inr, ◌∙◌, arith, if◌then◌else◌}
-use Rattle.std.proofs.lemmas.{Bool.false≢true, Bool.cases_lt, Bool.cases_eq, List.length-map, List.map_push, List.take_all, List.get_or-take, List.get_or_append_left, List.length-append, List.length-take-le, List.take-map, List.take-take}
+use Rattle.std.proofs.Common.{subst, inl, inr, ◌∙◌, arith, if◌then◌else◌, btree_map_len, IfSome}
+use Rattle.std.proofs.lemmas.{Bool.false≢true, Bool.cases_lt, Bool.cases_eq, List.length-map, List.map_push, List.take_all, List.get_or-take, List.get_or_append_left, List.length-append, List.length-take-le, List.take-map, List.take-take, Map.Text.is_eq-slice_cmp, Slice.Eq.bytes_eq-Decides}
 use Rattle.std.{proofs.lemmas.List.take_at, proofs.lemmas.List.get_or_past, proofs.lemmas.Map.Made.is_some-lookup, proofs.Math.Seq.get_or-append_seam}
-use Rattle.std.specs.{BTreeMap.BTreeMap, BTreeSet.BTreeSet, BTreeSet.btree_set_len, Map.Iter.deref_pair, Option.option_map_or}
+use Rattle.std.specs.{BTreeMap.BTreeMap, BTreeSet.BTreeSet, BTreeSet.btree_set_len, Map.Iter.deref_pair, Option.option_copied, Option.option_map_or}
 use Rattle.cargo_toml_graph.specs.{Ascending.Ascend, Action.Text, Graph.IsPlain, Reach.Among}
 use Rattle.cargo_toml_features.specs.{Places.nth_text, declared.features.DepAction.DepAction, declared.features.Feature.Feature, Views.action_at, Views.action_of, Views.set_has, InOrder.names_of}
 use Rattle.cargo_toml_features.proofs.{ByPlace.among_at, ByPlace.once, TextKeys.none_in}
 use Rattle.cargo_toml_resolve.specs.{Numbers.IsWanted, Numbers.Leads, Numbers.row_items, Enabling.LeadsTo, Numbering.Gains, Numbering.HasNames, Numbering.IsTarget, Numbering.AreTextsOf, Numbering.Extends, Numbering.IsNodeOf}
 use Rattle.cargo_toml_resolve.specs.{Numbering.AreRead, Parts.deeds_of, Parts.place_names, Texts.texts_now, NumberedTables.IsNaming}
 use Rattle.cargo_toml_resolve.proofs.{Steps.among_more, Steps.among_push, InOrder.among_keys, InOrder.all_seen, InOrder.seen, InOrder.seen_push, Learning.no_keys}
+
+-- a list of one item
+only_item : {X : Type 0} (xs : List X) (x : X) → length xs ≡ 1 → slice_get xs 0 ≡ Some x → xs ≡ x ∷ []
+only_item [] x len first = absurd (omega (arith, len))
+only_item (y ∷ []) x len first = grind arith
+only_item (y ∷ z ∷ zs) x len first = absurd (omega (arith, len))
 
 -- nothing is gained
 pub none_gained : (n own : ℕ) (P : ℕ → Type 0) (row : List ℕ) → ((x : ℕ) → ¬ P x) → Gains n own P row row
@@ -59,6 +65,11 @@ module _ (keys : List (Bor Text)) (own : ℕ) where
       → Gains (length keys) own (λ x. IsTrue (set_has s (nth_text (texts_now keys) x))) old row
   names_gained s ks old row all h x = grind (arith, all_seen)
 
+  -- the one name of a set
+  pub one_gained : (s : BTreeSet (Bor Text)) (name : Text) (old new : List ℕ) → ((x : Text) → (x ≡ name) ↔ IsTrue (set_has s x))
+      → Gains (length keys) own (λ x. nth_text (texts_now keys) x ≡ name) old new → Gains (length keys) own (λ x. IsTrue (set_has s (nth_text (texts_now keys) x))) old new
+  one_gained s name old new is = gained_alike (length keys) (length keys) own (λ x. nth_text (texts_now keys) x ≡ name) (λ x. IsTrue (set_has s (nth_text (texts_now keys) x))) old new refl (λ x lt. is (nth_text (texts_now keys) x))
+
   -- the keys of actions that a loop has met
   abbrev pub acted : List (Bor (Bor Text) × Bor DepAction) → List Text
   acted es = map (λ e. e.0.now.now) es
@@ -67,28 +78,19 @@ module _ (keys : List (Bor Text)) (own : ℕ) where
   abbrev pub PlainSoFar : BTreeMap (Bor Text) DepAction → List (Bor (Bor Text) × Bor DepAction) → ℕ → Type 0
   PlainSoFar m es x = Among (acted es) (nth_text (texts_now keys) x) × IsPlain (action_at m (nth_text (texts_now keys) x))
 
-  action_put : (m : BTreeMap (Bor Text) DepAction) (es : List (Bor (Bor Text) × Bor DepAction)) (k : Bor (Bor Text)) (a : Bor DepAction) (old row new : List ℕ)
+  -- what the action on one more key enables
+  pub action_put : (m : BTreeMap (Bor Text) DepAction) (es : List (Bor (Bor Text) × Bor DepAction)) (k : Bor (Bor Text)) (a : Bor DepAction) (old row new : List ℕ)
       → action_at m k.now.now ≡ Some (action_of a.now) → Gains (length keys) own (PlainSoFar m es) old row
-      → ((x : ℕ) → Among new x ↔ (Among row x ⊎ (((x < length keys) × (x ≢ own) × (nth_text (texts_now keys) x ≡ k.now.now)) × IsPlain (Some (action_of a.now)))))
-      → Gains (length keys) own (PlainSoFar m (es ++ (k, a) ∷ [])) old new
+      → Gains (length keys) own (λ x. (nth_text (texts_now keys) x ≡ k.now.now) × IsPlain (Some (action_of a.now))) row new → Gains (length keys) own (PlainSoFar m (es ++ (k, a) ∷ [])) old new
   action_put m es k a old row new there so_far more x = grind (arith, map_push, among_push)
 
-  -- a plain action enables the feature of its key's name, and another one none
-  pub action_plain : (m : BTreeMap (Bor Text) DepAction) (es : List (Bor (Bor Text) × Bor DepAction)) (k : Bor (Bor Text)) (a : Bor DepAction) (old row new : List ℕ)
-      → action_at m k.now.now ≡ Some (action_of a.now) → Gains (length keys) own (PlainSoFar m es) old row → IsPlain (Some (action_of a.now))
-      → Gains (length keys) own (λ x. nth_text (texts_now keys) x ≡ k.now.now) row new → Gains (length keys) own (PlainSoFar m (es ++ (k, a) ∷ [])) old new
-  action_plain m es k a old row new there so_far plain more = action_put m es k a old row new there so_far (λ x. (
-    λ i. elim ((more x).0 i) [ inl j ↦ inl j | inr t ↦ inr (t, plain) ],
-    elim [ inl j ↦ (more x).1 (inl j) | inr t ↦ (more x).1 (inr t.0) ],
-  ))
+  -- whether the action is plain or not
+  pub action_plain : (key : Text) (a : DepAction) (old new : List ℕ) → IsPlain (Some (action_of a)) → Gains (length keys) own (λ x. nth_text (texts_now keys) x ≡ key) old new
+      → Gains (length keys) own (λ x. (nth_text (texts_now keys) x ≡ key) × IsPlain (Some (action_of a))) old new
+  action_plain key a old new plain = gained_alike (length keys) (length keys) own _ _ old new refl (λ x lt. (λ e. (e, plain), λ p. p.0))
 
-  pub action_left : (m : BTreeMap (Bor Text) DepAction) (es : List (Bor (Bor Text) × Bor DepAction)) (k : Bor (Bor Text)) (a : Bor DepAction) (old row : List ℕ)
-      → action_at m k.now.now ≡ Some (action_of a.now) → Gains (length keys) own (PlainSoFar m es) old row → ¬ IsPlain (Some (action_of a.now))
-      → Gains (length keys) own (PlainSoFar m (es ++ (k, a) ∷ [])) old row
-  action_left m es k a old row there so_far none = action_put m es k a old row row there so_far (λ x. (
-    λ i. inl i,
-    elim [ inl i ↦ i | inr t ↦ absurd (none t.1) ],
-  ))
+  pub action_left : (key : Text) (a : DepAction) (row : List ℕ) → ¬ IsPlain (Some (action_of a)) → Gains (length keys) own (λ x. (nth_text (texts_now keys) x ≡ key) × IsPlain (Some (action_of a))) row row
+  action_left key a row none = none_gained (length keys) own _ row (λ x p. none p.1)
 
   keys_shown : (es : List (Bor (Bor Text) × Bor DepAction)) → acted es ≡ texts_now (map (λ (e : Bor Text × DepAction). e.0) (map deref_pair es))
   keys_shown [] = refl
@@ -96,6 +98,11 @@ module _ (keys : List (Bor Text)) (own : ℕ) where
 
   plain_there : (o : Option DepAction) → IsPlain (option_map action_of o) → is_some o ≡ true
   plain_there o p = grind arith
+
+  -- what the one action of a map enables
+  pub one_acted : (m : BTreeMap (Bor Text) DepAction) (k : Bor Text) (a : DepAction) (old new : List ℕ) → btree_map_len m ≡ 1 → slice_get m.entries 0 ≡ Some (k, a)
+      → Gains (length keys) own (λ x. (nth_text (texts_now keys) x ≡ k.now) × IsPlain (Some (action_of a))) old new → Gains (length keys) own (λ x. IsPlain (action_at m (nth_text (texts_now keys) x))) old new
+  one_acted m k a old new len first = gained_alike (length keys) (length keys) own _ _ old new refl (λ x lt. grind (arith, only_item m.entries (k, a) len first, is_eq-slice_cmp, bytes_eq-Decides))
 
   pub all_actions : (m : BTreeMap (Bor Text) DepAction) (es : List (Bor (Bor Text) × Bor DepAction)) (old row : List ℕ) → map deref_pair es ≡ m.entries → Gains (length keys) own (PlainSoFar m es) old row
       → Gains (length keys) own (λ x. IsPlain (action_at m (nth_text (texts_now keys) x))) old row
@@ -185,6 +192,14 @@ names_alike n ts P Q row same h = grind arith
 
 pub names_empty : (n : ℕ) (ts : List Text) (s : BTreeSet (Bor Text)) (row : List ℕ) → row ≡ [] → btree_set_len s ≡ 0 → HasNames n ts (λ k. IsTrue (set_has s k)) row
 names_empty n ts s row none empty = names_alike n ts (Among (seen [])) (λ k. IsTrue (set_has s k)) row (λ k. (λ i. absurd i, λ y. absurd (false≢true (sym (none_in s (no_keys s.keys empty) k) ∙ y)))) (names_none n ts row none)
+
+-- the name of a set of one
+pub one_name : (s : BTreeSet (Bor Text)) (o : Option (Bor (Bor Text))) → btree_set_len s ≡ 1 → IfSome o (λ k. slice_get s.keys 0 ≡ Some k.now)
+    → IfSome (option_copied o) (λ n. (x : Text) → (x ≡ n.now) ↔ IsTrue (set_has s x))
+one_name s None len first = tt
+one_name s (Some k) len first = λ x.
+    let has : Among (texts_now (k.now ∷ [])) x ↔ IsTrue (set_has s x) = subst (λ ks. Among (texts_now ks) x ↔ IsTrue (set_has s x)) (only_item s.keys k.now len first) (among_keys x s.keys) in
+    (λ e. has.0 (inl e), λ y. elim (has.1 y) [ inl e ↦ e | inr none ↦ absurd none ])
 
 pub names_all : (n : ℕ) (ts : List Text) (s : BTreeSet (Bor Text)) (ks : List (Bor (Bor Text))) (row : List ℕ) → map (λ k. k.now) ks ≡ s.keys
     → HasNames n ts (Among (seen ks)) row → HasNames n ts (λ k. IsTrue (set_has s k)) row

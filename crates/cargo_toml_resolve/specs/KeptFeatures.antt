@@ -1,7 +1,7 @@
 -- What is kept of features once some are removed, feature by feature.
 use Rattle.std.specs.Prelude.{◌≡◌, ◌↔◌, ◌<◌, ℕ, Bool, false, List, length, IsTrue, [], map, Some}
-use Rattle.std.specs.{Prelude.IfSome, Prelude.is_some, Prelude.option_map, Option.option_map_or}
-use Rattle.std.specs.{Borrow.Bor, BTreeSet.BTreeSet, HashMap.HashMap}
+use Rattle.std.specs.Prelude.{IfSome, Option, is_some, option_map, true}
+use Rattle.std.specs.{Option.option_map_or, Borrow.Bor, BTreeSet.BTreeSet, HashMap.HashMap}
 use Rattle.cargo_toml_graph.specs.{Action.Text, Action.IsJoin, Bins.AreInByteOrder}
 use Rattle.cargo_toml_graph.specs.{Bins.ArePassedOn, Graph.Table, Graph.IsEnabledBy}
 use Rattle.cargo_toml_graph.specs.{Graph.KeepsName, Graph.Says, Graph.IsResolved, Removal.pass_all}
@@ -10,7 +10,8 @@ use Rattle.cargo_toml_features.specs.{Places.nth_text, declared.features.Feature
 use Rattle.cargo_toml_features.specs.InOrder.{AreInOrder, AreTable, feature_at, names_of}
 use Rattle.cargo_toml_features.specs.Views.{action_at, set_has, resolution_of, value_at}
 use Rattle.cargo_toml_resolve.specs.{NumberedTables.IsNumbered, Numbers.IsWanted, Parts.said_of}
-use Rattle.cargo_toml_resolve.specs.Passing.{bins_of}
+use Rattle.cargo_toml_resolve.specs.{Passing.bins_of, Filter.Asked, Filter.Answers}
+use Rattle.cargo_toml_resolve.specs.{Filter.IsHiddenName, Removed.IsRemovedBy}
 
 -- v holds what the kept feature f does
 pub record IsKeptFeature (t : Table) (Removed : Text → Type 0) (f : Text)
@@ -53,3 +54,13 @@ pub record AreKept {S : Type 0} (t : Table) (removed : Text → Bool) (vs : List
   pub redirects : (r : Text) → IfSome (value_at hidden r)
       (λ names. (x : Text) → IsTrue (set_has names x)
       ↔ RedirectsTo t (λ s. IsTrue (removed s)) (λ a b. IsTrue (is_below a b)) r x)
+
+-- the same, where those are removed that the filter refuses: it keeps each other one whose name
+-- begins with `_`
+pub record AreKeptBy {F S : Type 0} (g : Asked F) (filter : Option (Bor F)) (t : Table)
+    (vs : List Feature) (features : HashMap (Bor Text) Feature S)
+    (hidden : HashMap (Bor Text) (BTreeSet (Bor Text)) S) : Type 0 where
+  pub removed : (r : Text) → IsTrue (is_some (value_at hidden r)) ↔ IsRemovedBy g filter t r
+  pub kept : AreKept t (λ r. is_some (value_at hidden r)) vs features hidden
+  pub answered : (f : Text) → IsTrue (t.has f) → ¬ IsRemovedBy g filter t f → IsHiddenName f
+      → Answers g filter f true

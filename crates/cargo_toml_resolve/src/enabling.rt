@@ -9,7 +9,7 @@ ghost use Rattle.cargo_toml_resolve.specs.Enabling.{AreSameButEnablers, GainEnab
 ghost use Rattle.cargo_toml_resolve.specs.{Enabling.LeadsTo, Enabling.LearnBy, Numbering.Gains};
 ghost use Rattle.cargo_toml_resolve.specs.{Parts.LeadsAt, Texts.texts_now};
 
-use crate::numbering::{Cursor, keys_of, leads_nowhere, push_actions, push_target};
+use crate::numbering::{Cursor, keys_of, leads_nowhere, only_name, push_actions, push_target};
 use cargo_toml_features::action::add_text;
 use cargo_toml_features::features::Feature;
 use cargo_toml_features::node::Node;
@@ -31,6 +31,9 @@ fn push_names(
 {
     if named.is_empty() {
         return Ok(());
+    }
+    if let Some(name) = only_name(named) {
+        return push_target(row, name, keys, own, cursor);
     }
     for name in named.iter() {
         push_target(row, *name, keys, own, cursor)?;

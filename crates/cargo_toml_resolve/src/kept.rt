@@ -49,6 +49,24 @@ pub fn all_hashed<'m, S: BuildHasher + Clone>(
     })
 }
 
+/// What is kept of features where none is removed: nothing is numbered, and no path is walked. They
+/// stand in the byte order of their names, and none of them has its enablers yet. It fails only
+/// where memory runs out, or the clone of `state` does.
+pub fn all_kept<'m, S: BuildHasher + Clone>(
+    alloc: Global,
+    state: &S,
+    mut features: Vec<Feature<'m>>,
+) -> Result<Kept<'m, S>, AllocError>
+    requires in_order { AreInOrder features.items }
+    requires no_enablers { HaveNoEnablers features.items }
+    ensures { IfOk result (λ l. (t : Table) (removed : Text → Bool) →
+        AreTable t features.entry.items → ((f : Text) → ¬ IsTrue (removed f)) →
+        AreKept t removed features.entry.items l.features l.hidden) }
+{
+    set_enablers(alloc, &mut features)?;
+    all_hashed(alloc, state, features)
+}
+
 // The texts of a redirect, as a set: the names of the removed feature itself, where these are its
 // redirect.
 fn redirect_of<'m>(
@@ -140,14 +158,8 @@ pub fn kept_of<'m, S: BuildHasher + Clone>(
         ((f : Text) → IsTrue (removed f) ↔ IsFlagged features.entry.items flags.now f) →
         AreKept t removed features.entry.items l.features l.hidden) }
 {
-    // Most manifests have no hidden feature: then nothing is numbered and no path is walked. Where
-    // there is one, its removal finds what enables the others.
-    if flags.contains(&true) {
-        let graph = number(alloc, features.as_slice(), flags)?;
-        let walked = remove(alloc, &mut features, graph)?;
-        hashed_apart(alloc, state, features, &walked)
-    } else {
-        set_enablers(alloc, &mut features)?;
-        all_hashed(alloc, state, features)
-    }
+    let graph = number(alloc, features.as_slice(), flags)?;
+    // The removal finds what enables the others.
+    let walked = remove(alloc, &mut features, graph)?;
+    hashed_apart(alloc, state, features, &walked)
 }

@@ -82,6 +82,16 @@ fn node_of<'m>(
     Ok(node)
 }
 
+/// The name in a set of one. It costs less to take than to walk the set.
+pub(crate) fn only_name<'m>(named: &BTreeSet<&'m str>) -> Option<&'m str>
+    ensures { IfSome result (λ n. (x : Text) → (x ≡ n.now) ↔ IsTrue (set_has named.now x)) }
+{
+    if named.len() != 1 {
+        return None;
+    }
+    named.first().copied()
+}
+
 // The row becomes the nodes of what a feature names.
 fn name_row<'m>(
     row: &mut Vec<Node>,
@@ -100,6 +110,11 @@ fn name_row<'m>(
 {
     // To begin a walk over an empty set costs more than this.
     if named.is_empty() {
+        return Ok(());
+    }
+    if let Some(name) = only_name(named) {
+        let node = node_of(texts, count, name, cursor)?;
+        row.push(node)?;
         return Ok(());
     }
     for name in named.iter() {
@@ -156,6 +171,26 @@ fn is_plain(action: &DepAction<'_>) -> bool
     !action.is_conditional && !action.is_dep_only
 }
 
+// What an action on the key enables, other than the one in place `own`, is put at the end.
+fn push_action(
+    row: &mut Vec<Node>,
+    key: &str,
+    action: &DepAction<'_>,
+    keys: &[&str],
+    own: Node,
+    cursor: &mut Cursor,
+) -> Result<(), AllocError>
+    requires { Ascend (texts_now keys.now) }
+    ensures { OnOk result (Gains (length keys.now) own
+        (λ x. (nth_text (texts_now keys.now) x ≡ key.now) × IsPlain (Some (action_of action.now)))
+        row.old.items row.new.items) }
+{
+    if is_plain(action) {
+        push_target(row, key, keys, own, cursor)?;
+    }
+    Ok(())
+}
+
 /// Those that the actions enable, other than the one in place `own`, are put at the end. An implied
 /// feature acts on the dependency of its own name, so the first is looked for there. It fails only
 /// where memory runs out.
@@ -175,10 +210,14 @@ pub(crate) fn push_actions(
         return Ok(());
     }
     let mut cursor = Cursor { near: own.place() };
-    for (key, action) in actions.iter() {
-        if is_plain(action) {
-            push_target(row, *key, keys, own, &mut cursor)?;
+    // To begin a walk over a map costs more than this.
+    if actions.len() == 1 {
+        if let Some((key, action)) = actions.first_key_value() {
+            return push_action(row, *key, action, keys, own, &mut cursor);
         }
+    }
+    for (key, action) in actions.iter() {
+        push_action(row, *key, action, keys, own, &mut cursor)?;
     }
     Ok(())
 }

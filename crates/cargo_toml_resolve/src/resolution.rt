@@ -1,17 +1,19 @@
 //! From what a manifest lists to the whole answer.
 ghost use Rattle.std.specs.Prelude.{map, IfOk};
-ghost use Rattle.cargo_toml_graph.specs.Reach.{IsOnce};
+ghost use Rattle.cargo_toml_graph.specs.{Graph.Table, Reach.IsOnce};
 ghost use Rattle.cargo_toml_features.specs.{FirstTarget.HaveTargets, OwnBins.own_of};
 ghost use Rattle.cargo_toml_features.specs.{OwnBins.bin_requirement, Marks.named_details};
 ghost use Rattle.cargo_toml_features.specs.{Reached.IsKeyed, Views.listed_of, Views.answer_of};
+ghost use Rattle.cargo_toml_features.specs.InOrder.{AreInOrder, AreTable, HaveNoEnablers};
 ghost use Rattle.cargo_toml_features.specs.Views.{entry_of};
-ghost use Rattle.cargo_toml_resolve.specs.{Filter.HasNameFilter, Removed.IsAnswerBy};
+ghost use Rattle.cargo_toml_resolve.specs.{Filter.HasNameFilter, KeptFeatures.AreKeptBy};
+ghost use Rattle.cargo_toml_resolve.specs.Removed.{IsAnswerBy};
 
-use crate::flags::hidden_flags;
+use crate::flags::{hidden_flags, hides_any};
 use crate::hashing::hashed_dependencies;
-use crate::kept::{Kept, kept_of};
+use crate::kept::{Kept, all_kept, kept_of};
 use cargo_toml_features::admit::Listing;
-use cargo_toml_features::features::{Features, ParseDependency};
+use cargo_toml_features::features::{Feature, Features, ParseDependency};
 use cargo_toml_features::required::Requirement;
 use cargo_toml_features::resolve_all;
 use cargo_toml_features::unremoved::Unremoved;
@@ -27,6 +29,29 @@ pub struct Lists<'l, 'm, 'd> {
     pub entries: &'l [ParseDependency<'m, 'd>],
     /// What binaries require.
     pub requirements: &'l [Requirement<'m>],
+}
+
+// What is kept of features without those that the filter refuses. They stand in the byte order of
+// their names, and none of them has its enablers yet. It fails only where memory runs out, or the
+// clone of `state` does.
+fn kept_by<'m, F: Fn(&str) -> bool, S: BuildHasher + Clone>(
+    alloc: Global,
+    state: &S,
+    filter: Option<&F>,
+    features: Vec<Feature<'m>>,
+) -> Result<Kept<'m, S>, AllocError>
+    requires filter { HasNameFilter F.Fn filter }
+    requires in_order { AreInOrder features.items }
+    requires no_enablers { HaveNoEnablers features.items }
+    ensures { IfOk result (λ l. (t : Table) → AreTable t features.entry.items →
+        AreKeptBy F.Fn filter.entry t features.entry.items l.features l.hidden) }
+{
+    // Most manifests have no hidden feature: then no flags are made.
+    if !hides_any(features.as_slice(), filter) {
+        return all_kept(alloc, state, features);
+    }
+    let flags = hidden_flags(alloc, features.as_slice(), filter)?;
+    kept_of(alloc, state, features, flags.as_slice())
 }
 
 /// Resolves the listed features, and removes those whose names begin with `_`, except those that
@@ -53,16 +78,15 @@ pub fn resolve<'m: 'd, 'd, F: Fn(&str) -> bool, S: BuildHasher + Clone>(
         features,
         dependencies,
     } = resolve_all(alloc, lists.listings, lists.entries, lists.requirements)?;
-    let flags = hidden_flags(alloc, features.as_slice(), filter)?;
     let Kept {
         features: kept,
         hidden: hidden_features,
-    } = kept_of(alloc, state, features, flags.as_slice())?;
+    } = kept_by(alloc, state, filter, features)?;
     let dependencies = hashed_dependencies(state.clone()?, alloc, dependencies)?;
     Ok(Features {
         features: kept,
         dependencies,
-        removed_hidden_features: flags.contains(&true),
+        removed_hidden_features: !hidden_features.is_empty(),
         hidden_features,
     })
 }

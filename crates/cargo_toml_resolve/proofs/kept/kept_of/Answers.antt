@@ -1,13 +1,12 @@
 -- From what stands in places to what is kept by name.
 use Rattle.std.proofs.Common.{◌≡◌, ◌↔◌, ◌<◌, ℕ, Bool, true, false, List, [], length, map, Option, Some, None, Bor, IsTrue, IsSome, IfSome, is_some, option_map, slice_get, sym, ap, subst, inl, ◌∙◌, arith}
-use Rattle.std.{proofs.lemmas.Option.slice_get_within, proofs.lemmas.Bool.false≢true, specs.BTreeSet.BTreeSet, specs.HashMap.HashMap, specs.Option.IsSomeAnd, specs.Option.option_map_or}
+use Rattle.std.{proofs.lemmas.Option.slice_get_within, specs.BTreeSet.BTreeSet, specs.HashMap.HashMap, specs.Option.IsSomeAnd, specs.Option.option_map_or}
 use Rattle.cargo_toml_graph.{specs.Action.Text, specs.Admitted.is_below, specs.Graph.Table, specs.Graph.IsKept, specs.Redirects.RedirectsTo, specs.Removal.pass_all, specs.Removal.unremoved, specs.Ascending.Ascend, proofs.Texts.by_true}
 use Rattle.cargo_toml_resolve.specs.{Numbers.IsWanted, Numbers.row_items, declared.graph.Graph.Graph, declared.graph.Walked.Walked, KeptFeatures.IsKeptFeature, KeptFeatures.StandFor, KeptFeatures.own_bins, KeptFeatures.AreKept}
 use Rattle.cargo_toml_resolve.specs.{Parts.deeds_of, Parts.said_of, Holding.HaveOwnSets, Holding.HasTextsOf, Holding.IsTextOf, Placed.ArePlaced, Placed.Shows, Placed.AreHashed, Texts.texts_now}
 use Rattle.cargo_toml_resolve.proofs.{Answered.named_by, Answered.resolved_is, InPlace.found_at, InPlace.name_in, InPlace.stands_in, InPlace.alike_len, InPlace.alike_place, InPlace.names_alike, ByFilter.flag_at, ByFilter.flag_is}
-use Rattle.cargo_toml_resolve.proofs.{ByFilter.own_table, Learning.in_order_still, Learning.kept_still, Learning.if_ok_weaker}
+use Rattle.cargo_toml_resolve.proofs.{ByFilter.own_table, Learning.if_ok_weaker}
 use Rattle.cargo_toml_features.specs.{Places.nth_text, declared.features.Feature.Feature, InOrder.feature_at, InOrder.table_among, Views.set_has, Views.value_at}
-use mathlib.Core.Bool.{beq}
 use Rattle.cargo_toml_resolve.proofs.Answered as numbered
 use Rattle.cargo_toml_resolve.proofs.kept.kept_of.Goals as goal
 
@@ -155,17 +154,7 @@ hashed_apart-requires-clause-own g c =
 pub hashed_apart-requires-clause-count : goal.hashed_apart-requires-clause-count
 hashed_apart-requires-clause-count g c = c.in_ok-walked.ensures.count ∙ sym (alike_len said_of c.args.features.items c.remove.new.features.items c.in_ok-walked.ensures.same)
 
-pub returns-in_ok-walked : goal.returns-in_ok-walked
-returns-in_ok-walked g c = if_ok_weaker c.hashed_apart.result _ _ (λ l hashed t removed same removed_is.
+pub returns : goal.returns
+returns g c = if_ok_weaker c.hashed_apart.result _ _ (λ l hashed t removed same removed_is.
     are_kept t removed c.args.features.items c.remove.new.features.items c.in_ok-graph.graph c.in_ok-walked.walked
     ((rw c.as_slice.ensures.value at c.in_ok-graph.ensures.numbered) t removed same removed_is) c.in_ok-walked.ensures l.features l.hidden hashed) c.hashed_apart.ensures
-
-pub all_hashed-requires : goal.all_hashed-requires
-all_hashed-requires g c = in_order_still c.args.features.items c.set_enablers.new.features.items c.in_ok-set_enablers.ensures.same c.requires.in_order
-
-pub returns-in_ok-set_enablers : goal.returns-in_ok-set_enablers
-returns-in_ok-set_enablers g c = if_ok_weaker c.all_hashed.result _ _ (λ l h t removed made removed_is.
-    kept_still c.args.features.items c.set_enablers.new.features.items c.in_ok-set_enablers.ensures.same t removed l.features l.hidden (h t removed (c.in_ok-set_enablers.ensures.unremoved t made) (λ f gone.
-    let flagged = (removed_is f).0 gone in
-    let below : flagged.0 < length c.args.flags.now = subst (λ n. flagged.0 < n) (sym c.requires.count) flagged.1 in
-    false≢true (sym (c.if-contains.ensures.cases flagged.0 false (omega arith) below) ∙ ap (λ b. beq b true) flagged.3)))) c.all_hashed.ensures

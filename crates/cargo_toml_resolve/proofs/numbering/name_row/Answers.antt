@@ -13,26 +13,26 @@ returns-then-is_empty-clause-names c = names_empty c.args.count (texts_now c.arg
 pub loop-name-init : goal.loop-name-init
 loop-name-init c = grind (arith, extends_none c.args.count (texts_now c.args.texts.now.items), names_none c.args.count (texts_now c.args.texts.now.items) c.args.row.now.items c.requires.empty)
 
-pub node_of-requires-clause-fits : goal.node_of-requires-clause-fits
-node_of-requires-clause-fits c = texts_longer c.args.count c.args.texts.now.items c.loop-name.texts.items c.requires.fits c.loop-name.invariant.extends
+pub node_of-requires-in-loop-name-clause-fits : goal.node_of-requires-in-loop-name-clause-fits
+node_of-requires-in-loop-name-clause-fits c = texts_longer c.args.count c.args.texts.now.items c.loop-name.texts.items c.requires.fits c.loop-name.invariant.extends
 
-pub node_of-requires-clause-keys : goal.node_of-requires-clause-keys
-node_of-requires-clause-keys c = grind (arith, front_still, fits_now c.args.count c.args.texts.now.items c.requires.fits, c.loop-name.invariant.extends)
+pub node_of-requires-in-loop-name-clause-keys : goal.node_of-requires-in-loop-name-clause-keys
+node_of-requires-in-loop-name-clause-keys c = grind (arith, front_still, fits_now c.args.count c.args.texts.now.items c.requires.fits, c.loop-name.invariant.extends)
 
 pub loop-name-preserved : goal.loop-name-preserved
 loop-name-preserved c =
     let n = c.args.count in
     let old = texts_now c.args.texts.now.items in
     let now = texts_now c.loop-name.texts.items in
-    let new = texts_now c.node_of.new.texts.items in
+    let new = texts_now c.node_of-in-loop-name.new.texts.items in
     let i = c.loop-name.invariant in
     let fits = fits_now n c.args.texts.now.items c.requires.fits in
     let still = texts_longer n c.args.texts.now.items c.loop-name.texts.items c.requires.fits i.extends in
     record {
-      extends = extends_then n old now i.extends new fits c.in_ok-node.ensures.extends;
-      names = subst (HasNames n new (Among (seen (c.loop-name.yielded ++ c.in-Some.name ∷ [])))) (sym c.in_ok-push.ensures.items)
-          (names_more n new c.loop-name.yielded c.in-Some.name c.loop-name.row.items c.in_ok-node.node c.in_ok-node.ensures.node
-          (names_still n now new c.in_ok-node.ensures.extends (Among (seen c.loop-name.yielded)) c.loop-name.row.items (fits_now n c.loop-name.texts.items still) i.names));
+      extends = extends_then n old now i.extends new fits c.in_ok-node-2.ensures.extends;
+      names = subst (HasNames n new (Among (seen (c.loop-name.yielded ++ c.in-Some-name.name ∷ [])))) (sym c.in_ok-push-2.ensures.items)
+          (names_more n new c.loop-name.yielded c.in-Some-name.name c.loop-name.row.items c.in_ok-node-2.node c.in_ok-node-2.ensures.node
+          (names_still n now new c.in_ok-node-2.ensures.extends (Among (seen c.loop-name.yielded)) c.loop-name.row.items (fits_now n c.loop-name.texts.items still) i.names));
     }
 
 pub returns-clause-names : goal.returns-clause-names

@@ -1,15 +1,14 @@
 -- From all that is resolved, and what is kept of it once hidden features are taken out, to the whole answer.
-use mathlib.Core.Bool.{beq}
-use Rattle.std.proofs.Common.{arith, ◌≡◌, ◌↔◌, Bool, length, true, false, List, [], Bor, map, Option, IsTrue, IfSome, Some, is_some, option_map, refl, sym, ◌∙◌, ◌<◌, ℕ, ap, subst}
-use Rattle.std.{proofs.lemmas.Bool.false≢true, specs.BTreeSet.BTreeSet, specs.HashMap.HashMap, specs.List.IsAnyAnswer, specs.List.slice_index_or, specs.Option.option_map_or}
+use Rattle.std.proofs.Common.{arith, not, hash_map_len, bytes_eq, ◌∷◌, ◌≡◌, ◌↔◌, Bool, length, true, false, List, [], Bor, map, Option, IsTrue, IfSome, Some, is_some, option_map, refl, sym, ◌∙◌, subst}
+use Rattle.std.{proofs.lemmas.Bool.false≢true, specs.BTreeSet.BTreeSet, specs.HashMap.HashMap, specs.Option.option_map_or, specs.Map.lookup, proofs.lemmas.Slice.Eq.bytes_eq-Decides}
 use Rattle.cargo_toml_graph.specs.{Action.Text, Admitted.Listed, Admitted.is_below, Bins.ArePassedOn, Graph.Table, Redirects.RedirectsTo, Removal.unremoved}
 use Rattle.cargo_toml_graph.proofs.InByteOrder.{alike_itself, passed_all_alike, passed_has}
-use Rattle.cargo_toml_features.specs.{Places.nth_text, declared.features.Feature.Feature, declared.features.Features.Features, InOrder.AreTable, InOrder.feature_at, InOrder.names_of, InOrder.table_among, Reached.IsKeyed, Marks.NamedDetails}
+use Rattle.cargo_toml_features.specs.{declared.features.Feature.Feature, declared.features.Features.Features, InOrder.AreTable, InOrder.feature_at, InOrder.table_among, Reached.IsKeyed, Marks.NamedDetails}
 use Rattle.cargo_toml_features.specs.{Marks.marked, Marks.marks_in, Marks.marks_of, Marks.named_details, Recorded.Entry, Recorded.entries_at, Recorded.recorded_of, Resolved.IsAnswerWithout, Resolved.SameRecorded, Resolved.table_of}
 use Rattle.cargo_toml_features.specs.{Views.answer_of, Views.set_has, Views.value_at, Views.listed_of, Views.entry_of, Views.recorded_in, OwnBins.own_of, OwnBins.bin_requirement}
 use Rattle.cargo_toml_package.specs.Details.{plain_detail}
-use Rattle.cargo_toml_resolve.specs.{KeptFeatures.own_bins, KeptFeatures.AreKept, Numbering.IsFlagged, Parts.said_of, Filter.IsFlagOf, Removed.IsRemovedBy}
-use Rattle.cargo_toml_resolve.proofs.{InPlace.found_stands, ByFilter.answer_alike, ByFilter.answer_by, ByFilter.flag_at, ByFilter.flag_is, ByFilter.kept_by, ByFilter.own_table, ByFilter.removed_by}
+use Rattle.cargo_toml_resolve.specs.{KeptFeatures.own_bins, KeptFeatures.AreKept, Parts.said_of, Removed.IsRemovedBy}
+use Rattle.cargo_toml_resolve.proofs.{InPlace.found_stands, ByFilter.answer_alike, ByFilter.answer_by, ByFilter.own_table}
 use Rattle.cargo_toml_resolve.proofs.resolution.resolve.Goals as goal
 
 -- each feature that is kept stands under its own key
@@ -79,22 +78,15 @@ module _ {S H : Type 0} (listed : Listed) (entries : List Entry) (details : Name
     redirects = redirects;
   }
 
--- some flag stands exactly if some feature is removed
-some_flagged : (b : Bool) (vs : List Feature) (flags : List Bool) (R : Text → Type 0) → length flags ≡ length vs → IsAnyAnswer (λ y c. beq y true ≡ c) flags b →
-    ((f : Text) → R f ↔ IsFlagged vs flags f) → IsTrue b ↔ ((r : Text) × R r)
-some_flagged true vs flags R len h is = (
-  λ y.
-      let name = nth_text (names_of vs) h.0 in
-      (name, (is name).1 (h.0, (let below = h.1 in omega (arith, below, len)), refl, stands (slice_index_or flags h.0 false) (h.2 false))),
-  λ r. refl,
-)
+-- some feature is removed exactly if something stands for one
+some_hidden : {X S : Type 0} (m : HashMap (Bor Text) X S) (b : Bool) → IsTrue b ↔ (hash_map_len m ≡ 0) → IsTrue (not b) ↔ ((r : Text) × IsTrue (is_some (value_at m r)))
+some_hidden {X} m b empty = go m.entries b empty
   where
-    stands : (c : Bool) → beq c true ≡ true → c ≡ true
-    stands c e = grind arith
-some_flagged false vs flags R len h is = (
-  λ y. absurd (false≢true y),
-  λ r. grind arith,
-)
+    go : (es : List (Bor Text × X)) (b : Bool) → IsTrue b ↔ (length es ≡ 0) → IsTrue (not b) ↔ ((r : Text) × IsTrue (is_some (lookup (λ k. bytes_eq r k.now) es)))
+    go [] true e = (λ y. absurd (false≢true y), λ r. absurd (false≢true r.1))
+    go [] false e = absurd (false≢true (e.1 refl))
+    go (p ∷ es) true e = absurd (let none = e.0 refl in omega (arith, none))
+    go (p ∷ es) false e = (λ y. (p.0.now, grind (arith, (bytes_eq-Decides p.0.now p.0.now).1 refl)), λ r. refl)
 
 pub returns-clause-resolved : goal.returns-clause-resolved
 returns-clause-resolved g c =
@@ -104,29 +96,21 @@ returns-clause-resolved g c =
     let own = own_of (map bin_requirement c.args.lists.now.requirements.now) in
     let t : Table = table_of listed entries in
     let all = c.in_ok-features.ensures in
-    let vs = c.in_ok-features.field-0.features.items in
-    let flags = c.in_ok-flags.flags.items in
-    let len : length flags ≡ length vs = c.in_ok-flags.ensures.len ∙ ap length c.as_slice.ensures.value in
-    let are : (i : ℕ) → i < length vs → IsFlagOf g.F.Fn c.args.filter (nth_text (names_of vs) i) (slice_index_or flags i false) =
-    subst (λ xs. (i : ℕ) → i < length xs → IsFlagOf g.F.Fn c.args.filter (nth_text (names_of xs) i) (slice_index_or flags i false)) c.as_slice.ensures.value c.in_ok-flags.ensures.flags in
-    let removed = flag_at vs flags in
-    let is : (f : Text) → IsTrue (removed f) ↔ IsFlagged vs flags f = flag_is vs flags in
-    let by = removed_by g.F.Fn c.args.filter c.requires.filter t vs all.features.table all.in_order flags are in
-    let into : (f : Text) → IsTrue (removed f) → IsRemovedBy g.F.Fn c.args.filter t f = λ f y. (by f).0 ((is f).0 y) in
-    let back : (f : Text) → IsRemovedBy g.F.Fn c.args.filter t f → IsTrue (removed f) = λ f r. (is f).1 ((by f).1 r) in
-    let answer : Features g.row.S.Denot g.row.S-Hasher.Denot = record { features = c.in_ok-kept.field-0.features; dependencies = c.in_ok-dependencies.dependencies; removed_hidden_features = c.contains.result; hidden_features = c.in_ok-kept.field-0.hidden } in
-    let without = answer_alike listed entries details own (λ f. IsTrue (removed f)) (IsRemovedBy g.F.Fn c.args.filter t) (answer_of answer) into back
-    (answers {S = g.row.S.Denot} {H = g.row.S-Hasher.Denot} listed entries details own removed vs answer
+    let by = c.in_ok-kept.ensures t all.features.table in
+    let hidden = c.in_ok-kept.field-0.hidden in
+    let removed : Text → Bool = λ r. is_some (value_at hidden r) in
+    let into : (f : Text) → IsTrue (removed f) → IsRemovedBy g.F.Fn c.args.filter t f = λ f. (by.removed f).0 in
+    let answer : Features g.row.S.Denot g.row.S-Hasher.Denot = record { features = c.in_ok-kept.field-0.features; dependencies = c.in_ok-dependencies.dependencies; removed_hidden_features = not c.is_empty.result; hidden_features = hidden } in
+    let without = answer_alike listed entries details own (λ f. IsTrue (removed f)) (IsRemovedBy g.F.Fn c.args.filter t) (answer_of answer) into (λ f. (by.removed f).1)
+    (answers {S = g.row.S.Denot} {H = g.row.S-Hasher.Denot} listed entries details own removed c.in_ok-features.field-0.features.items answer
     all.features.table (λ f y. (into f y).there) all.features.marks all.features.bins
     (λ k. subst (λ o. SameRecorded (option_map recorded_in o) (recorded_of (entries_at listed entries k))) (sym (c.in_ok-dependencies.ensures.same k)) (all.dependencies k))
-    (c.in_ok-kept.ensures t removed all.features.table (subst (λ fs. (f : Text) → IsTrue (removed f) ↔ IsFlagged vs fs f) (sym c.as_slice-2.ensures.value) is))
-    (some_flagged c.contains.result vs c.deref.result.now (λ f. IsTrue (removed f)) (ap length c.deref.ensures.value ∙ len) c.contains.ensures.cases
-    (subst (λ fs. (f : Text) → IsTrue (removed f) ↔ IsFlagged vs fs f) (sym c.deref.ensures.value) is))) in
+    by.kept (some_hidden hidden c.is_empty.result c.is_empty.ensures)) in
     answer_by listed entries details own g.F.Fn c.args.filter (answer_of answer) without
-    (λ f left hidden. kept_by g.F.Fn c.args.filter c.requires.filter t vs all.features.table all.in_order flags are f ((without.kept.resolved.kept f).0 left).0 ((without.kept.resolved.kept f).0 left).1 hidden)
+    (λ f left hidden. let stays = (without.kept.resolved.kept f).0 left in by.answered f stays.0 stays.1 hidden)
 
 pub returns-clause-keyed : goal.returns-clause-keyed
 returns-clause-keyed g c =
     let vs = c.in_ok-features.field-0.features.items in
-    let fs = c.as_slice-2.result.now in
-    keyed_by (table_among vs) (flag_at vs fs) vs c.in_ok-kept.field-0.features c.in_ok-kept.field-0.hidden (c.in_ok-kept.ensures (table_among vs) (flag_at vs fs) (own_table vs) (flag_is vs fs))
+    let l = c.in_ok-kept.field-0 in
+    keyed_by (table_among vs) (λ r. is_some (value_at l.hidden r)) vs l.features l.hidden (c.in_ok-kept.ensures (table_among vs) (own_table vs)).kept

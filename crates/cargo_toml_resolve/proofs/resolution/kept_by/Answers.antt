@@ -1,0 +1,23 @@
+use Rattle.std.proofs.Common.{◌<◌, ◌↔◌, ℕ, false, length, [], IsTrue, sym, subst}
+use Rattle.std.{proofs.lemmas.Bool.false≢true, specs.List.slice_index_or}
+use Rattle.cargo_toml_graph.specs.Action.{Text}
+use Rattle.cargo_toml_features.specs.{Places.nth_text, InOrder.names_of}
+use Rattle.cargo_toml_resolve.specs.{Filter.IsFlagOf, Numbering.IsFlagged}
+use Rattle.cargo_toml_resolve.proofs.{ByFilter.are_kept_by, Learning.if_ok_weaker}
+use Rattle.cargo_toml_resolve.proofs.resolution.kept_by.Goals as goal
+
+pub returns-then-not-hides_any : goal.returns-then-not-hides_any
+returns-then-not-hides_any g c =
+    let vs = c.args.features.items in
+    let none = subst (λ xs. (i : ℕ) → i < length xs → IsFlagOf g.F.Fn c.args.filter (nth_text (names_of xs) i) false) c.as_slice.ensures.value (c.hides_any.ensures.none c.if-not-hides_any.true) in
+    if_ok_weaker c.all_kept.result _ _ (λ l h t made.
+    are_kept_by g.F.Fn c.args.filter c.requires.filter t vs made c.requires.in_order [] none l.features l.hidden (λ removed is. h t removed made (λ f y. false≢true ((is f).0 y).3))) c.all_kept.ensures
+
+pub returns : goal.returns
+returns g c =
+    let vs = c.args.features.items in
+    let flags = c.in_ok-flags.flags.items in
+    let are = subst (λ xs. (i : ℕ) → i < length xs → IsFlagOf g.F.Fn c.args.filter (nth_text (names_of xs) i) (slice_index_or flags i false)) c.as_slice-2.ensures.value c.in_ok-flags.ensures.flags in
+    if_ok_weaker c.kept_of.result _ _ (λ l h t made.
+    are_kept_by g.F.Fn c.args.filter c.requires.filter t vs made c.requires.in_order flags are l.features l.hidden
+    (λ removed is. h t removed made (subst (λ fs. (f : Text) → IsTrue (removed f) ↔ IsFlagged vs fs f) (sym c.as_slice-3.ensures.value) is))) c.kept_of.ensures

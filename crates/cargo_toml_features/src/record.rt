@@ -70,6 +70,20 @@ fn counts<'m>(mentions: &Mentions<'m>, entry: &ParseDependency<'m, '_>) -> bool
         || is_there(mentions.features.as_slice(), entry.key)
 }
 
+// Whether one of the entries counts by itself.
+fn counts_any<'m>(mentions: &Mentions<'m>, entries: &[ParseDependency<'m, '_>]) -> bool
+    requires { AreInOrder mentions.now.features.items }
+    ensures { result ≡ list_any (counts_alone (is_mentioned_in mentions.now))
+        (map entry_of entries.now) }
+{
+    for entry in entries {
+        if counts(mentions, entry) {
+            return true;
+        }
+    }
+    false
+}
+
 // Which entries count by themselves, and the keys of these.
 #[derive(Drop)]
 struct Counting<'d> {
@@ -167,6 +181,10 @@ pub fn record_dependencies<'m: 'd, 'd>(
         → ((k : Text) → is_mentioned_in mentions.now k ≡ is_mentioned listed k) → (k : Text)
         → recorded_at s k ≡ recorded_of (entries_at listed (map entry_of entries.now) k)) }
 {
+    // Most manifests have no feature, and no optional dependency either.
+    if mentions.features.is_empty() && !counts_any(mentions, entries) {
+        return empty_slots(alloc, Vec::new(alloc));
+    }
     let Counting { flags, keys } = counting_entries(alloc, mentions, entries)?;
     let names = ascending(keys);
     let mut dependencies = empty_slots(alloc, names)?;

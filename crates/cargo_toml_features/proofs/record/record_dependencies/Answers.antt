@@ -1,11 +1,11 @@
 -- One more entry of those that count.
-use Rattle.std.proofs.Common.{◌≡◌, ◌&&◌, ◌||◌, Bool, false, cond, List, [], ◌∷◌, ◌++◌, filter, find, Option, Some, is_some, bytes_eq, refl, sym, ap, arith, rules, ◌<◌, ℕ, Bor, IsTrue, get_or, length, take, take_all, map, subst, ◌∙◌}
-use Rattle.std.{proofs.Math.Bool.or-false, proofs.Math.Bool.or-true, specs.List.list_any}
+use Rattle.std.proofs.Common.{◌≡◌, ◌&&◌, ◌||◌, Bool, false, cond, List, [], ◌∷◌, ◌++◌, filter, find, Option, Some, is_some, bytes_eq, refl, sym, ap, arith, rules, ◌<◌, ℕ, Bor, IsTrue, get_or, length, take, take_all, map, subst, ◌∙◌, not, option_map}
+use Rattle.std.{proofs.lemmas.Result.IfOk-weaker, proofs.Math.Bool.or-false, proofs.Math.Bool.or-true, specs.List.list_any}
 use Rattle.std.proofs.lemmas.{List.append-nil, List.get_or-map, List.length-map, List.Elements.filter-append, List.Folds.find-append, List.Folds.list_any_at, Slice.Eq.bytes_eq-Decides, Grind.common_steps, Bool.and_from}
 use Rattle.cargo_toml_package.specs.Dependencies.{is_optional, dependency_meaning}
 use Rattle.cargo_toml_graph.specs.{Action.Text, Admitted.Listed, Reach.Among}
 use Rattle.cargo_toml_features.specs.{Recorded.Entry, Recorded.RecordedKey, Recorded.is_mentioned, Recorded.counting, Recorded.entries_at, Recorded.recorded_of, FullGraph.recorded_with, FullGraph.recorded_after, FullGraph.counts_alone}
-use Rattle.cargo_toml_features.specs.{FullGraph.counts_at, FullGraph.recorded_at, FullGraph.is_mentioned_in, declared.features.ParseDependency.ParseDependency, Views.entry_of}
+use Rattle.cargo_toml_features.specs.{FullGraph.counts_at, FullGraph.recorded_at, FullGraph.is_mentioned_in, declared.features.ParseDependency.ParseDependency, Views.entry_of, Views.recorded_in}
 use Rattle.cargo_toml_features.proofs.{GatheredKeys.flag_there, Placed.same_then, ByPlace.taken_more}
 use Rattle.cargo_toml_features.proofs.record.record_dependencies.Goals as goal
 
@@ -22,6 +22,10 @@ with_next v0 v1 = grind (arith, common_steps, find-append, find)
 -- whether an entry of the key k is there after x has had its turn
 hits : (k : Text) (x : Entry) (rest : List Entry) (c : Bool) → is_some (recorded_of (filter (λ e. bytes_eq e.key k) (cond c (x ∷ rest) rest))) ≡ ((bytes_eq x.key k && c) || is_some (recorded_of (filter (λ e. bytes_eq e.key k) rest)))
 hits v0 v1 v2 v3 = grind (arith, common_steps)
+
+none_optional : (k : Text) (es : List Entry) → list_any (λ b. is_optional b.dependency) es ≡ false → list_any (at_key k) es ≡ false
+none_optional k [] off = refl
+none_optional k (x ∷ es) off = grind (arith, common_steps, none_optional k es)
 
 module _ (listed : Listed) where
   abbrev counts : List Entry → List Entry → Entry → Bool
@@ -43,6 +47,19 @@ module _ (listed : Listed) where
   -- what is recorded of k once e is read
   recorded_more : (es : List Entry) (e : Entry) (k : Text) → recorded_of (entries_at listed (es ++ e ∷ []) k) ≡ recorded_after (is_mentioned listed) e k (recorded_of (entries_at listed es k))
   recorded_more es e k = grind (arith, common_steps, counting_more, filter-append, bytes_eq-Decides, or-true, counted, or-false, with_next, append-nil)
+
+  -- where no entry counts by itself, none counts
+  none_count : (mentioned : Text → Bool) → ((k : Text) → mentioned k ≡ is_mentioned listed k) → (earlier es : List Entry)
+      → list_any (λ b. is_optional b.dependency) earlier ≡ false → list_any (counts_alone mentioned) es ≡ false → counting listed earlier es ≡ []
+  none_count mentioned same earlier [] off none = refl
+  none_count mentioned same earlier (x ∷ es) off none =
+      let here : is_optional x.dependency ≡ false = grind arith in
+      let all : list_any (λ b. is_optional b.dependency) (x ∷ earlier) ≡ false = grind (arith, here, off) in
+      let early : list_any (at_key x.key) (x ∷ earlier) ≡ false = none_optional x.key (x ∷ earlier) all in
+      let unnamed : is_mentioned listed x.key ≡ false = sym (same x.key) ∙ grind arith in
+      let rest : counting listed (x ∷ earlier) es ≡ [] = none_count mentioned same (x ∷ earlier) es all (grind arith) in
+      let unmet : (is_mentioned listed x.key || list_any (λ b. bytes_eq b.key x.key && is_optional b.dependency) (x ∷ earlier)) ≡ false = grind (arith, unnamed, early) in
+      ap (λ b. cond b (x ∷ counting listed (x ∷ earlier) es) (counting listed (x ∷ earlier) es)) unmet ∙ rest
 
   -- the same of a map, where `mentioned` says which keys are
   recorded_then : (mentioned : Text → Bool) → ((k : Text) → mentioned k ≡ is_mentioned listed k) → (es : List Entry) (e : Entry) (k : Text) (before after : Option RecordedKey)
@@ -86,6 +103,15 @@ loop-entry-preserved c =
       place = omega arith;
       same_names = same_then c.in_ok-dependencies.dependencies c.loop-entry.dependencies c.record_entry.new.dependencies c.loop-entry.invariant.same_names c.in_ok-near.ensures.same_names;
     }
+
+pub returns-then-not-counts_any : goal.returns-then-not-counts_any
+returns-then-not-counts_any c = record {
+  recorded = IfOk-weaker c.empty_slots.result _ _ (λ s empty listed same k.
+      let es = map entry_of c.args.entries.now in
+      let none : list_any (counts_alone (is_mentioned_in c.args.mentions.now)) es ≡ false = search rules in
+      ap (option_map recorded_in) (empty k) ∙ sym (ap (λ xs. recorded_of (filter (λ e. bytes_eq e.key k) xs)) (none_count listed (is_mentioned_in c.args.mentions.now) same [] es refl none)))
+      c.empty_slots.ensures.empty;
+}
 
 pub returns : goal.returns
 returns c = search (rules, take_all)

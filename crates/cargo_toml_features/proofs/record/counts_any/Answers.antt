@@ -1,0 +1,13 @@
+use Rattle.std.proofs.Common.{ap, get_or, length, map, sym, subst, ◌<◌, ◌∙◌}
+use Rattle.std.proofs.lemmas.{List.get_or-map, List.length-map, List.Folds.list_any_at}
+use Rattle.cargo_toml_features.specs.{FullGraph.counts_alone, FullGraph.is_mentioned_in, Views.entry_of}
+use Rattle.cargo_toml_features.proofs.record.counts_any.Goals as goal
+
+pub returns-then-counts : goal.returns-then-counts
+returns-then-counts c =
+    let alone = counts_alone (is_mentioned_in c.args.mentions.now) in
+    let es = c.args.entries.now in
+    let i = c.loop-entry.entry-index in
+    let p = c.entry-item.result in
+    sym (list_any_at alone (map entry_of es) i (entry_of p) (subst (λ n. i < n) (sym (length-map es entry_of)) c.loop-entry-test.true)
+    (ap alone (get_or-map entry_of es i p (entry_of p) c.loop-entry-test.true ∙ ap entry_of (sym c.entry-item.is)) ∙ sym c.counts.ensures ∙ c.if-counts.true))

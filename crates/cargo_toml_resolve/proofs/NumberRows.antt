@@ -119,9 +119,9 @@ flags_kept [] k i = (λ w. absurd (false≢true (sym (unset k i) ∙ w)), λ w. 
 flags_kept (b ∷ flags) k zero = (λ w. w, λ w. w)
 flags_kept (b ∷ flags) k (suc i) = flags_kept flags k i
 
-pub all_kept : (flags first mid new : List Bool) (size k : ℕ) → length flags ≤ size → first ≡ [] → mid ≡ first ++ flags → new ≡ take size mid ++ replicate k false
+pub all_kept : (flags new : List Bool) (size k : ℕ) → length flags ≤ size → new ≡ take size flags ++ replicate k false
     → (i : ℕ) → IsWanted new true i ↔ IsWanted flags true i
-all_kept flags first mid new size k fits none joined filled i = grind (arith, take_all size flags fits, flags_kept flags k i)
+all_kept flags new size k fits filled i = grind (arith, take_all size flags fits, flags_kept flags k i)
 
 -- the row of one feature is that of its place
 pub target_is : (vs : List Feature) (keys : List Text) (own : ℕ) (v : Feature) (row : List ℕ) → slice_get vs own ≡ Some v

@@ -148,14 +148,14 @@ pub fn kept_of<'m, S: BuildHasher + Clone>(
     alloc: Global,
     state: &S,
     mut features: Vec<Feature<'m>>,
-    flags: &[bool],
+    flags: Vec<bool>,
 ) -> Result<Kept<'m, S>, AllocError>
     requires in_order { AreInOrder features.items }
     requires no_enablers { HaveNoEnablers features.items }
-    requires count { length flags.now ≡ length features.items }
+    requires count { length flags.items ≡ length features.items }
     ensures { IfOk result (λ l. (t : Table) (removed : Text → Bool) →
         AreTable t features.entry.items →
-        ((f : Text) → IsTrue (removed f) ↔ IsFlagged features.entry.items flags.now f) →
+        ((f : Text) → IsTrue (removed f) ↔ IsFlagged features.entry.items flags.items f) →
         AreKept t removed features.entry.items l.features l.hidden) }
 {
     let graph = number(alloc, features.as_slice(), flags)?;

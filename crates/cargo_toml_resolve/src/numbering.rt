@@ -280,16 +280,14 @@ impl Look {
 }
 
 // The flags of features, and those of other texts, which aren't removed.
-fn all_flags(alloc: Global, flags: &[bool], size: usize) -> Result<Vec<bool>, AllocError>
-    requires { length flags.now ≤ size }
+fn all_flags(mut flags: Vec<bool>, size: usize) -> Result<Vec<bool>, AllocError>
+    requires { length flags.items ≤ size }
     ensures len { IfOk result (λ v. length v.items ≡ size) }
     ensures flags { IfOk result
-        (λ v. (i : ℕ) → IsWanted v.items true i ↔ IsWanted flags.now true i) }
+        (λ v. (i : ℕ) → IsWanted v.items true i ↔ IsWanted flags.items true i) }
 {
-    let mut all = Vec::with_capacity(alloc, size)?;
-    all.extend_from_slice(flags)?;
-    all.resize(size, false)?;
-    Ok(all)
+    flags.resize(size, false)?;
+    Ok(flags)
 }
 
 // Where each feature leads, and what it names where that is asked for.
@@ -369,21 +367,21 @@ fn read_all<'m>(
 pub fn number<'m>(
     alloc: Global,
     features: &[Feature<'m>],
-    flags: &[bool],
+    flags: Vec<bool>,
 ) -> Result<Graph<'m>, AllocError>
     requires in_order { AreInOrder features.now }
-    requires len { length flags.now ≡ length features.now }
+    requires len { length flags.items ≡ length features.now }
     ensures numbered { IfOk result (λ g. (t : Table) (removed : Text → Bool)
         → AreTable t features.now
-        → ((f : Text) → IsTrue (removed f) ↔ IsFlagged features.now flags.now f)
+        → ((f : Text) → IsTrue (removed f) ↔ IsFlagged features.now flags.items f)
         → Shows g t removed features.now) }
     ensures count { IfOk result (λ g. length g.edges ≡ length features.now) }
     ensures vertices { IfOk result (λ g. (i : ℕ) → i < length features.now →
         nth_text (texts_now g.texts.items) i ≡ nth_text (names_of features.now) i) }
 {
     let mut texts = keys_of(alloc, features)?;
-    let FeatureRows { edges, names } = read_all(alloc, features, flags, &mut texts)?;
-    let flags = all_flags(alloc, flags, texts.len())?;
+    let FeatureRows { edges, names } = read_all(alloc, features, flags.as_slice(), &mut texts)?;
+    let flags = all_flags(flags, texts.len())?;
     Ok(Graph {
         texts,
         edges,

@@ -51,7 +51,7 @@ fn kept_by<'m, F: Fn(&str) -> bool, S: BuildHasher + Clone>(
         return all_kept(alloc, state, features);
     }
     let flags = hidden_flags(alloc, features.as_slice(), filter)?;
-    kept_of(alloc, state, features, flags.as_slice())
+    kept_of(alloc, state, features, flags)
 }
 
 /// Resolves the listed features, and removes those whose names begin with `_`, except those that

@@ -148,8 +148,8 @@ hashed_apart-requires-clause-in_order g c = subst Ascend (sym (names_alike said_
 pub hashed_apart-requires-clause-own : goal.hashed_apart-requires-clause-own
 hashed_apart-requires-clause-own g c =
     let vs = c.args.features.items in
-    own_sets (table_among vs) (flag_at vs c.args.flags.now) vs c.remove.new.features.items c.in_ok-graph.graph c.in_ok-walked.walked
-    ((rw c.as_slice.ensures.value at c.in_ok-graph.ensures.numbered) (table_among vs) (flag_at vs c.args.flags.now) (own_table vs) (flag_is vs c.args.flags.now)) c.in_ok-walked.ensures
+    own_sets (table_among vs) (flag_at vs c.args.flags.items) vs c.remove.new.features.items c.in_ok-graph.graph c.in_ok-walked.walked
+    ((rw c.as_slice.ensures.value at c.in_ok-graph.ensures.numbered) (table_among vs) (flag_at vs c.args.flags.items) (own_table vs) (flag_is vs c.args.flags.items)) c.in_ok-walked.ensures
 
 pub hashed_apart-requires-clause-count : goal.hashed_apart-requires-clause-count
 hashed_apart-requires-clause-count g c = c.in_ok-walked.ensures.count ∙ sym (alike_len said_of c.args.features.items c.remove.new.features.items c.in_ok-walked.ensures.same)

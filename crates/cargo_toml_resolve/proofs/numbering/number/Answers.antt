@@ -86,8 +86,8 @@ returns-clause-numbered c = λ t removed made is.
     let ts = c.read_all.new.texts.items in
     let r = c.in_ok-edges.field-0 in
     let size : length c.in_ok-flags.flags.items ≡ length ts = search rules in
-    stands t removed c.args.features.now c.args.flags.now (texts_now ts) r.edges r.names c.in_ok-flags.flags.items made is c.requires.in_order c.requires.len
-    c.in_ok-edges.ensures.texts c.in_ok-edges.ensures.rows (size ∙ sym (length-map ts (λ (t : Bor Text). t.now))) c.in_ok-flags.ensures.flags
+    stands t removed c.args.features.now c.args.flags.items (texts_now ts) r.edges r.names c.in_ok-flags.flags.items made is c.requires.in_order c.requires.len
+    c.in_ok-edges.ensures.texts (rw c.as_slice.ensures.value at c.in_ok-edges.ensures.rows) (size ∙ sym (length-map ts (λ (t : Bor Text). t.now))) c.in_ok-flags.ensures.flags
 
 pub returns-clause-vertices : goal.returns-clause-vertices
 returns-clause-vertices c = key_text c.args.features.now (texts_now c.read_all.new.texts.items) c.in_ok-edges.ensures.texts
@@ -97,10 +97,10 @@ invariant_of-result c =
     let vs = c.args.features.now in
     let ts = c.read_all.new.texts.items in
     let r = c.in_ok-edges.field-0 in
-    let read = c.in_ok-edges.ensures.rows in
+    let read = rw c.as_slice.ensures.value at c.in_ok-edges.ensures.rows in
     let long : length (texts_now ts) ≡ length ts = length-map ts (λ (t : Bor Text). t.now) in
     let size : length c.in_ok-flags.flags.items ≡ length ts = search rules in
-    let n = (stands (table_among vs) (flag_at vs c.args.flags.now) vs c.args.flags.now (texts_now ts) r.edges r.names c.in_ok-flags.flags.items (own_table vs) (flag_is vs c.args.flags.now)
+    let n = (stands (table_among vs) (flag_at vs c.args.flags.items) vs c.args.flags.items (texts_now ts) r.edges r.names c.in_ok-flags.flags.items (own_table vs) (flag_is vs c.args.flags.items)
     c.requires.in_order c.requires.len c.in_ok-edges.ensures.texts read (size ∙ sym long) c.in_ok-flags.ensures.flags).numbered in
     record {
       once = λ i j lt lt'. n.one i j lt (subst (λ m. j < m) (sym long) lt');

@@ -1,8 +1,7 @@
-use Rattle.std.proofs.Common.{◌<◌, ◌↔◌, ℕ, false, length, [], IsTrue, sym, subst}
+use Rattle.std.proofs.Common.{◌<◌, ℕ, false, length, [], subst}
 use Rattle.std.{proofs.lemmas.Bool.false≢true, specs.List.slice_index_or}
-use Rattle.cargo_toml_graph.specs.Action.{Text}
 use Rattle.cargo_toml_features.specs.{Places.nth_text, InOrder.names_of}
-use Rattle.cargo_toml_resolve.specs.{Filter.IsFlagOf, Numbering.IsFlagged}
+use Rattle.cargo_toml_resolve.specs.{Filter.IsFlagOf}
 use Rattle.cargo_toml_resolve.proofs.{ByFilter.are_kept_by, Learning.if_ok_weaker}
 use Rattle.cargo_toml_resolve.proofs.resolution.kept_by.Goals as goal
 
@@ -19,5 +18,4 @@ returns g c =
     let flags = c.in_ok-flags.flags.items in
     let are = subst (λ xs. (i : ℕ) → i < length xs → IsFlagOf g.F.Fn c.args.filter (nth_text (names_of xs) i) (slice_index_or flags i false)) c.as_slice-2.ensures.value c.in_ok-flags.ensures.flags in
     if_ok_weaker c.kept_of.result _ _ (λ l h t made.
-    are_kept_by g.F.Fn c.args.filter c.requires.filter t vs made c.requires.in_order flags are l.features l.hidden
-    (λ removed is. h t removed made (subst (λ fs. (f : Text) → IsTrue (removed f) ↔ IsFlagged vs fs f) (sym c.as_slice-3.ensures.value) is))) c.kept_of.ensures
+    are_kept_by g.F.Fn c.args.filter c.requires.filter t vs made c.requires.in_order flags are l.features l.hidden (λ removed is. h t removed made is)) c.kept_of.ensures

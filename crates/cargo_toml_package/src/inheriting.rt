@@ -1,6 +1,6 @@
 //! What a workspace gives to its packages: the template of their fields, and what a package takes
 //! of it, first made, then put in, so that a refusal changes nothing.
-ghost use Rattle.std.specs.Prelude.{◌≡◌, IfOk, Some, None, false, option_map};
+ghost use Rattle.std.specs.Prelude.{◌≡◌, IfOk, Some, None, false, map, option_map};
 ghost use Rattle.std.specs.Option.{option_copied};
 ghost use Rattle.toml.specs.Data.{no_members};
 ghost use Rattle.toml.specs.View.{table_view};
@@ -11,6 +11,7 @@ ghost use Rattle.cargo_toml_parts.specs.Reads.{IsReading};
 ghost use Rattle.cargo_toml_package.specs.Inheriting.{IsFilled, any_field_left, checked_package};
 ghost use Rattle.cargo_toml_package.specs.Inheriting.{inherited_package, field_is_left};
 ghost use Rattle.cargo_toml_package.specs.Inheriting.{is_left_there, installed_package};
+ghost use Rattle.cargo_toml_package.specs.Inheriting.{leavable_rows};
 ghost use Rattle.cargo_toml_package.specs.Inheriting.{put_field, put_if_there};
 ghost use Rattle.cargo_toml_package.specs.Inheriting.{with_template, with_template_if_there};
 ghost use Rattle.cargo_toml_package.specs.Packages.{held_package};
@@ -394,6 +395,50 @@ pub fn any_field_inherited<M>(package: &Package<M>) -> bool
     ensures else_filled { result ≡ false → IsFilled «package».now }
 {
     any_stays(package, &NewFields::default())
+}
+
+/// The keys that a package may leave to its workspace, each with whether it does.
+pub type LeavableRows = [(&'static str, bool); 16];
+
+// Whether a field is left to the workspace.
+fn is_left<T: Read>(field: &Inheritable<T>) -> bool
+    ensures { result ≡ field_is_left (inheritable_map T.meaning field.now) }
+{
+    !field.is_set()
+}
+
+// The same of a field that may not be there.
+fn is_left_there<T: Read>(field: &Option<Inheritable<T>>) -> bool
+    ensures { result ≡ is_left_there (option_map (inheritable_map T.meaning) field.now) }
+{
+    match field {
+        Some(field) => is_left(field),
+        None => false,
+    }
+}
+
+/// The keys that a package may leave to its workspace, each with whether it does.
+pub fn leavable_rows<M>(package: &Package<M>) -> LeavableRows
+    ensures { map (λ r. (r.0.now, r.1)) result ≡ leavable_rows (held_package «package».now) }
+{
+    [
+        ("version", is_left(&package.version)),
+        ("edition", is_left(&package.edition)),
+        ("authors", is_left(&package.authors)),
+        ("categories", is_left(&package.categories)),
+        ("exclude", is_left(&package.exclude)),
+        ("include", is_left(&package.include)),
+        ("keywords", is_left(&package.keywords)),
+        ("publish", is_left(&package.publish)),
+        ("readme", is_left(&package.readme)),
+        ("description", is_left_there(&package.description)),
+        ("documentation", is_left_there(&package.documentation)),
+        ("homepage", is_left_there(&package.homepage)),
+        ("license", is_left_there(&package.license)),
+        ("license-file", is_left_there(&package.license_file)),
+        ("repository", is_left_there(&package.repository)),
+        ("rust-version", is_left_there(&package.rust_version)),
+    ]
 }
 
 // What a package takes from a template, if there is one.

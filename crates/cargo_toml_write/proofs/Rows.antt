@@ -6,7 +6,7 @@ use Rattle.toml.specs.Data.{Data, Members, no_members, array, member}
 use Rattle.toml.specs.{declared.value.Value.Value, View.view, View.items_view, View.members_view, View.table_view}
 use Rattle.cargo_toml_parts.specs.{declared.error.Error.Error, declared.error.Error.Memory, Reads.map_meaning, Reads.pairs_meaning}
 use Rattle.cargo_toml_write.specs.Ways.{Ascend, IsMap, list_way, over_way, table_way}
-use Rattle.cargo_toml_write.specs.Writes.{AreEntries, AreItems, EntriesRefused, IsWriting, ItemsRefused, Row, Way, WritesFrom, WritingEnds, optional_row, put_member, required_row}
+use Rattle.cargo_toml_write.specs.Writes.{AreEntries, AreItems, AreWritten, EntriesRefused, IsWriting, ItemsRefused, Row, Way, WritesFrom, WritingEnds, optional_row, put_member, put_some, required_row}
 use Rattle.cargo_toml_write.specs.{Ways.Begins, WrittenDependencies.detail_under, WrittenDependencies.told_features}
 use Rattle.std.specs.{List.Sorted.IsStrictlySortedBy, Map.keys_of, Map.lookup, String.string_cmp, BTreeMap.BTreeMap, BTreeMap.get_by, BTreeMap.is_at, Cmp.Lexicographic.slice_cmp, Str.bytes_eq}
 use Rattle.toml.proofs.Views.{Entry}
@@ -34,6 +34,33 @@ nothing_more a ms = grind arith
 
 pub done : {a : Option Error} {ms : Members} → Steps [] a ms a ms
 done = record { goes = nothing_more _ _ }
+
+-- rows without those that hold nothing: both are written to the same members
+abbrev with_present : {X : Type 0} → List ℕ → Way X → Option X → List Row → List Row
+with_present key way None rows = rows
+with_present key way (Some x) rows = required_row key way x ∷ rows
+
+abbrev pub present : List Row → List Row
+present [] = []
+present (row ∷ rows) = with_present row.key row.way row.value (present rows)
+
+to_present : {X : Type 0} (key : List ℕ) (way : Way X) (x : Option X) (rows : List Row) (old new : Members) → ((mid : Members) → AreWritten rows mid new → AreWritten (present rows) mid new)
+    → AreWritten (optional_row key way x ∷ rows) old new → AreWritten (with_present key way x (present rows)) old new
+to_present key way None rows old new more (d, none, rest) = more old (subst (λ (o : Option Data). AreWritten rows (put_some key o old) new) none rest)
+to_present key way (Some x) rows old new more (d, held, rest) = (d, held, more (put_some key d old) rest)
+
+of_present : {X : Type 0} (key : List ℕ) (way : Way X) (x : Option X) (rows : List Row) (old new : Members) → ((mid : Members) → AreWritten (present rows) mid new → AreWritten rows mid new)
+    → AreWritten (with_present key way x (present rows)) old new → AreWritten (optional_row key way x ∷ rows) old new
+of_present key way None rows old new more written = (None, refl, more old written)
+of_present key way (Some x) rows old new more (d, held, rest) = (d, held, more (put_some key d old) rest)
+
+pub present_written : (rows : List Row) (old new : Members) → AreWritten rows old new → AreWritten (present rows) old new
+present_written [] old new written = written
+present_written (row ∷ rows) old new written = to_present row.key row.way row.value rows old new (λ mid. present_written rows mid new) written
+
+pub all_written : (rows : List Row) (old new : Members) → AreWritten (present rows) old new → AreWritten rows old new
+all_written [] old new written = written
+all_written (row ∷ rows) old new written = of_present row.key row.way row.value rows old new (λ mid. all_written rows mid new) written
 
 -- a tree that was put at a key
 pub is_put : {X : Type 0} (key : List ℕ) (way : Way X) (x : X) (d : Data) (fault : Option Error) (old new : Members)

@@ -400,44 +400,27 @@ pub fn any_field_inherited<M>(package: &Package<M>) -> bool
 /// The keys that a package may leave to its workspace, each with whether it does.
 pub type LeavableRows = [(&'static str, bool); 16];
 
-// Whether a field is left to the workspace.
-fn is_left<T: Read>(field: &Inheritable<T>) -> bool
-    ensures { result ≡ field_is_left (inheritable_map T.meaning field.now) }
-{
-    !field.is_set()
-}
-
-// The same of a field that may not be there.
-fn is_left_there<T: Read>(field: &Option<Inheritable<T>>) -> bool
-    ensures { result ≡ is_left_there (option_map (inheritable_map T.meaning) field.now) }
-{
-    match field {
-        Some(field) => is_left(field),
-        None => false,
-    }
-}
-
 /// The keys that a package may leave to its workspace, each with whether it does.
 pub fn leavable_rows<M>(package: &Package<M>) -> LeavableRows
     ensures { map (λ r. (r.0.now, r.1)) result ≡ leavable_rows (held_package «package».now) }
 {
     [
-        ("version", is_left(&package.version)),
-        ("edition", is_left(&package.edition)),
-        ("authors", is_left(&package.authors)),
-        ("categories", is_left(&package.categories)),
-        ("exclude", is_left(&package.exclude)),
-        ("include", is_left(&package.include)),
-        ("keywords", is_left(&package.keywords)),
-        ("publish", is_left(&package.publish)),
-        ("readme", is_left(&package.readme)),
-        ("description", is_left_there(&package.description)),
-        ("documentation", is_left_there(&package.documentation)),
-        ("homepage", is_left_there(&package.homepage)),
-        ("license", is_left_there(&package.license)),
-        ("license-file", is_left_there(&package.license_file)),
-        ("repository", is_left_there(&package.repository)),
-        ("rust-version", is_left_there(&package.rust_version)),
+        ("version", stays(&package.version, &None)),
+        ("edition", stays(&package.edition, &None)),
+        ("authors", stays(&package.authors, &None)),
+        ("categories", stays(&package.categories, &None)),
+        ("exclude", stays(&package.exclude, &None)),
+        ("include", stays(&package.include, &None)),
+        ("keywords", stays(&package.keywords, &None)),
+        ("publish", stays(&package.publish, &None)),
+        ("readme", stays(&package.readme, &None)),
+        ("description", stays_there(&package.description, &None)),
+        ("documentation", stays_there(&package.documentation, &None)),
+        ("homepage", stays_there(&package.homepage, &None)),
+        ("license", stays_there(&package.license, &None)),
+        ("license-file", stays_there(&package.license_file, &None)),
+        ("repository", stays_there(&package.repository, &None)),
+        ("rust-version", stays_there(&package.rust_version, &None)),
     ]
 }
 

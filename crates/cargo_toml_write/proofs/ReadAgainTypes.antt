@@ -20,7 +20,6 @@ use Rattle.cargo_toml_parts.specs.{Profiles.ProfilesMeaning, Profiles.profile_ke
 use Rattle.cargo_toml_parts.specs.{declared.inheritable.Inheritable.Inheritable, Inherits.inheritable_map, Inherits.inheritable_of}
 use Rattle.cargo_toml_write.proofs.ReadAgain.{Again, AgainAs, AllHeld, Any, FirstHeld, ReadsAs, StandsAt, StandsFor, again, alone, collected, first_held, flagged, free_again, free_maps, given, inheritable_again, list_again, map_as, map_same, nil, nil_left}
 use Rattle.cargo_toml_write.proofs.ReadAgain.{nil_map, other_member, read_back, required, same_tree, set_stands, step, table_again, text_again, texts_again, truth_again, untouched, version_again, whole}
-use Rattle.cargo_toml_write.proofs.Rows.{all_written, present, present_written}
 use Rattle.cargo_toml_write.proofs.{ReadParts.AreNamed, ReadParts.AreSaid, ReadParts.Gives, ReadParts.bind, ReadParts.gives_some, ReadParts.skip, Spelled.spelled_again}
 use Rattle.cargo_toml_write.specs.Reread.{IsTold, each_value, reread, reread_dependency, reread_target, reread_workspace, told}
 use Rattle.cargo_toml_write.specs.Ways.{Ascend, IsMap, all_of, free_way, inheritable_way, is_nil, list_way, map_way, members_of, number_way, requirement_way, small_way, text_way, texts_way, truth_way, unless_missing, version_way}
@@ -30,7 +29,7 @@ use Rattle.cargo_toml_write.specs.WrittenPackages.{AreReadAgain, IsVersionAgain,
 use Rattle.cargo_toml_write.specs.WrittenTables.{debug_tree, debug_way, edition_way, file_way, is_unrestricted, is_usual, level_text, level_way, lto_tree, lto_way, publish_way, resolver_way, status_text, status_way, strip_tree, strip_way}
 use Rattle.cargo_toml_write.specs.WrittenTables.{AreApart, IsApart, badge_rows, badge_way, badges_rows, badges_way, has_no_badge, has_no_profile, is_level_alone, known_profiles, lint_groups_way, lint_part, lint_rows, lint_way}
 use Rattle.cargo_toml_write.specs.WrittenTables.{maintenance_rows, maintenance_way, product_rows, product_way, profile_rows, profile_way, profiles_way}
-use Rattle.cargo_toml_write.specs.{Asked.EachValue, Asked.IfSet, Asked.TargetMeets, Asked.WorkspaceMeets, Requirements.CanBeRead, Writes.AreWritten, Writes.IsHeld, Writes.IsWriting, Writes.Row, Writes.Way}
+use Rattle.cargo_toml_write.specs.{Asked.EachValue, Asked.IfSet, Asked.TargetMeets, Asked.WorkspaceMeets, Requirements.CanBeRead, Writes.AreWritten, Writes.IsHeld, Writes.IsWriting, Writes.Way}
 use Rattle.cargo_toml_write.specs.WrittenManifests.{all_features, manifest_rows, manifest_way}
 use Rattle.semver.specs.{Parse.Held, Identifiers.parts_of}
 use Rattle.cargo_toml_package.specs.Dependencies.{InheritedMeaning, DetailMeaning, DependencyMeaning, simple, inherited, detailed, inherited_of, strict_of, inherited_or, detail_keys, detail_of_table, dependency_of, no_detail}
@@ -236,15 +235,12 @@ pub dependency_again : AgainAs dependency_way dependency_of DependencyAgain (λ 
 dependency_again = record { each = dependency_tree }
 
 -- an inherited dependency that says that it isn't has the table of a detail
-same_rows : (i : InheritedMeaning) → i.workspace ≡ false → present (inherited_rows i) ≡ present (known_rows (record no_detail { features = i.features; optional = i.optional }))
-same_rows i h1 = grind arith
+same_rows : (i : InheritedMeaning) (ms : Members) → i.workspace ≡ false → AreWritten (inherited_rows i) no_members ms → AreWritten (known_rows (record no_detail { features = i.features; optional = i.optional })) no_members ms
+same_rows i ms h1 h2 = grind arith
 
 as_detail : (i : InheritedMeaning) (d : Data) → i.workspace ≡ false → inherited_way.trees i d → detail_way.trees (record no_detail { features = i.features; optional = i.optional }) d
 unfolding IsStrictlySortedBy
-as_detail i d says (ms, is, written) =
-    let same : AreWritten (present (known_rows (record no_detail { features = i.features; optional = i.optional }))) no_members ms =
-    subst (λ (rows : List Row). AreWritten rows no_members ms) (same_rows i says) (present_written (inherited_rows i) no_members ms written) in
-    (no_members, ms, is, (tt, tt), all_written (known_rows (record no_detail { features = i.features; optional = i.optional })) no_members ms same)
+as_detail i d says (ms, is, written) = (no_members, ms, is, (tt, tt), same_rows i ms says written)
 
 at_flag : (b : Bool) (i : InheritedMeaning) (d : Data) → i.workspace ≡ b → inherited_way.trees i d
     → dependency_way.trees (cond b (inherited i) (detailed (record no_detail { features = i.features; optional = i.optional }))) d
@@ -529,35 +525,7 @@ module _ {X W M : Type 0} (way : Way W) (held : X → W) (meaning : X → M) (re
       let whole_workspace = pair_read (workspace_way way) (workspace_reads reads) (workspace_meaning held) (λ w. reread_workspace (workspace_meaning meaning w)) m.workspace (get_member (codes "workspace") ms)
       (λ w is. workspace_again w (members w is)) its_workspace.is ∙ ap Some (mapped_twice reread_workspace (workspace_meaning meaning) m.workspace) in
       step _ _ _ _ found (step _ _ _ _ whole_workspace
-      (search (
-        read_back,
-        entries_again,
-        no_entries,
-        targets_again,
-        no_targets,
-        features_again,
-        no_feature,
-        patches_again,
-        no_patches,
-        product_again,
-        profiles_again,
-        no_profile,
-        badges_again,
-        no_badge,
-        products_again,
-        nil,
-        either_groups,
-        set_stands,
-        h.dependencies,
-        h.dev_dependencies,
-        h.build_dependencies,
-        h.target,
-        h.features,
-        h.replace,
-        h.patch,
-        h.profile,
-        h.lints,
-      ) depth 60 fits 60000))
+      (search (read_back, entries_again, no_entries, targets_again, no_targets, features_again, no_feature, patches_again, no_patches, product_again, profiles_again, no_profile, badges_again, no_badge, products_again, nil, either_groups, set_stands, h.dependencies, h.dev_dependencies, h.build_dependencies, h.target, h.features, h.replace, h.patch, h.profile, h.lints) depth 60 fits 60000))
 
   pub manifest_again : (m : Manifest X) → IsTold (manifest_meaning meaning m)
       → ReadsAs (manifest_way way) (manifest_reads reads) (manifest_meaning held m) (reread (manifest_meaning meaning m))

@@ -35,7 +35,7 @@ nothing_more a ms = grind arith
 pub done : {a : Option Error} {ms : Members} → Steps [] a ms a ms
 done = record { goes = nothing_more _ _ }
 
--- rows without those that hold nothing: both are written to the same members
+-- rows are written as those of them are that hold something
 abbrev with_present : {X : Type 0} → List ℕ → Way X → Option X → List Row → List Row
 with_present key way None rows = rows
 with_present key way (Some x) rows = required_row key way x ∷ rows
@@ -44,23 +44,14 @@ abbrev pub present : List Row → List Row
 present [] = []
 present (row ∷ rows) = with_present row.key row.way row.value (present rows)
 
-to_present : {X : Type 0} (key : List ℕ) (way : Way X) (x : Option X) (rows : List Row) (old new : Members) → ((mid : Members) → AreWritten rows mid new → AreWritten (present rows) mid new)
-    → AreWritten (optional_row key way x ∷ rows) old new → AreWritten (with_present key way x (present rows)) old new
-to_present key way None rows old new more (d, none, rest) = more old (subst (λ (o : Option Data). AreWritten rows (put_some key o old) new) none rest)
-to_present key way (Some x) rows old new more (d, held, rest) = (d, held, more (put_some key d old) rest)
-
-of_present : {X : Type 0} (key : List ℕ) (way : Way X) (x : Option X) (rows : List Row) (old new : Members) → ((mid : Members) → AreWritten (present rows) mid new → AreWritten rows mid new)
-    → AreWritten (with_present key way x (present rows)) old new → AreWritten (optional_row key way x ∷ rows) old new
-of_present key way None rows old new more written = (None, refl, more old written)
-of_present key way (Some x) rows old new more (d, held, rest) = (d, held, more (put_some key d old) rest)
-
-pub present_written : (rows : List Row) (old new : Members) → AreWritten rows old new → AreWritten (present rows) old new
-present_written [] old new written = written
-present_written (row ∷ rows) old new written = to_present row.key row.way row.value rows old new (λ mid. present_written rows mid new) written
+one_written : {X : Type 0} (key : List ℕ) (way : Way X) (x : Option X) (rows some : List Row) (old new : Members) → ((mid : Members) → AreWritten some mid new → AreWritten rows mid new)
+    → AreWritten (with_present key way x some) old new → AreWritten (optional_row key way x ∷ rows) old new
+one_written key way None rows some old new more written = (None, refl, more old written)
+one_written key way (Some x) rows some old new more (d, held, rest) = (d, held, more (put_some key d old) rest)
 
 pub all_written : (rows : List Row) (old new : Members) → AreWritten (present rows) old new → AreWritten rows old new
 all_written [] old new written = written
-all_written (row ∷ rows) old new written = of_present row.key row.way row.value rows old new (λ mid. all_written rows mid new) written
+all_written (row ∷ rows) old new written = one_written row.key row.way row.value rows (present rows) old new (λ mid. all_written rows mid new) written
 
 -- a tree that was put at a key
 pub is_put : {X : Type 0} (key : List ℕ) (way : Way X) (x : X) (d : Data) (fault : Option Error) (old new : Members)

@@ -1,6 +1,6 @@
 //! What a workspace gives to its packages: the template of their fields, and what a package takes
 //! of it, first made, then put in, so that a refusal changes nothing.
-ghost use Rattle.std.specs.Prelude.{◌≡◌, IfOk, Some, None, false, option_map};
+ghost use Rattle.std.specs.Prelude.{◌≡◌, IfOk, Some, None, false, map, option_map};
 ghost use Rattle.std.specs.Option.{option_copied};
 ghost use Rattle.toml.specs.Data.{no_members};
 ghost use Rattle.toml.specs.View.{table_view};
@@ -11,6 +11,7 @@ ghost use Rattle.cargo_toml_parts.specs.Reads.{IsReading};
 ghost use Rattle.cargo_toml_package.specs.Inheriting.{IsFilled, any_field_left, checked_package};
 ghost use Rattle.cargo_toml_package.specs.Inheriting.{inherited_package, field_is_left};
 ghost use Rattle.cargo_toml_package.specs.Inheriting.{is_left_there, installed_package};
+ghost use Rattle.cargo_toml_package.specs.Inheriting.{leavable_rows};
 ghost use Rattle.cargo_toml_package.specs.Inheriting.{put_field, put_if_there};
 ghost use Rattle.cargo_toml_package.specs.Inheriting.{with_template, with_template_if_there};
 ghost use Rattle.cargo_toml_package.specs.Packages.{held_package};
@@ -394,6 +395,33 @@ pub fn any_field_inherited<M>(package: &Package<M>) -> bool
     ensures else_filled { result ≡ false → IsFilled «package».now }
 {
     any_stays(package, &NewFields::default())
+}
+
+/// The keys that a package may leave to its workspace, each with whether it does.
+pub type LeavableRows = [(&'static str, bool); 16];
+
+/// The keys that a package may leave to its workspace, each with whether it does.
+pub fn leavable_rows<M>(package: &Package<M>) -> LeavableRows
+    ensures { map (λ r. (r.0.now, r.1)) result ≡ leavable_rows (held_package «package».now) }
+{
+    [
+        ("version", stays(&package.version, &None)),
+        ("edition", stays(&package.edition, &None)),
+        ("authors", stays(&package.authors, &None)),
+        ("categories", stays(&package.categories, &None)),
+        ("exclude", stays(&package.exclude, &None)),
+        ("include", stays(&package.include, &None)),
+        ("keywords", stays(&package.keywords, &None)),
+        ("publish", stays(&package.publish, &None)),
+        ("readme", stays(&package.readme, &None)),
+        ("description", stays_there(&package.description, &None)),
+        ("documentation", stays_there(&package.documentation, &None)),
+        ("homepage", stays_there(&package.homepage, &None)),
+        ("license", stays_there(&package.license, &None)),
+        ("license-file", stays_there(&package.license_file, &None)),
+        ("repository", stays_there(&package.repository, &None)),
+        ("rust-version", stays_there(&package.rust_version, &None)),
+    ]
 }
 
 // What a package takes from a template, if there is one.

@@ -1,6 +1,6 @@
 -- What a table holds at its keys after writes, and what it is read as: key by key, and as lists and maps.
 use Rattle.std.proofs.Common.{arith, ◌≡◌, true, false, Option, Some, is_eq, sym, ap, ℕ, List, [], ◌∷◌, String, Global, Ordering, Less, Equal, Greater, string_bytes, nat_cmp, refl, ◌∙◌, ◌&&◌, Bool, None, option_map, subst, inl, inr, not}
-use Rattle.std.proofs.Common.{Result, Ok, Err, IfErr, IfSome, IsTrue, if◌then◌else◌, option_and_then}
+use Rattle.std.proofs.Common.{zero, suc, Result, Ok, Err, IfErr, IfSome, IsTrue, if◌then◌else◌, option_and_then}
 use Rattle.std.proofs.{lemmas.Bool.false≢true, lemmas.Bool.and_parts, lemmas.Bool.cases_Bool, lemmas.Bool.not-true, lemmas.Cmp.nat_list_cmp_total, lemmas.Map.Text.is_eq-slice_cmp, lemmas.Slice.Eq.bytes_eq-Decides}
 use Rattle.std.proofs.lemmas.List.Elements.{recursion_from_All}
 use Rattle.std.specs.{Cmp.Lexicographic.slice_cmp, Ordering.match_ordering, Ordering.ordering_reverse, Cmp.tied_itself, BTreeMap.insert_entry, String.string_cmp, Option.unwrap_or, Result.result_ok, Str.bytes_eq, List.All}
@@ -115,6 +115,17 @@ pub record StandsAt {X : Type 0} (o : Option Data) (way : Way X) (x : Option X) 
 abbrev pub AllHeld : List Row → Members → Type 0
 AllHeld [] ms = Unit {0}
 AllHeld (row ∷ rows) ms = StandsAt (get_member row.key ms) row.way row.value × AllHeld rows ms
+
+-- the same of n rows, where one past the end says nothing
+abbrev pub FirstHeld : ℕ → List Row → Members → Type 0
+FirstHeld zero rows ms = Unit {0}
+FirstHeld (suc n) [] ms = Unit {0} × FirstHeld n [] ms
+FirstHeld (suc n) (row ∷ rows) ms = StandsAt (get_member row.key ms) row.way row.value × FirstHeld n rows ms
+
+pub first_held : (n : ℕ) (rows : List Row) (ms : Members) → AllHeld rows ms → FirstHeld n rows ms
+first_held zero rows ms held = tt
+first_held (suc n) [] ms held = (tt, first_held n [] ms tt)
+first_held (suc n) (row ∷ rows) ms held = (held.0, first_held n rows ms held.1)
 
 -- the keys of rows, and that they differ
 abbrev pub row_keys : List Row → List (List ℕ)

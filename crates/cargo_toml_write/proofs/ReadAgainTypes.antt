@@ -18,7 +18,7 @@ use Rattle.cargo_toml_parts.specs.{declared.lint.LintLevel.LintLevel, declared.l
 use Rattle.cargo_toml_parts.specs.{declared.lint.LintLevel.TheVariants.Deny, declared.lint.LintLevel.TheVariants.Forbid, Lints.LintMeaning, Lints.lint_keys, Lints.level_of, Lints.level_alone, Lints.table_lint, Lints.lint_of}
 use Rattle.cargo_toml_parts.specs.{Profiles.ProfilesMeaning, Profiles.profile_keys, Profiles.profile_of, Profiles.profile_reads, Profiles.profiles_of, Versions.requirement_of, Versions.Parts, Versions.version_of}
 use Rattle.cargo_toml_parts.specs.{declared.inheritable.Inheritable.Inheritable, Inherits.inheritable_map, Inherits.inheritable_of}
-use Rattle.cargo_toml_write.proofs.ReadAgain.{Again, AgainAs, AllHeld, Any, ReadsAs, StandsAt, StandsFor, again, alone, collected, flagged, free_again, free_maps, given, inheritable_again, list_again, map_as, map_same, nil, nil_left}
+use Rattle.cargo_toml_write.proofs.ReadAgain.{Again, AgainAs, AllHeld, Any, FirstHeld, ReadsAs, StandsAt, StandsFor, again, alone, collected, first_held, flagged, free_again, free_maps, given, inheritable_again, list_again, map_as, map_same, nil, nil_left}
 use Rattle.cargo_toml_write.proofs.ReadAgain.{nil_map, other_member, read_back, required, same_tree, set_stands, step, table_again, text_again, texts_again, truth_again, untouched, version_again, whole}
 use Rattle.cargo_toml_write.proofs.{ReadParts.AreNamed, ReadParts.AreSaid, ReadParts.Gives, ReadParts.bind, ReadParts.gives_some, ReadParts.skip, Spelled.spelled_again}
 use Rattle.cargo_toml_write.specs.Reread.{IsTold, each_value, reread, reread_dependency, reread_target, reread_workspace, told}
@@ -29,7 +29,7 @@ use Rattle.cargo_toml_write.specs.WrittenPackages.{AreReadAgain, IsVersionAgain,
 use Rattle.cargo_toml_write.specs.WrittenTables.{debug_tree, debug_way, edition_way, file_way, is_unrestricted, is_usual, level_text, level_way, lto_tree, lto_way, publish_way, resolver_way, status_text, status_way, strip_tree, strip_way}
 use Rattle.cargo_toml_write.specs.WrittenTables.{AreApart, IsApart, badge_rows, badge_way, badges_rows, badges_way, has_no_badge, has_no_profile, is_level_alone, known_profiles, lint_groups_way, lint_part, lint_rows, lint_way}
 use Rattle.cargo_toml_write.specs.WrittenTables.{maintenance_rows, maintenance_way, product_rows, product_way, profile_rows, profile_way, profiles_way}
-use Rattle.cargo_toml_write.specs.{Asked.EachValue, Asked.IfSet, Asked.TargetMeets, Asked.WorkspaceMeets, Requirements.CanBeRead, Writes.AreWritten, Writes.IsHeld, Writes.IsWriting, Writes.Way, Writes.put_some}
+use Rattle.cargo_toml_write.specs.{Asked.EachValue, Asked.IfSet, Asked.TargetMeets, Asked.WorkspaceMeets, Requirements.CanBeRead, Writes.AreWritten, Writes.IsHeld, Writes.IsWriting, Writes.Way}
 use Rattle.cargo_toml_write.specs.WrittenManifests.{all_features, manifest_rows, manifest_way}
 use Rattle.semver.specs.{Parse.Held, Identifiers.parts_of}
 use Rattle.cargo_toml_package.specs.Dependencies.{InheritedMeaning, DetailMeaning, DependencyMeaning, simple, inherited, detailed, inherited_of, strict_of, inherited_or, detail_keys, detail_of_table, dependency_of, no_detail}
@@ -235,12 +235,12 @@ pub dependency_again : AgainAs dependency_way dependency_of DependencyAgain (λ 
 dependency_again = record { each = dependency_tree }
 
 -- an inherited dependency that says that it isn't has the table of a detail
+same_rows : (i : InheritedMeaning) (ms : Members) → i.workspace ≡ false → AreWritten (inherited_rows i) no_members ms → AreWritten (known_rows (record no_detail { features = i.features; optional = i.optional })) no_members ms
+same_rows i ms h1 h2 = grind arith
+
 as_detail : (i : InheritedMeaning) (d : Data) → i.workspace ≡ false → inherited_way.trees i d → detail_way.trees (record no_detail { features = i.features; optional = i.optional }) d
 unfolding IsStrictlySortedBy
-as_detail i d says (ms, is, (features, features_held, (optional, optional_held, (workspace, workspace_held, last)))) =
-    let none : workspace ≡ None = subst (λ (b : Bool). IsHeld truth_way (unless_missing false b) workspace) says workspace_held in
-    let same = last ∙ ap (λ (o : Option Data). put_some (codes "workspace") o (put_some (codes "optional") optional (put_some (codes "features") features no_members))) none in
-    (no_members, ms, is, (tt, tt), (None, refl, (None, refl, (None, refl, (None, refl, (None, refl, (None, refl, (None, refl, (None, refl, (None, refl, (features, features_held, (optional, optional_held, (None, refl, same)))))))))))))
+as_detail i d says (ms, is, written) = (no_members, ms, is, (tt, tt), same_rows i ms says written)
 
 at_flag : (b : Bool) (i : InheritedMeaning) (d : Data) → i.workspace ≡ b → inherited_way.trees i d
     → dependency_way.trees (cond b (inherited i) (detailed (record no_detail { features = i.features; optional = i.optional }))) d
@@ -436,16 +436,18 @@ metadata_step : {X W M N : Type 0} (way : Way W) (held : X → W) (meaning : X �
 metadata_step way held meaning reads x o f r here again rest = step (optional_of reads o) f (option_map meaning x) r (metadata_read way held meaning reads x o again here.is) rest
 
 module _ {X W M : Type 0} (way : Way W) (held : X → W) (meaning : X → M) (reads : Data → Option M) (p : Package X) where
+  -- there may be as many keys as the pattern has names: `search` reads variables, and fewer fields of pairs
   members_again : (ms : Members) → VersionAgain (inheritable_map parts_of p.version) → MetadataAgain way held meaning reads p.metadata
-      → AllHeld (package_rows way (package_meaning held p)) ms → package_of_table reads ms ≡ Some (package_meaning meaning p)
-  members_again ms version metadata (name, (its_version, (edition, (rust_version, (build, (workspace, (authors, (links, (description, (homepage, (documentation, (readme, (keywords, (categories, (exclude, (include, (license, (license_file, (repository, (default_run, (autobins, (autolib, (autoexamples, (autotests, (autobenches, (publish, (resolver, (its_metadata, end)))))))))))))))))))))))))))) =
+      → FirstHeld 40 (package_rows way (package_meaning held p)) ms → package_of_table reads ms ≡ Some (package_meaning meaning p)
+  members_again ms version metadata (r1, (r2, (r3, (r4, (r5, (r6, (r7, (r8, (r9, (r10, (r11, (r12, (r13, (r14, (r15, (r16, (r17, (r18, (r19, (r20, (r21, (r22, (r23, (r24, (r25, (r26, (r27, (r28, (r29, (r30, (r31, (r32, (r33, (r34, (r35, (r36, (r37, (r38, (r39, (r40, end)))))))))))))))))))))))))))))))))))))))) =
       search (values_back, eithers, metadata_step {N = PackageMeaning M} way held meaning reads) depth 80 fits 40000
 
   pub package_again : VersionAgain (inheritable_map parts_of p.version) → MetadataAgain way held meaning reads p.metadata
       → (d : Data) → (package_way way).trees (package_meaning held p) d → package_reads reads d ≡ Some (package_meaning meaning p)
   unfolding package_reads
   package_again version metadata d (ms, is, written) =
-      ap (λ t. option_and_then (package_of_table reads) (as_table t)) is ∙ members_again ms version metadata (whole (package_rows way (package_meaning held p)) ms refl written)
+      let rows = package_rows way (package_meaning held p) in
+      ap (λ t. option_and_then (package_of_table reads) (as_table t)) is ∙ members_again ms version metadata (first_held 40 rows ms (whole rows ms refl written))
 
 template_members : (t : TemplateMeaning) → TemplateAgain t → (ms : Members) → AllHeld (template_rows t) ms → template_of ms ≡ Some t
 template_members t version ms held = search (values_back, version_again) depth 60 fits 4000
@@ -523,35 +525,7 @@ module _ {X W M : Type 0} (way : Way W) (held : X → W) (meaning : X → M) (re
       let whole_workspace = pair_read (workspace_way way) (workspace_reads reads) (workspace_meaning held) (λ w. reread_workspace (workspace_meaning meaning w)) m.workspace (get_member (codes "workspace") ms)
       (λ w is. workspace_again w (members w is)) its_workspace.is ∙ ap Some (mapped_twice reread_workspace (workspace_meaning meaning) m.workspace) in
       step _ _ _ _ found (step _ _ _ _ whole_workspace
-      (search (
-        read_back,
-        entries_again,
-        no_entries,
-        targets_again,
-        no_targets,
-        features_again,
-        no_feature,
-        patches_again,
-        no_patches,
-        product_again,
-        profiles_again,
-        no_profile,
-        badges_again,
-        no_badge,
-        products_again,
-        nil,
-        either_groups,
-        set_stands,
-        h.dependencies,
-        h.dev_dependencies,
-        h.build_dependencies,
-        h.target,
-        h.features,
-        h.replace,
-        h.patch,
-        h.profile,
-        h.lints,
-      ) depth 60 fits 60000))
+      (search (read_back, entries_again, no_entries, targets_again, no_targets, features_again, no_feature, patches_again, no_patches, product_again, profiles_again, no_profile, badges_again, no_badge, products_again, nil, either_groups, set_stands, h.dependencies, h.dev_dependencies, h.build_dependencies, h.target, h.features, h.replace, h.patch, h.profile, h.lints) depth 60 fits 60000))
 
   pub manifest_again : (m : Manifest X) → IsTold (manifest_meaning meaning m)
       → ReadsAs (manifest_way way) (manifest_reads reads) (manifest_meaning held m) (reread (manifest_meaning meaning m))

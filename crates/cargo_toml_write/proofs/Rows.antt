@@ -6,7 +6,7 @@ use Rattle.toml.specs.Data.{Data, Members, no_members, array, member}
 use Rattle.toml.specs.{declared.value.Value.Value, View.view, View.items_view, View.members_view, View.table_view}
 use Rattle.cargo_toml_parts.specs.{declared.error.Error.Error, declared.error.Error.Memory, Reads.map_meaning, Reads.pairs_meaning}
 use Rattle.cargo_toml_write.specs.Ways.{Ascend, IsMap, list_way, over_way, table_way}
-use Rattle.cargo_toml_write.specs.Writes.{AreEntries, AreItems, EntriesRefused, IsWriting, ItemsRefused, Row, Way, WritesFrom, WritingEnds, optional_row, put_member, required_row}
+use Rattle.cargo_toml_write.specs.Writes.{AreEntries, AreItems, AreWritten, EntriesRefused, IsWriting, ItemsRefused, Row, Way, WritesFrom, WritingEnds, optional_row, put_member, put_some, required_row}
 use Rattle.cargo_toml_write.specs.{Ways.Begins, WrittenDependencies.detail_under, WrittenDependencies.told_features}
 use Rattle.std.specs.{List.Sorted.IsStrictlySortedBy, Map.keys_of, Map.lookup, String.string_cmp, BTreeMap.BTreeMap, BTreeMap.get_by, BTreeMap.is_at, Cmp.Lexicographic.slice_cmp, Str.bytes_eq}
 use Rattle.toml.proofs.Views.{Entry}
@@ -34,6 +34,24 @@ nothing_more a ms = grind arith
 
 pub done : {a : Option Error} {ms : Members} → Steps [] a ms a ms
 done = record { goes = nothing_more _ _ }
+
+-- rows are written as those of them are that hold something
+abbrev with_present : {X : Type 0} → List ℕ → Way X → Option X → List Row → List Row
+with_present key way None rows = rows
+with_present key way (Some x) rows = required_row key way x ∷ rows
+
+abbrev pub present : List Row → List Row
+present [] = []
+present (row ∷ rows) = with_present row.key row.way row.value (present rows)
+
+one_written : {X : Type 0} (key : List ℕ) (way : Way X) (x : Option X) (rows some : List Row) (old new : Members) → ((mid : Members) → AreWritten some mid new → AreWritten rows mid new)
+    → AreWritten (with_present key way x some) old new → AreWritten (optional_row key way x ∷ rows) old new
+one_written key way None rows some old new more written = (None, refl, more old written)
+one_written key way (Some x) rows some old new more (d, held, rest) = (d, held, more (put_some key d old) rest)
+
+pub all_written : (rows : List Row) (old new : Members) → AreWritten (present rows) old new → AreWritten rows old new
+all_written [] old new written = written
+all_written (row ∷ rows) old new written = one_written row.key row.way row.value rows (present rows) old new (λ mid. all_written rows mid new) written
 
 -- a tree that was put at a key
 pub is_put : {X : Type 0} (key : List ℕ) (way : Way X) (x : X) (d : Data) (fault : Option Error) (old new : Members)

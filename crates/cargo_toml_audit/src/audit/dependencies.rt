@@ -20,6 +20,7 @@ use crate::AllocResult;
 use crate::members::note;
 use cargo_toml::features::Kind;
 use cargo_toml::{Dependency, DepsSet, Inheritable, Manifest, Package, Target, TargetDepsSet};
+use cargo_toml_package::inheriting::leavable_rows;
 use cargo_toml_tools::requirement::required_version;
 use cargo_toml_write::write::requirement::requirement_text;
 use std::alloc::Global;
@@ -105,30 +106,6 @@ fn package_keys<M>(alloc: Global, package: &Option<Package<M>>) -> AllocResult<V
     let rows = leavable_rows(package);
     add_left(alloc, &mut keys, &rows)?;
     Ok(keys)
-}
-
-/// The keys that a package may leave to the workspace.
-fn leavable_rows<M>(package: &Package<M>) -> [Row; 16]
-    ensures { map (λ r. (r.0.now, r.1)) result ≡ leavable_rows (held_package «package».now) }
-{
-    [
-        ("version", !package.version.is_set()),
-        ("edition", !package.edition.is_set()),
-        ("authors", !package.authors.is_set()),
-        ("categories", !package.categories.is_set()),
-        ("exclude", !package.exclude.is_set()),
-        ("include", !package.include.is_set()),
-        ("keywords", !package.keywords.is_set()),
-        ("publish", !package.publish.is_set()),
-        ("readme", !package.readme.is_set()),
-        ("description", is_inherited(&package.description)),
-        ("documentation", is_inherited(&package.documentation)),
-        ("homepage", is_inherited(&package.homepage)),
-        ("license", is_inherited(&package.license)),
-        ("license-file", is_inherited(&package.license_file)),
-        ("repository", is_inherited(&package.repository)),
-        ("rust-version", is_inherited(&package.rust_version)),
-    ]
 }
 
 /// Whether a text is left to the workspace.

@@ -1,10 +1,13 @@
-use Rattle.std.proofs.Common.{None, Some, codes, refl}
+use Rattle.std.proofs.Common.{[], ◌∷◌, Some, codes, refl, true}
 use Rattle.std.specs.List.Sorted.{IsStrictlySortedBy}
 use Rattle.toml.specs.Data.{Items, array, item, no_items, no_members, string}
+use Rattle.cargo_toml_package.specs.Dependencies.{DetailMeaning, no_detail}
+use Rattle.cargo_toml_write.{proofs.Rows.all_written, specs.WrittenDependencies.known_rows}
 use Rattle.cargo_toml_write.proofs.examples.a_dependency_is_written.Goals as goal
 
 pub returns : goal.returns
 unfolding IsStrictlySortedBy
 returns c =
     let std : Items = item (string (codes "std")) no_items in
-    (no_members, _, refl, (tt, tt), (None, refl, (None, refl, (None, refl, (None, refl, (Some _, refl, (None, refl, (None, refl, (None, refl, (None, refl, (Some (array std), (std, refl, (refl, tt)), (Some _, refl, (None, refl, refl)))))))))))))
+    let detail : DetailMeaning = record no_detail { path = Some (codes "../log"); features = codes "std" ∷ []; optional = true } in
+    (no_members, _, refl, (tt, tt), all_written (known_rows detail) no_members _ (Some _, refl, (Some (array std), (std, refl, (refl, tt)), (Some _, refl, refl))))

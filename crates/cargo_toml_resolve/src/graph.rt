@@ -11,7 +11,7 @@ use crate::rows::Rows;
 /// A node is the place of a text. The features come first, in the byte order of their names, and
 /// are the vertices. What they name beside them comes after, once for each mention, and has no
 /// edges.
-#[derive(Debug, Drop)]
+#[derive(Drop)]
 pub struct Graph<'m> {
     /// The texts of the nodes.
     pub texts: Vec<&'m str>,
@@ -33,7 +33,7 @@ pub struct Graph<'m> {
 }
 
 /// What stands for the removed features of a graph, with the texts and the flags of its nodes.
-#[derive(Debug, Drop)]
+#[derive(Drop)]
 pub struct Walked<'m> {
     /// The texts of the nodes.
     pub texts: Vec<&'m str>,

@@ -21,7 +21,7 @@ use std::collections::{BTreeSet, HashMap};
 use std::hash::BuildHasher;
 
 /// What is kept of features once hidden ones are removed.
-#[derive(Debug, Drop)]
+#[derive(Drop)]
 pub struct Kept<'m, S: BuildHasher> {
     /// The kept features by their names.
     pub features: HashMap<&'m str, Feature<'m>, S>,

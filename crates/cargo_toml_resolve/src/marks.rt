@@ -8,7 +8,7 @@ use std::marker::Model;
 
 /// Which nodes are marked. A node is marked where its stamp is the epoch, and the next epoch marks
 /// none.
-#[derive(Debug, Drop)]
+#[derive(Drop)]
 pub struct Marks {
     stamps: Vec<usize>,
     epoch: usize,

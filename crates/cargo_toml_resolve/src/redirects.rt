@@ -35,7 +35,7 @@ fn finish(
 }
 
 /// What stands for each removed vertex, and whether that may differ from what it has itself.
-#[derive(Debug, Drop)]
+#[derive(Drop)]
 pub struct Redirects {
     /// The redirect of each removed vertex. What other rows hold is open where `moved` is set.
     pub rows: Rows,

@@ -9,7 +9,7 @@ use std::marker::Model;
 
 /// A row of nodes for each vertex. They stand in one list, and a row that is replaced moves to its
 /// end.
-#[derive(Debug, Drop)]
+#[derive(Drop)]
 pub struct Rows {
     nodes: Vec<Node>,
     spans: Vec<Span>,

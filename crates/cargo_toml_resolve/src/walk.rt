@@ -110,7 +110,7 @@ fn passing(
 }
 
 /// What walks over a graph use again and again, and what the last one found.
-#[derive(Debug, Drop)]
+#[derive(Drop)]
 pub struct Walk {
     /// Which nodes are met.
     pub met: Marks,

@@ -18,6 +18,7 @@ pub record ProductMeaning : Type 0 where
   pub plugin : Bool
   pub proc_macro : Bool
   pub harness : Bool
+  pub sbom_name : Option (List ℕ)
   pub edition : Option Edition
   pub crate_type : List (List ℕ)
   pub required_features : List (List ℕ)
@@ -34,6 +35,7 @@ no_product = record {
   plugin = false;
   proc_macro = false;
   harness = true;
+  sbom_name = None;
   edition = None;
   crate_type = [];
   required_features = [];
@@ -51,6 +53,7 @@ product_meaning p = record {
   plugin = p.plugin;
   proc_macro = p.proc_macro;
   harness = p.harness;
+  sbom_name = option_map string_bytes p.sbom_name;
   edition = p.edition;
   crate_type = map string_bytes p.crate_type.items;
   required_features = map string_bytes p.required_features.items;
@@ -78,6 +81,7 @@ product_of ms = do
   bench ← flag_at "bench" true ms
   doc ← flag_at "doc" true ms
   harness ← flag_at "harness" true ms
+  sbom_name ← text_at "sbom-name" ms
   plugin ← flag_at "plugin" false ms
   proc_macro ← proc_macro_of ms
   edition ← optional_at "edition" edition_reads ms
@@ -93,6 +97,7 @@ product_of ms = do
     plugin = plugin;
     proc_macro = proc_macro;
     harness = harness;
+    sbom_name = sbom_name;
     edition = edition;
     crate_type = crate_type;
     required_features = required_features;

@@ -40,6 +40,8 @@ pub struct Product {
     /// Whether the test harness of the compiler is used: the key `harness`, true
     /// where it is missing.
     pub harness: bool,
+    /// The name that it has in a bill of materials: the key `sbom-name`.
+    pub sbom_name: Option<String>,
     /// Its edition, where that is not the package's: the key `edition`.
     pub edition: Option<Edition>,
     /// The kinds of crate to make: the list `crate-type`.
@@ -62,7 +64,8 @@ impl Clone for Product {
         × (⟦<bool as Clone>⟧.is_clone p.plugin copy.plugin
         × (⟦<bool as Clone>⟧.is_clone p.proc_macro copy.proc_macro
         × (⟦<bool as Clone>⟧.is_clone p.harness copy.harness
-        × (⟦<Option<Edition> as Clone>⟧.is_clone p.edition copy.edition))))))))))) };
+        × (⟦<Option<String> as Clone>⟧.is_clone p.sbom_name copy.sbom_name
+        × (⟦<Option<Edition> as Clone>⟧.is_clone p.edition copy.edition)))))))))))) };
 
     ghost is_infallible = { λ p.
         ⟦<Vec<String> as Clone>⟧.is_infallible p.crate_type
@@ -76,7 +79,8 @@ impl Clone for Product {
         × (⟦<bool as Clone>⟧.is_infallible p.plugin
         × (⟦<bool as Clone>⟧.is_infallible p.proc_macro
         × (⟦<bool as Clone>⟧.is_infallible p.harness
-        × (⟦<Option<Edition> as Clone>⟧.is_infallible p.edition))))))))))) };
+        × (⟦<Option<String> as Clone>⟧.is_infallible p.sbom_name
+        × (⟦<Option<Edition> as Clone>⟧.is_infallible p.edition)))))))))))) };
 
     fn clone(&self) -> Result<Product, AllocError> {
         let crate_type = self.crate_type.clone()?;
@@ -92,6 +96,7 @@ impl Clone for Product {
             plugin: copying.of(&self.plugin, false),
             proc_macro: copying.of(&self.proc_macro, false),
             harness: copying.of(&self.harness, false),
+            sbom_name: copying.of(&self.sbom_name, None),
             edition: copying.of(&self.edition, None),
             crate_type,
             required_features,
@@ -115,6 +120,7 @@ impl Product {
             plugin: false,
             proc_macro: false,
             harness: true,
+            sbom_name: None,
             edition: None,
             crate_type: Vec::new(alloc),
             required_features: Vec::new(alloc),
@@ -150,6 +156,7 @@ fn read_product(alloc: Global, table: Table) -> Result<Product, Error>
     reading.take(&mut rest, "bench", &mut whole.bench);
     reading.take(&mut rest, "doc", &mut whole.doc);
     reading.take(&mut rest, "harness", &mut whole.harness);
+    reading.take_optional(&mut rest, "sbom-name", &mut whole.sbom_name);
     reading.take(&mut rest, "plugin", &mut whole.plugin);
     whole.proc_macro = reading.keep(proc_macro(&rest), false);
     reading.take_optional(&mut rest, "edition", &mut whole.edition);

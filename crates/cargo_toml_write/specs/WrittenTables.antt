@@ -143,6 +143,7 @@ product_rows p =
     ∷ flag_row (codes "bench") true p.bench
     ∷ flag_row (codes "doc") true p.doc
     ∷ flag_row (codes "harness") true p.harness
+    ∷ optional_row (codes "sbom-name") text_way p.sbom_name
     ∷ flag_row (codes "plugin") false p.plugin
     ∷ flag_row (codes "proc-macro") false p.proc_macro
     ∷ optional_row (codes "edition") edition_way p.edition

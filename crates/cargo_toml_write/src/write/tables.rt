@@ -43,6 +43,7 @@ impl ToValue for Product {
         writing.flag("bench", true, self.bench);
         writing.flag("doc", true, self.doc);
         writing.flag("harness", true, self.harness);
+        writing.optional("sbom-name", &self.sbom_name);
         writing.flag("plugin", false, self.plugin);
         writing.flag("proc-macro", false, self.proc_macro);
         writing.optional("edition", &self.edition);

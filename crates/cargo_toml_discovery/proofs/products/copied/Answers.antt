@@ -13,11 +13,12 @@ itself (Some x) None h = absurd h
 itself (Some x) (Some y) h = ap Some h
 
 product_same : (p q : code.Product) → clone.ghosts.is_clone p q → product_meaning q ≡ product_meaning p
-product_same p q (crate_type, (required_features, (path, (name, (test, (doctest, (bench, (doc, (plugin, (proc_macro, (harness, edition))))))))))) =
+product_same p q (crate_type, (required_features, (path, (name, (test, (doctest, (bench, (doc, (plugin, (proc_macro, (harness, (sbom_name, edition)))))))))))) =
     let types = zip_same string_bytes _ (λ s t e. e) p.crate_type.items q.crate_type.items crate_type.0 in
     let features = zip_same string_bytes _ (λ s t e. e) p.required_features.items q.required_features.items required_features.0 in
     let path_is = option_same string_bytes _ (λ s t e. e) p.path q.path path in
     let name_is = option_same string_bytes _ (λ s t e. e) p.name q.name name in
+    let sbom_name_is = option_same string_bytes _ (λ s t e. e) p.sbom_name q.sbom_name sbom_name in
     let edition_is = itself p.edition q.edition edition in
     cc
 

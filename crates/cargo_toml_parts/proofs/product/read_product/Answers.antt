@@ -11,7 +11,7 @@ use Rattle.cargo_toml_parts.proofs.product.read_product.Goals as goal
 
 -- none of the keys before is a spelling of `proc-macro`
 abbrev before : List (List ℕ)
-before = codes "path" ∷ codes "name" ∷ codes "test" ∷ codes "doctest" ∷ codes "bench" ∷ codes "doc" ∷ codes "harness" ∷ codes "plugin" ∷ []
+before = codes "path" ∷ codes "name" ∷ codes "test" ∷ codes "doctest" ∷ codes "bench" ∷ codes "doc" ∷ codes "harness" ∷ codes "sbom-name" ∷ codes "plugin" ∷ []
 
 proc_macro_left : (ms : Members) → proc_macro_of (without before ms) ≡ proc_macro_of ms
 proc_macro_left ms =
@@ -30,9 +30,10 @@ returns c =
     let bench = told (codes "bench") _ _ _ _ _ _ _ _ doctest refl (ap (λ p. p.bench) held) (shape _ _) c.take-3.ensures.value c.take-3.ensures.left in
     let doc = told (codes "doc") _ _ _ _ _ _ _ _ bench refl (ap (λ p. p.doc) held) (shape _ _) c.take-4.ensures.value c.take-4.ensures.left in
     let harness = told (codes "harness") _ _ _ _ _ _ _ _ doc refl (ap (λ p. p.harness) held) (shape _ _) c.take-5.ensures.value c.take-5.ensures.left in
-    let plugin = told (codes "plugin") _ _ _ _ _ _ _ _ harness refl (ap (λ p. p.plugin) held) (shape _ _) c.take-6.ensures.value c.take-6.ensures.left in
+    let sbom_name = told_optional (codes "sbom-name") _ _ _ _ _ _ _ harness refl (ap (λ p. p.sbom_name) held) (shape _ _) c.take_optional-3.ensures.value c.take_optional-3.ensures.left in
+    let plugin = told (codes "plugin") _ _ _ _ _ _ _ _ sbom_name refl (ap (λ p. p.plugin) held) (shape _ _) c.take-6.ensures.value c.take-6.ensures.left in
     let proc_macro = reads_left proc_macro_of (λ n. IsShape wrong_shape) _ _ _ _ plugin (proc_macro_left ms) (λ e h. h) (kept _ _ _ _ _ _ _ c.proc_macro.ensures c.keep.ensures) in
-    let edition = told_optional (codes "edition") _ _ _ _ _ _ _ proc_macro refl (ap (λ p. option_map (λ x. x) p.edition) held) (shape _ _) (same _ _ _ _ _ c.take_optional-3.ensures.value) c.take_optional-3.ensures.left in
+    let edition = told_optional (codes "edition") _ _ _ _ _ _ _ proc_macro refl (ap (λ p. option_map (λ x. x) p.edition) held) (shape _ _) (same _ _ _ _ _ c.take_optional-4.ensures.value) c.take_optional-4.ensures.left in
     let crate_type = told (codes "crate-type") _ _ _ _ _ _ _ _ edition refl (ap (λ p. p.crate_type) held) (shape_list _ _) c.take-7.ensures.value c.take-7.ensures.left in
     let required_features = told (codes "required-features") _ _ _ _ _ _ _ _ crate_type refl (ap (λ p. p.required_features) held) (shape_list _ _) c.take-8.ensures.value c.take-8.ensures.left in
     ends _ _ _ _ _ _ c.ended.ensures (ends_told _ required_features)

@@ -39,6 +39,7 @@ package_rows metadata p =
     ∷ optional_row (codes "license-file") (inheritable_way text_way) p.license_file
     ∷ optional_row (codes "repository") (inheritable_way text_way) p.repository
     ∷ optional_row (codes "default-run") text_way p.default_run
+    ∷ optional_row (codes "support") text_way p.support
     ∷ flag_row (codes "autobins") true p.autobins
     ∷ flag_row (codes "autolib") true p.autolib
     ∷ flag_row (codes "autoexamples") true p.autoexamples

@@ -69,6 +69,7 @@ impl<Metadata: FromValue + ToValue> ToValue for Package<Metadata> {
         writing.optional("license-file", &self.license_file);
         writing.optional("repository", &self.repository);
         writing.optional("default-run", &self.default_run);
+        writing.optional("support", &self.support);
         writing.flag("autobins", true, self.autobins);
         writing.flag("autolib", true, self.autolib);
         writing.flag("autoexamples", true, self.autoexamples);

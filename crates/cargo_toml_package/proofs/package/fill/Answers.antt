@@ -31,11 +31,12 @@ returns g c =
     let license_file = takes_optional (codes "license-file") _ _ _ _ _ _ _ _ license refl (ap (λ p. p.license_file) held) c.take_optional-9.ensures.value c.take_optional-9.ensures.left in
     let repository = takes_optional (codes "repository") _ _ _ _ _ _ _ _ license_file refl (ap (λ p. p.repository) held) c.take_optional-10.ensures.value c.take_optional-10.ensures.left in
     let default_run = takes_optional (codes "default-run") _ _ _ _ _ _ _ _ repository refl (ap (λ p. p.default_run) held) c.take_optional-11.ensures.value c.take_optional-11.ensures.left in
-    let autobins = takes (codes "autobins") _ _ _ _ _ _ _ _ _ default_run refl (ap (λ p. p.autobins) held) c.take-9.ensures.value c.take-9.ensures.left in
+    let support = takes_optional (codes "support") _ _ _ _ _ _ _ _ default_run refl (ap (λ p. p.support) held) c.take_optional-12.ensures.value c.take_optional-12.ensures.left in
+    let autobins = takes (codes "autobins") _ _ _ _ _ _ _ _ _ support refl (ap (λ p. p.autobins) held) c.take-9.ensures.value c.take-9.ensures.left in
     let autolib = takes (codes "autolib") _ _ _ _ _ _ _ _ _ autobins refl (ap (λ p. p.autolib) held) c.take-10.ensures.value c.take-10.ensures.left in
     let autoexamples = takes (codes "autoexamples") _ _ _ _ _ _ _ _ _ autolib refl (ap (λ p. p.autoexamples) held) c.take-11.ensures.value c.take-11.ensures.left in
     let autotests = takes (codes "autotests") _ _ _ _ _ _ _ _ _ autoexamples refl (ap (λ p. p.autotests) held) c.take-12.ensures.value c.take-12.ensures.left in
     let autobenches = takes (codes "autobenches") _ _ _ _ _ _ _ _ _ autotests refl (ap (λ p. p.autobenches) held) c.take-13.ensures.value c.take-13.ensures.left in
     let publish = takes (codes "publish") _ _ _ _ _ _ _ _ _ autobenches refl (ap (λ p. p.publish) held) c.take-14.ensures.value c.take-14.ensures.left in
-    let resolver = takes_optional (codes "resolver") _ _ _ _ _ _ _ _ publish refl (ap (λ p. p.resolver) held) c.take_optional-12.ensures.value c.take_optional-12.ensures.left in
+    let resolver = takes_optional (codes "resolver") _ _ _ _ _ _ _ _ publish refl (ap (λ p. p.resolver) held) c.take_optional-13.ensures.value c.take_optional-13.ensures.left in
     takes_last_optional (codes "metadata") _ _ _ _ _ _ _ resolver refl (means_none _ _ _ (ap (λ p. p.metadata) held)) c.take_metadata.ensures.value refl

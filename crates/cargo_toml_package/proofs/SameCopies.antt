@@ -26,7 +26,7 @@ inherited_same x y h =
     cc
 
 pub detail_same : (x y : DependencyDetail) → detail.ghosts.is_clone x y → detail_meaning y ≡ detail_meaning x
-detail_same x y (a, (b, (c, (d, (e, (f, (g, (h, (i, (j, (optional, (default_features, (k, is_inherited))))))))))))) =
+detail_same x y (a, (b, (c, (d, (e, (f, (g, (h, (i, (l, (j, (optional, (default_features, (k, is_inherited)))))))))))))) =
     let version = option_same requirement_meaning _ requirement_same x.version y.version a in
     let name = option_same string_bytes _ (λ _ _ s. s) x.«package» y.«package» b in
     let registry = option_same string_bytes _ (λ _ _ s. s) x.registry y.registry c in
@@ -36,6 +36,7 @@ detail_same x y (a, (b, (c, (d, (e, (f, (g, (h, (i, (j, (optional, (default_feat
     let branch = option_same string_bytes _ (λ _ _ s. s) x.branch y.branch g in
     let tag = option_same string_bytes _ (λ _ _ s. s) x.tag y.tag h in
     let rev = option_same string_bytes _ (λ _ _ s. s) x.rev y.rev i in
+    let mirror = option_same string_bytes _ (λ _ _ s. s) x.mirror y.mirror l in
     let features = zip_same string_bytes _ (λ _ _ s. s) x.features.items y.features.items j.0 in
     let unstable = zip_same (λ (m : String Global × Value). (string_bytes m.0, view m.1)) _ pair_same x.unstable.entries y.unstable.entries k in
     cc

@@ -61,6 +61,7 @@ pub record DetailMeaning : Type 0 where
   pub branch : Option (List ℕ)
   pub tag : Option (List ℕ)
   pub rev : Option (List ℕ)
+  pub mirror : Option (List ℕ)
   pub features : List (List ℕ)
   pub optional : Bool
   pub default_features : Bool
@@ -79,6 +80,7 @@ no_detail = record {
   branch = None;
   tag = None;
   rev = None;
+  mirror = None;
   features = [];
   optional = false;
   default_features = true;
@@ -98,6 +100,7 @@ detail_meaning d = record {
   branch = option_map string_bytes d.branch;
   tag = option_map string_bytes d.tag;
   rev = option_map string_bytes d.rev;
+  mirror = option_map string_bytes d.mirror;
   features = map string_bytes d.features.items;
   optional = d.optional;
   default_features = d.default_features;
@@ -110,7 +113,7 @@ abbrev pub detail_keys : List (List ℕ)
 detail_keys =
     codes "version" ∷ codes "features" ∷ codes "optional" ∷ codes "default-features"
     ∷ codes "package" ∷ codes "registry" ∷ codes "registry-index" ∷ codes "path" ∷ codes "git"
-    ∷ codes "branch" ∷ codes "tag" ∷ codes "rev" ∷ []
+    ∷ codes "branch" ∷ codes "tag" ∷ codes "rev" ∷ codes "mirror" ∷ []
 
 -- the detail of a table
 abbrev pub detail_of_table : Members → Option DetailMeaning
@@ -127,6 +130,7 @@ detail_of_table ms = do
   branch ← text_at "branch" ms
   tag ← text_at "tag" ms
   rev ← text_at "rev" ms
+  mirror ← text_at "mirror" ms
   unstable ← others_read detail_keys (λ d. Some d) ms
   Some (record {
     version = version;
@@ -138,6 +142,7 @@ detail_of_table ms = do
     branch = branch;
     tag = tag;
     rev = rev;
+    mirror = mirror;
     features = features;
     optional = optional;
     default_features = default_features;

@@ -55,6 +55,8 @@ pub struct DependencyDetail {
     pub tag: Option<String>,
     /// The revision of that repository: the key `rev`.
     pub rev: Option<String>,
+    /// The address that it may be taken from instead: the key `mirror`.
+    pub mirror: Option<String>,
     /// The features of it that are switched on: the list `features`.
     pub features: Vec<String>,
     /// Whether it is left out until a feature enables it: the key `optional`, false
@@ -81,11 +83,12 @@ impl Clone for DependencyDetail {
         × (⟦<Option<String> as Clone>⟧.is_clone x.branch copy.branch
         × (⟦<Option<String> as Clone>⟧.is_clone x.tag copy.tag
         × (⟦<Option<String> as Clone>⟧.is_clone x.rev copy.rev
+        × (⟦<Option<String> as Clone>⟧.is_clone x.mirror copy.mirror
         × (⟦<Vec<String> as Clone>⟧.is_clone x.features copy.features
         × (⟦<bool as Clone>⟧.is_clone x.optional copy.optional
         × (⟦<bool as Clone>⟧.is_clone x.default_features copy.default_features
         × (⟦<BTreeMap<String, Value> as Clone>⟧.is_clone x.unstable copy.unstable
-        × ⟦<bool as Clone>⟧.is_clone x.inherited copy.inherited)))))))))))) };
+        × ⟦<bool as Clone>⟧.is_clone x.inherited copy.inherited))))))))))))) };
 
     ghost is_infallible = { λ x.
         ⟦<Option<VersionReq> as Clone>⟧.is_infallible x.version
@@ -97,11 +100,12 @@ impl Clone for DependencyDetail {
         × (⟦<Option<String> as Clone>⟧.is_infallible x.branch
         × (⟦<Option<String> as Clone>⟧.is_infallible x.tag
         × (⟦<Option<String> as Clone>⟧.is_infallible x.rev
+        × (⟦<Option<String> as Clone>⟧.is_infallible x.mirror
         × (⟦<Vec<String> as Clone>⟧.is_infallible x.features
         × (⟦<bool as Clone>⟧.is_infallible x.optional
         × (⟦<bool as Clone>⟧.is_infallible x.default_features
         × (⟦<BTreeMap<String, Value> as Clone>⟧.is_infallible x.unstable
-        × ⟦<bool as Clone>⟧.is_infallible x.inherited)))))))))))) };
+        × ⟦<bool as Clone>⟧.is_infallible x.inherited))))))))))))) };
 
     fn clone(&self) -> Result<DependencyDetail, AllocError> {
         let alloc = *self.features.allocator();
@@ -116,6 +120,7 @@ impl Clone for DependencyDetail {
             branch: copying.of(&self.branch, None),
             tag: copying.of(&self.tag, None),
             rev: copying.of(&self.rev, None),
+            mirror: copying.of(&self.mirror, None),
             features: copying.of(&self.features, Vec::new(alloc)),
             optional: copying.of(&self.optional, false),
             default_features: copying.of(&self.default_features, false),
@@ -166,6 +171,7 @@ impl DependencyDetail {
             branch: None,
             tag: None,
             rev: None,
+            mirror: None,
             features: Vec::new(alloc),
             optional: false,
             default_features: true,
@@ -232,6 +238,7 @@ fn fill(alloc: Global, whole: &mut DependencyDetail, table: Table) -> Option<Err
     reading.take_optional(&mut rest, "branch", &mut whole.branch);
     reading.take_optional(&mut rest, "tag", &mut whole.tag);
     reading.take_optional(&mut rest, "rev", &mut whole.rev);
+    reading.take_optional(&mut rest, "mirror", &mut whole.mirror);
     // All known keys were taken out of it.
     whole.unstable = without_spare(alloc, rest);
     reading.fault

@@ -42,6 +42,7 @@ known_rows d =
     ∷ optional_row (codes "branch") text_way d.branch
     ∷ optional_row (codes "tag") text_way d.tag
     ∷ optional_row (codes "rev") text_way d.rev
+    ∷ optional_row (codes "mirror") text_way d.mirror
     ∷ given_row (codes "features") texts_way d.features
     ∷ flag_row (codes "optional") false d.optional
     ∷ flag_row (codes "default-features") true d.default_features

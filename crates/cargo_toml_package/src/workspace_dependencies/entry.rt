@@ -80,7 +80,10 @@ fn joined_detail(
 fn is_short(template: &DependencyDetail) -> bool
     ensures { IsTrue result → IsShort (detail_meaning template.now) }
 {
-    template.package.is_none() && template.is_from_crates_io() && template.unstable.is_empty()
+    template.package.is_none()
+        && template.mirror.is_none()
+        && template.is_from_crates_io()
+        && template.unstable.is_empty()
 }
 
 // A detail that has no keys except these. It is filled in where it stays, and not moved there.

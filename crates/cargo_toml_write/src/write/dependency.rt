@@ -77,6 +77,7 @@ impl ToValue for DependencyDetail {
         writing.optional("branch", &self.branch);
         writing.optional("tag", &self.tag);
         writing.optional("rev", &self.rev);
+        writing.optional("mirror", &self.mirror);
         writing.given("features", &self.features);
         writing.flag("optional", false, self.optional);
         writing.flag("default-features", true, self.default_features);

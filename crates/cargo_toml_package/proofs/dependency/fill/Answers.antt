@@ -26,5 +26,6 @@ returns c =
     let branch = told_optional (codes "branch") _ _ _ _ _ _ _ git refl (ap (λ d. d.branch) held) (shape _ _) c.take_optional-7.ensures.value c.take_optional-7.ensures.left in
     let tag = told_optional (codes "tag") _ _ _ _ _ _ _ branch refl (ap (λ d. d.tag) held) (shape _ _) c.take_optional-8.ensures.value c.take_optional-8.ensures.left in
     let rev = told_optional (codes "rev") _ _ _ _ _ _ _ tag refl (ap (λ d. d.rev) held) (shape _ _) c.take_optional-9.ensures.value c.take_optional-9.ensures.left in
-    ends_left (others_read [] (λ d. Some d)) (λ n. IsShape wrong_shape) _ _ _ _ _ rev (rest_read detail_keys (λ d. Some d) ms) (λ e h. h)
-    (known _ _ _ _ (all_left c.take_optional-9.new.rest.entries ∙ ap Some (sym c.without_spare.ensures))) (rw (ap (λ d. d.inherited) held) refl)
+    let mirror = told_optional (codes "mirror") _ _ _ _ _ _ _ rev refl (ap (λ d. d.mirror) held) (shape _ _) c.take_optional-10.ensures.value c.take_optional-10.ensures.left in
+    ends_left (others_read [] (λ d. Some d)) (λ n. IsShape wrong_shape) _ _ _ _ _ mirror (rest_read detail_keys (λ d. Some d) ms) (λ e h. h)
+    (known _ _ _ _ (all_left c.take_optional-10.new.rest.entries ∙ ap Some (sym c.without_spare.ensures))) (rw (ap (λ d. d.inherited) held) refl)

@@ -42,6 +42,7 @@ with_template base t p = record p {
   authors = filled_field p.authors t.authors;
   description = filled_if_there p.description t.description;
   homepage = filled_if_there p.homepage t.homepage;
+  funding = filled_if_there p.funding t.funding;
   documentation = filled_if_there p.documentation t.documentation;
   readme = filled_field p.readme (Some (based base t.readme));
   keywords = filled_field p.keywords t.keywords;
@@ -82,6 +83,7 @@ leavable_rows p =
     ∷ (codes "description", is_left_there p.description)
     ∷ (codes "documentation", is_left_there p.documentation)
     ∷ (codes "homepage", is_left_there p.homepage)
+    ∷ (codes "funding", is_left_there p.funding)
     ∷ (codes "license", is_left_there p.license)
     ∷ (codes "license-file", is_left_there p.license_file)
     ∷ (codes "repository", is_left_there p.repository)
@@ -99,6 +101,7 @@ pub record IsFilled {M : Type 0} (p : Package M) : Type 0 where
   pub authors : IsSome (value_of p.authors)
   pub description : IsTrue (is_known p.description)
   pub homepage : IsTrue (is_known p.homepage)
+  pub funding : IsTrue (is_known p.funding)
   pub documentation : IsTrue (is_known p.documentation)
   pub readme : IsSome (value_of p.readme)
   pub keywords : IsSome (value_of p.keywords)
@@ -145,6 +148,7 @@ installed_package p n = record p {
   authors = put_field p.authors (option_map (λ v. map string_bytes v.items) n.authors);
   description = put_if_there p.description (option_map string_bytes n.description);
   homepage = put_if_there p.homepage (option_map string_bytes n.homepage);
+  funding = put_if_there p.funding (option_map string_bytes n.funding);
   documentation = put_if_there p.documentation (option_map string_bytes n.documentation);
   readme = put_field p.readme (option_map file_meaning n.readme);
   keywords = put_field p.keywords (option_map (λ v. map string_bytes v.items) n.keywords);

@@ -59,6 +59,9 @@ pub struct PackageTemplate {
     /// The address of the project's page.
     pub homepage: Option<String>,
 
+    /// The address of the page where the packages may be funded.
+    pub funding: Option<String>,
+
     /// Patterns of the only files that are published.
     pub include: Option<Vec<String>>,
 
@@ -98,6 +101,7 @@ impl Clone for PackageTemplate {
         × ⟦<Option<Edition> as Clone>⟧.is_clone p.edition copy.edition
         × ⟦<Option<Vec<String>> as Clone>⟧.is_clone p.exclude copy.exclude
         × ⟦<Option<String> as Clone>⟧.is_clone p.homepage copy.homepage
+        × ⟦<Option<String> as Clone>⟧.is_clone p.funding copy.funding
         × ⟦<Option<Vec<String>> as Clone>⟧.is_clone p.include copy.include
         × ⟦<Option<Vec<String>> as Clone>⟧.is_clone p.keywords copy.keywords
         × ⟦<Option<String> as Clone>⟧.is_clone p.license copy.license
@@ -116,6 +120,7 @@ impl Clone for PackageTemplate {
         × ⟦<Option<Edition> as Clone>⟧.is_infallible p.edition
         × ⟦<Option<Vec<String>> as Clone>⟧.is_infallible p.exclude
         × ⟦<Option<String> as Clone>⟧.is_infallible p.homepage
+        × ⟦<Option<String> as Clone>⟧.is_infallible p.funding
         × ⟦<Option<Vec<String>> as Clone>⟧.is_infallible p.include
         × ⟦<Option<Vec<String>> as Clone>⟧.is_infallible p.keywords
         × ⟦<Option<String> as Clone>⟧.is_infallible p.license
@@ -136,6 +141,7 @@ impl Clone for PackageTemplate {
             edition: copying.of(&self.edition, None),
             exclude: copying.of(&self.exclude, None),
             homepage: copying.of(&self.homepage, None),
+            funding: copying.of(&self.funding, None),
             include: copying.of(&self.include, None),
             keywords: copying.of(&self.keywords, None),
             license: copying.of(&self.license, None),
@@ -163,6 +169,7 @@ impl Default for PackageTemplate {
             edition: None,
             exclude: None,
             homepage: None,
+            funding: None,
             include: None,
             keywords: None,
             license: None,
@@ -190,6 +197,7 @@ fn read_table(alloc: Global, table: Table) -> Result<PackageTemplate, Error>
     reading.take_optional(&mut rest, "edition", &mut whole.edition);
     reading.take_optional(&mut rest, "exclude", &mut whole.exclude);
     reading.take_optional(&mut rest, "homepage", &mut whole.homepage);
+    reading.take_optional(&mut rest, "funding", &mut whole.funding);
     reading.take_optional(&mut rest, "include", &mut whole.include);
     reading.take_optional(&mut rest, "keywords", &mut whole.keywords);
     reading.take_optional(&mut rest, "license", &mut whole.license);
@@ -236,6 +244,9 @@ pub struct NewFields {
 
     /// In place of the address of the project's page.
     pub homepage: Option<String>,
+
+    /// In place of the address of the page where the package may be funded.
+    pub funding: Option<String>,
 
     /// In place of the address of the documentation.
     pub documentation: Option<String>,
@@ -287,6 +298,7 @@ fn fields_from<M>(
         authors: filling.optional(&package.authors, &template.authors),
         description: filling.if_there(&package.description, &template.description),
         homepage: filling.if_there(&package.homepage, &template.homepage),
+        funding: filling.if_there(&package.funding, &template.funding),
         documentation: filling.if_there(&package.documentation, &template.documentation),
         readme: filling.file(&package.readme, base, &template.readme),
         keywords: filling.optional(&package.keywords, &template.keywords),
@@ -334,6 +346,7 @@ pub fn install<M: Drop>(package: &mut Package<M>, new: NewFields)
     put(&mut package.authors, new.authors);
     put_if_there(&mut package.description, new.description);
     put_if_there(&mut package.homepage, new.homepage);
+    put_if_there(&mut package.funding, new.funding);
     put_if_there(&mut package.documentation, new.documentation);
     put(&mut package.readme, new.readme);
     put(&mut package.keywords, new.keywords);
@@ -382,6 +395,7 @@ fn any_stays<M>(package: &Package<M>, new: &NewFields) -> bool
         || stays_there(&package.description, &new.description)
         || stays_there(&package.documentation, &new.documentation)
         || stays_there(&package.homepage, &new.homepage)
+        || stays_there(&package.funding, &new.funding)
         || stays_there(&package.license, &new.license)
         || stays_there(&package.license_file, &new.license_file)
         || stays_there(&package.repository, &new.repository)
@@ -398,7 +412,7 @@ pub fn any_field_inherited<M>(package: &Package<M>) -> bool
 }
 
 /// The keys that a package may leave to its workspace, each with whether it does.
-pub type LeavableRows = [(&'static str, bool); 16];
+pub type LeavableRows = [(&'static str, bool); 17];
 
 /// The keys that a package may leave to its workspace, each with whether it does.
 pub fn leavable_rows<M>(package: &Package<M>) -> LeavableRows
@@ -417,6 +431,7 @@ pub fn leavable_rows<M>(package: &Package<M>) -> LeavableRows
         ("description", stays_there(&package.description, &None)),
         ("documentation", stays_there(&package.documentation, &None)),
         ("homepage", stays_there(&package.homepage, &None)),
+        ("funding", stays_there(&package.funding, &None)),
         ("license", stays_there(&package.license, &None)),
         ("license-file", stays_there(&package.license_file, &None)),
         ("repository", stays_there(&package.repository, &None)),

@@ -29,6 +29,7 @@ package_rows metadata p =
     ∷ optional_row (codes "links") text_way p.links
     ∷ optional_row (codes "description") (inheritable_way text_way) p.description
     ∷ optional_row (codes "homepage") (inheritable_way text_way) p.homepage
+    ∷ optional_row (codes "funding") (inheritable_way text_way) p.funding
     ∷ optional_row (codes "documentation") (inheritable_way text_way) p.documentation
     ∷ given_row (codes "readme") (inheritable_way file_way) p.readme
     ∷ given_row (codes "keywords") (inheritable_way texts_way) p.keywords
@@ -88,6 +89,7 @@ template_rows t =
     ∷ optional_row (codes "edition") edition_way t.edition
     ∷ optional_row (codes "exclude") texts_way t.exclude
     ∷ optional_row (codes "homepage") text_way t.homepage
+    ∷ optional_row (codes "funding") text_way t.funding
     ∷ optional_row (codes "include") texts_way t.include
     ∷ optional_row (codes "keywords") texts_way t.keywords
     ∷ optional_row (codes "license") text_way t.license

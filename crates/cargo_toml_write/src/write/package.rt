@@ -59,6 +59,7 @@ impl<Metadata: FromValue + ToValue> ToValue for Package<Metadata> {
         writing.optional("links", &self.links);
         writing.optional("description", &self.description);
         writing.optional("homepage", &self.homepage);
+        writing.optional("funding", &self.funding);
         writing.optional("documentation", &self.documentation);
         writing.given("readme", &self.readme);
         writing.given("keywords", &self.keywords);
@@ -110,6 +111,7 @@ impl ToValue for PackageTemplate {
         writing.optional("edition", &self.edition);
         writing.optional("exclude", &self.exclude);
         writing.optional("homepage", &self.homepage);
+        writing.optional("funding", &self.funding);
         writing.optional("include", &self.include);
         writing.optional("keywords", &self.keywords);
         writing.optional("license", &self.license);

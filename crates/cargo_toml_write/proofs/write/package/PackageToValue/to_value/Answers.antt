@@ -10,11 +10,11 @@ returns g c =
     let written = ends (package_rows way) held c.finish.result c.new-writing.ensures.no_fault c.new-writing.ensures.no_key c.finish.ensures
     (c.required.ensures then c.required-2.ensures then c.required-3.ensures then c.optional.ensures then
     c.optional-2.ensures then c.optional-3.ensures then c.given.ensures then c.optional-4.ensures then
-    c.optional-5.ensures then c.optional-6.ensures then c.optional-7.ensures then c.given-2.ensures then
+    c.optional-5.ensures then c.optional-6.ensures then c.optional-7.ensures then c.optional-8.ensures then c.given-2.ensures then
     c.given-3.ensures then c.given-4.ensures then c.given-5.ensures then c.given-6.ensures then
-    c.optional-8.ensures then c.optional-9.ensures then c.optional-10.ensures then c.optional-11.ensures then
-    c.optional-12.ensures then c.flag.ensures then c.flag-2.ensures then c.flag-3.ensures then c.flag-4.ensures then c.flag-5.ensures then
-    c.given-7.ensures then c.optional-13.ensures then c.optional-14.ensures then done) in
+    c.optional-9.ensures then c.optional-10.ensures then c.optional-11.ensures then c.optional-12.ensures then
+    c.optional-13.ensures then c.flag.ensures then c.flag-2.ensures then c.flag-3.ensures then c.flag-4.ensures then c.flag-5.ensures then
+    c.given-7.ensures then c.optional-14.ensures then c.optional-15.ensures then done) in
     record {
       written = written;
       read_again = λ version metadata.

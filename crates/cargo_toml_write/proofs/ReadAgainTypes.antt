@@ -193,14 +193,14 @@ inherited_again = again (table_again inherited_rows inherited_of (λ i. refl) (�
 strict_members : (i : InheritedMeaning) (ms : Members) → AreWritten (inherited_rows i) no_members ms → i.workspace ≡ true → strict_of ms ≡ Some i
 strict_members i ms h1 h2 = grind (arith, nil, read_back, texts_again, truth_again, whole)
 
--- a detail
-detail_members : (d : DetailMeaning) (ms : Members) → IfSome d.version CanBeRead → Some (record d { inherited = false }) ≡ Some d → AllHeld (known_rows d) ms → others_read detail_keys (λ x. Some x) ms ≡ Some d.unstable → detail_of_table ms ≡ Some d
-detail_members d ms version last held others = search (read_back, texts_again, text_again, requirement_again, nil, step {B = DetailMeaning} (others_read detail_keys (λ x. Some x) ms)) depth 50 fits 4000
+-- a detail: there may be as many keys as the pattern has names, since `search` reads variables, and fewer fields of pairs
+detail_members : (d : DetailMeaning) (ms : Members) → IfSome d.version CanBeRead → Some (record d { inherited = false }) ≡ Some d → FirstHeld 20 (known_rows d) ms → others_read detail_keys (λ x. Some x) ms ≡ Some d.unstable → detail_of_table ms ≡ Some d
+detail_members d ms version last (r1, (r2, (r3, (r4, (r5, (r6, (r7, (r8, (r9, (r10, (r11, (r12, (r13, (r14, (r15, (r16, (r17, (r18, (r19, (r20, end)))))))))))))))))))) others = search (read_back, texts_again, text_again, requirement_again, nil, step {B = DetailMeaning} (others_read detail_keys (λ x. Some x) ms)) depth 50 fits 4000
 
 detail_table : (d : DetailMeaning) (old ms : Members) → DetailAgain d → IsMap free_way d.unstable old → AreWritten (known_rows d) old ms → detail_of_table ms ≡ Some d
 detail_table d old ms law map written =
     let read = collected free_way (λ x. Some x) detail_keys d.unstable (known_rows d) old ms free_again law.apart map refl refl written in
-    detail_members d ms law.version (ap (λ (b : Bool). Some (record d { inherited = b })) (sym law.not_inherited)) read.0 read.1
+    detail_members d ms law.version (ap (λ (b : Bool). Some (record d { inherited = b })) (sym law.not_inherited)) (first_held 20 (known_rows d) ms read.0) read.1
 
 pub detail_again : AgainAs detail_way detail_reads DetailAgain (λ (x : DetailMeaning). x)
 detail_again = record { each = λ x law d (old, ms, is, map, written). ap detail_reads is ∙ detail_table x old ms law map written }
@@ -436,7 +436,7 @@ metadata_step : {X W M N : Type 0} (way : Way W) (held : X → W) (meaning : X �
 metadata_step way held meaning reads x o f r here again rest = step (optional_of reads o) f (option_map meaning x) r (metadata_read way held meaning reads x o again here.is) rest
 
 module _ {X W M : Type 0} (way : Way W) (held : X → W) (meaning : X → M) (reads : Data → Option M) (p : Package X) where
-  -- there may be as many keys as the pattern has names: `search` reads variables, and fewer fields of pairs
+  -- as many keys at most as the pattern has names
   members_again : (ms : Members) → VersionAgain (inheritable_map parts_of p.version) → MetadataAgain way held meaning reads p.metadata
       → FirstHeld 40 (package_rows way (package_meaning held p)) ms → package_of_table reads ms ≡ Some (package_meaning meaning p)
   members_again ms version metadata (r1, (r2, (r3, (r4, (r5, (r6, (r7, (r8, (r9, (r10, (r11, (r12, (r13, (r14, (r15, (r16, (r17, (r18, (r19, (r20, (r21, (r22, (r23, (r24, (r25, (r26, (r27, (r28, (r29, (r30, (r31, (r32, (r33, (r34, (r35, (r36, (r37, (r38, (r39, (r40, end)))))))))))))))))))))))))))))))))))))))) =

@@ -475,7 +475,7 @@ module _ {M : Type 0} (metadata_of : Data → Option M) where
       let version : Gives VersionAgain (inherited_at "version" zero version_of ms)
       = given_reads {P = VersionAgain} "version" (Set zero) (inheritable_of version_of) (version_parts-complete zero (lit< tt, lit< tt, lit< tt, refl, refl))
       (inheritable_reads {P = IsVersionAgain} version_of (λ d free. version_told d)) ms h in
-      search (bind, skip, package_last) depth 80 fits 4000
+      skip _ _ (λ name. bind _ _ version (λ v told. search (skip, package_last) depth 80 fits 4000))
 
   package_told : Reads IsVersioned (package_reads metadata_of)
   unfolding package_reads

@@ -82,17 +82,11 @@ among_range [] c x z range first last out = absurd (false≢true range)
 among_range (a ∷ []) c x z range first last out = absurd (false≢true range)
 among_range (a ∷ b ∷ []) c x z range first last out = absurd (false≢true range)
 among_range (a ∷ b ∷ e ∷ rest) c x z range first last out =
-    ap (λ t. is_among t c) (take_rest (a ∷ b ∷ e ∷ rest) 3)
-    ∙ sym (ap (λ t. if t then (nat_le a c && nat_le c e) || is_among rest c else nat_eq a c || is_among (b ∷ e ∷ rest) c) range
-    ∙ ap (λ t. t || is_among rest c) (ap₂ (λ p q. nat_le p c && nat_le c q) (sym first) (sym last) ∙ out))
+    let rest = take_rest (a ∷ b ∷ e ∷ rest) 3 in grind (arith, rest)
 
 pub among_one : (xs : List ℕ) (c x : ℕ) → is_range xs ≡ false → (length xs == 0) ≡ false → x ≡ get_or xs 0 x → x ≢ c
     → is_among (take (length xs - 1) (drop 1 xs)) c ≡ is_among xs c
 among_one [] c x single some first other = absurd (false≢true (sym some))
-among_one (a ∷ []) c x single some first other = sym (ap (λ t. nat_eq t c || false) (sym first) ∙ ap (λ t. t || false) (ne_eqb x c other))
-among_one (a ∷ b ∷ []) c x single some first other =
-    sym (ap (λ t. nat_eq t c || (nat_eq b c || false)) (sym first) ∙ ap (λ t. t || (nat_eq b c || false)) (ne_eqb x c other))
-among_one (a ∷ b ∷ e ∷ rest) c x single some first other =
-    ap (λ t. is_among t c) (take_rest (a ∷ b ∷ e ∷ rest) 1)
-    ∙ sym (ap (λ t. if t then (nat_le a c && nat_le c e) || is_among rest c else nat_eq a c || is_among (b ∷ e ∷ rest) c) single
-    ∙ ap (λ t. nat_eq t c || is_among (b ∷ e ∷ rest) c) (sym first) ∙ ap (λ t. t || is_among (b ∷ e ∷ rest) c) (ne_eqb x c other))
+among_one (a ∷ []) c x single some first other = let no = ne_eqb x c other in grind arith
+among_one (a ∷ b ∷ []) c x single some first other = let no = ne_eqb x c other in grind arith
+among_one (a ∷ b ∷ e ∷ rest) c x single some first other = let no = ne_eqb x c other in let rest = take_rest (a ∷ b ∷ e ∷ rest) 1 in grind arith

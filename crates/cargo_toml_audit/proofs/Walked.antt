@@ -8,11 +8,7 @@ module _ {X : Type 0} (bs path : Text) (m n : BTreeMap (String Global) X) (w : X
   now_at = btree_map_updates_text bs m n (Some w) updates path ∙ ap (λ b. cond b (Some w) (get_by_text m path)) ((bytes_eq-Decides bs path).1 same)
 
   still_at : (p : Text) (x : X) → get_by_text m p ≡ Some x → get_by_text n p ≡ Some x
-  still_at p x at = go (bytes_eq bs p) refl
-    where
-      go : (b : Bool) → bytes_eq bs p ≡ b → get_by_text n p ≡ Some x
-      go true is = absurd (none-some x (sym none ∙ ap (get_by_text m) (sym same ∙ (bytes_eq-Decides bs p).0 is) ∙ at))
-      go false other = btree_map_updates_text bs m n (Some w) updates p ∙ ap (λ b. cond b (Some w) (get_by_text m p)) other ∙ at
+  still_at p x at = grind (arith, btree_map_updates_text bs m n (Some w) updates p, bytes_eq-Decides bs p)
 
 pub told_there : (old : Looks) (n : BTreeMap (String Global) There) (bs path : Text) (t : There) → get_by_text old.there path ≡ None → bs ≡ path
     → UpdatesBy string_cmp (λ k. slice_cmp nat_cmp bs (string_bytes k)) old.there n (Some t) → Tells (λ d. d.there path) old (record old { there = n }) t

@@ -137,10 +137,7 @@ fn edition_text(alloc: Global, edition: Option<Edition>) -> AllocResult<Option<S
 fn has_given(own: Option<&str>, given: &str) -> bool
     ensures { result ≡ has_given (option_copied own.entry) given.now }
 {
-    match own {
-        Some(own) => given == own,
-        None => false,
-    }
+    own.is_some_and(|own| given == own)
 }
 
 /// Adds the dependencies of the workspace that no member inherits, and those that are optional.

@@ -95,8 +95,5 @@ pub fn is_of<R: Files + AllocGlobal>(rt: &R, place: &str, root: &str) -> Result<
     if lies_in(rt.alloc(), place, root)? {
         return Ok(true);
     }
-    match workspace_of(rt, place)? {
-        Some(found) => Ok(found.root.as_str() == root),
-        None => Ok(false),
-    }
+    Ok(workspace_of(rt, place)?.is_some_and(|found| found.root.as_str() == root))
 }

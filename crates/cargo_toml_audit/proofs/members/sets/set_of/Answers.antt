@@ -1,8 +1,6 @@
-use Rattle.cargo_toml_audit.proofs.Paths.{◌||◌, ◌∙◌, ap₂, bytes_eq, string_bytes, sym}
+use Rattle.cargo_toml_audit.proofs.Paths.{arith, string_bytes}
 use Rattle.cargo_toml_audit.proofs.Sets.{in_next}
 use Rattle.cargo_toml_audit.proofs.members.sets.set_of.Goals as goal
 
 pub loop-text-preserved : goal.loop-text-preserved
-loop-text-preserved c = λ t.
-    c.in_ok-note.ensures t ∙ ap₂ (λ b k. b || bytes_eq k t) (c.loop-text.invariant t) c.as_str.ensures.value
-    ∙ sym (in_next string_bytes c.args.texts.now c.loop-text.text-index c.text-item.result c.loop-text-test.true c.text-item.is t)
+loop-text-preserved c = λ t. grind (arith, c.in_ok-note.ensures t, c.loop-text.invariant t, in_next string_bytes c.args.texts.now c.loop-text.text-index c.text-item.result c.loop-text-test.true c.text-item.is t)

@@ -1,19 +1,13 @@
-use Rattle.cargo_toml_audit.proofs.Reports.{[], ◌||◌, ◌∙◌, ◌≡◌, Bool, IsManifestIn, IsTrue, Manifest, Value, ap, base_of, belongs, entries_of, false, flat_map, foreign, held, is_rootless, lies_in, map, need_by, option_map_or, refl, refusal, rootless, string_bytes, subst, sym, true}
+use Rattle.cargo_toml_audit.proofs.Reports.{[], ◌∙◌, ◌≡◌, IsManifestIn, Manifest, Value, ap, arith, base_of, belongs, entries_of, false, flat_map, foreign, held, is_rootless, map, need_by, option_map_or, refl, refusal, rootless, string_bytes, subst, sym}
 use Rattle.cargo_toml_audit.proofs.Taking.{takes_found, takes_nothing}
 use Rattle.cargo_toml_audit.proofs.auditing.place.At.add_found.Goals as goal
-
--- it isn't listed, and doesn't count as the workspace's own, so it doesn't lie there
-neither : (a b l : Bool) → (a || b) ≡ false → (IsTrue l → IsTrue b) → (a || l) ≡ false
-neither true b l e h = e
-neither false b true e h = sym (h refl) ∙ e
-neither false b false e h = refl
 
 pub returns-then-not-counts-clause-added : goal.returns-then-not-counts-clause-added
 returns-then-not-counts-clause-added g c =
     let found = c.in_ok-add_foreign.ensures.found in
     record {
       content = foreign found.0;
-      is = neither c.args.self.now.is_listed c.args.is_own (lies_in c.args.self.now.place.now c.args.self.now.root.place.now) c.if-not-counts.true c.requires.within;
+      is = grind (arith, c.if-not-counts.true, c.requires.within);
       takes = takes_found (option_map_or (refusal c.args.self.now.place.now) found.0 []) c.args.audit.now c.add_foreign.new.findings found.1;
       member = refl;
       needs = ap (map string_bytes) c.new.ensures.items;

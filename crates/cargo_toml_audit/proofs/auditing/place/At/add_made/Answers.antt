@@ -1,21 +1,13 @@
-use Rattle.cargo_toml_audit.proofs.Reports.{◌∙◌, IsCompletedThere, IsCompletionFault, Manifest, Some, Text, Value, any_root, base_of, completed_handed, held, incomplete, none_found, real_folders, real_roots, shared_of, subst, sym}
+use Rattle.cargo_toml_audit.proofs.Reports.{◌∙◌, IsCompletedThere, Manifest, Value, any_root, base_of, completed_handed, incomplete, none_found, real_folders, real_roots, shared_of, subst, sym}
 use Rattle.cargo_toml_audit.proofs.Taking.{takes_found}
 use Rattle.cargo_toml_audit.proofs.auditing.place.At.add_made.Goals as goal
 
 pub returns-in-Err-clause-added : goal.returns-in-Err-clause-added
-returns-in-Err-clause-added g c =
-    let handed = Some (shared_of c.args.self.now.root.manifest.now.workspace, c.args.self.now.root.path.now) in
-    let e = c.in-Err.fault in
-    let at : IsCompletionFault c.as_str.result.now (held c.args.held.manifest.value) handed e =
-    subst (λ (x : Manifest Value). IsCompletionFault c.as_str.result.now (held x) handed e) c.deref_mut.ensures.value c.in-Err.ensures.refused in
-    record {
-      made = incomplete e;
-      is_made = λ _. (
-        c.in_ok-refuse.ensures.memory,
-        subst (λ (p : Text). IsCompletionFault p (held c.args.held.manifest.value) handed e) (c.as_str.ensures.value ∙ c.in_ok-path.ensures) at,
-      );
-      takes = takes_found _ c.args.audit.now c.refuse.new.findings c.in_ok-refuse.ensures.found;
-    }
+returns-in-Err-clause-added g c = record {
+  made = incomplete c.in-Err.fault;
+  is_made = λ _. (c.in_ok-refuse.ensures.memory, rw (c.deref_mut.ensures.value, c.as_str.ensures.value ∙ c.in_ok-path.ensures) at c.in-Err.ensures.refused);
+  takes = takes_found _ c.args.audit.now c.refuse.new.findings c.in_ok-refuse.ensures.found;
+}
 
 pub returns-clause-added : goal.returns-clause-added
 returns-clause-added g c =

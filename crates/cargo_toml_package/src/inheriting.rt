@@ -397,7 +397,7 @@ pub fn any_field_inherited<M>(package: &Package<M>) -> bool
     any_stays(package, &NewFields::default())
 }
 
-/// The keys that a package may leave to its workspace, each with whether it does.
+/// A row for each key that a package may leave to its workspace: the key, and whether it is left.
 pub type LeavableRows = [(&'static str, bool); 16];
 
 /// The keys that a package may leave to its workspace, each with whether it does.

@@ -1,5 +1,5 @@
 -- One more entry of those that count.
-use Rattle.std.proofs.Common.{◌≡◌, ◌&&◌, ◌||◌, Bool, false, cond, List, [], ◌∷◌, ◌++◌, filter, find, Option, Some, is_some, bytes_eq, refl, sym, ap, arith, rules, ◌<◌, ℕ, Bor, IsTrue, get_or, length, take, take_all, map, subst, ◌∙◌, not, option_map}
+use Rattle.std.proofs.Common.{◌≡◌, ◌&&◌, ◌||◌, Bool, false, cond, List, [], ◌∷◌, ◌++◌, filter, find, Option, Some, is_some, bytes_eq, refl, sym, ap, arith, rules, ◌<◌, ℕ, Bor, IsTrue, get_or, length, take, take_all, map, subst, ◌∙◌, option_map}
 use Rattle.std.{proofs.lemmas.Result.IfOk-weaker, proofs.Math.Bool.or-false, proofs.Math.Bool.or-true, specs.List.list_any}
 use Rattle.std.proofs.lemmas.{List.append-nil, List.get_or-map, List.length-map, List.Elements.filter-append, List.Folds.find-append, List.Folds.list_any_at, Slice.Eq.bytes_eq-Decides, Grind.common_steps, Bool.and_from}
 use Rattle.cargo_toml_package.specs.Dependencies.{is_optional, dependency_meaning}

@@ -1,8 +1,5 @@
 -- What a resolver answers, by its filter and at its limit.
-use Rattle.std.proofs.Common.{◌≡◌, Bool, Bor, None, Option, arith, false, is_some, subst, ℕ}
-use Rattle.cargo_toml.specs.Parsed.{AreBinsComplete, IsParsed, parsed_table}
-use Rattle.{cargo_toml.specs.Action.Text, cargo_toml.specs.Filter.Asked, cargo_toml.specs.Filter.FilterTells, cargo_toml.specs.Manifests.ManifestMeaning}
-use Rattle.{cargo_toml.specs.Removal.is_removed, cargo_toml.specs.Resolved.Answer, cargo_toml_graph.proofs.Texts.by_true}
+use Rattle.cargo_toml_bench.proofs.Cited.{Answer, AreBinsComplete, Asked, Bool, Bor, FilterTells, IsParsed, ManifestMeaning, None, Option, Text, arith, by_true, false, is_removed, is_some, parsed_table, subst, ℕ, ◌≡◌}
 
 -- without a filter no hidden name is kept
 pub tells_none : {F : Type 0} (g : Asked F) (filter : Option (Bor F)) (keep : Text → Bool) → filter ≡ None → ((n : Text) → keep n ≡ false) → FilterTells g filter keep

@@ -2,3 +2,4 @@ mod Asked
 mod Unreferenced
 mod Taken
 mod Resolving
+mod Cited

@@ -1,19 +1,15 @@
 -- From an answer with nothing removed, and what taking hidden features out leaves of it, to the answer without them.
-use Rattle.std.proofs.Common.{arith, ◌≡◌, ◌↔◌, ◌&&◌, ◌++◌, ◌==◌, length, not, Bool, true, List, [], ◌∷◌, append-nil, Bor, codes, nat_eq, Option, Some, None, IsTrue, IsSome, IfSome, is_some, option_map, refl, sym, ap, subst, inl, inr, ◌∙◌}
-use Rattle.std.proofs.Math.Bool.{and_assoc}
-use Rattle.std.proofs.lemmas.Bool.{and_parts, cases_Bool, eqb-true, false≢true, false_from_ne_true, not_from_false}
-use Rattle.std.specs.{BTreeSet.BTreeSet, HashMap.HashMap, List.starts_with, Option.IsSomeAnd, Prelude.filter}
-use Rattle.cargo_toml_features.specs.declared.features.{Feature.Feature, Features.Features}
-use Rattle.cargo_toml_graph.specs.{Ascending.Ascend, Action.Text, Admitted.Listed, Admitted.is_below, Bins.ArePassedOn, Bins.IsPassed, Graph.IsResolved, Graph.Resolution, Graph.Table, Reach.Among, Reach.IsOnce, Redirects.RedirectsTo}
-use Rattle.cargo_toml_graph.specs.Removal.{SameKept, lists_text, is_removed, unremoved, without_all, without_one}
-use Rattle.cargo_toml_graph.proofs.{BinLists.among-true, BinLists.is_among-true, Edges.unremoved_is, Elimination.all_taken_out, InByteOrder.ascending_once, InByteOrder.passed_has, InByteOrder.removed_there, RedirectsInOrder.redirect_by_bytes}
-use Rattle.cargo_toml_graph.proofs.{Settled.resolution_settled, Unremoved.resolved_unremoved}
-use Rattle.cargo_toml_features.specs.{Marks.NamedDetails, Recorded.Entry, Resolved.IsAnswer, Resolved.table_of, Views.answer_of, Views.set_has, Views.resolution_of, Views.value_at}
-use Rattle.cargo_toml_resolve.specs.Texts.{texts_now}
-use Rattle.cargo_toml_resolve.proofs.{AgainstAll.resolved_same, ByFilter.answer_alike}
-use Rattle.cargo_toml_bench.specs.Removing.{AreNames, AreTakenOut, HasNames, HaveRedirects, Redirected, bins_at, is_hidden, key_at}
-use Rattle.cargo_toml_graph.proofs.Filtered.{those_among, those_ascend}
+use Rattle.cargo_toml_bench.proofs.Cited.{Among, AreNames, ArePassedOn, AreTakenOut, Ascend, BTreeSet, Bool, Bor, Entry, Features, HasNames, HashMap, HaveRedirects, IfSome, IsAnswer, IsOnce, IsPassed, IsSome, IsSomeAnd, IsTrue, List, Listed, NamedDetails, None, Option, Redirected, RedirectsTo, Resolution, SameKept, Some, [], all_taken_out, among-true, and_assoc, and_parts, answer_alike, ap, append-nil, arith, ascending_once, bins_at, cases_Bool, codes, eqb-true, false_from_ne_true, false≢true, filter, inl, inr}
+use Rattle.cargo_toml_bench.proofs.Cited.{is_among-true, is_below, is_hidden, is_some, key_at, length, lists_text, nat_eq, not, not_from_false, option_map, passed_has, redirect_by_bytes, refl, removed_there, resolution_settled, resolved_same, resolved_unremoved, set_has, starts_with, subst, sym, table_of, texts_now, those_among, those_ascend, true, unremoved, unremoved_is, without_all, without_one, ◌&&◌, ◌++◌, ◌==◌, ◌↔◌, ◌∙◌, ◌∷◌, ◌≡◌}
 use Rattle.cargo_toml_bench.proofs.Unreferenced.{nothing_removed}
+use Rattle.cargo_toml_features.specs.declared.features.Feature.{Feature}
+use Rattle.cargo_toml_graph.specs.Action.{Text}
+use Rattle.cargo_toml_graph.specs.Graph.{IsResolved}
+use Rattle.cargo_toml_graph.specs.Graph.{Table}
+use Rattle.cargo_toml_graph.specs.Removal.{is_removed}
+use Rattle.cargo_toml_features.specs.Views.{answer_of}
+use Rattle.cargo_toml_features.specs.Views.{resolution_of}
+use Rattle.cargo_toml_features.specs.Views.{value_at}
 
 abbrev Below : Text → Text → Type 0
 Below a b = IsTrue (is_below a b)

@@ -1,12 +1,10 @@
 -- One feature is taken out of a map.
-use Rattle.std.proofs.Common.{arith, ◌≡◌, false, not, ◌&&◌, IsTrue, Option, Some, None, IsSome, is_some, Bor, bytes_eq, refl, sym, ap, subst, ◌∙◌, List, [], ◌∷◌}
-use Rattle.std.proofs.Math.Bool.{and-true, and-false}
-use Rattle.std.proofs.lemmas.{Bool.and_parts, Bool.not-true, Bool.cases_Bool, Bool.false≢true, Bool.false_from_ne_true, Slice.Eq.bytes_eq-Decides}
-use Rattle.std.specs.{BTreeSet.BTreeSet, HashMap.HashMap}
-use Rattle.cargo_toml_graph.specs.{Action.Text, Removal.SameKept, Removal.without_one, Removal.lists_text, Removal.pass_bins, Reach.Among, Graph.Resolution}
-use Rattle.cargo_toml_graph.proofs.{Texts.bytes_eq_sym, BinLists.among-true, BinLists.is_among-true}
-use Rattle.cargo_toml_features.{proofs.Pending.at_key, proofs.Pending.elsewhere, specs.declared.features.Feature.Feature, specs.Slots.Relates, specs.Views.resolution_of, specs.Views.value_at}
-use Rattle.cargo_toml_bench.specs.Removing.{bins_at, HasNames, Loses, TakesOut, Redirects, ChangesAll, ChangesAt, AreTakenOut, Redirected}
+use Rattle.cargo_toml_bench.proofs.Cited.{Among, AreTakenOut, BTreeSet, Bor, ChangesAll, ChangesAt, HasNames, HashMap, IsSome, IsTrue, List, Loses, None, Option, Redirected, Redirects, Relates, Resolution, SameKept, Some, TakesOut, [], among-true, and-false, and-true, and_parts, ap, arith, at_key, bins_at, bytes_eq}
+use Rattle.cargo_toml_bench.proofs.Cited.{bytes_eq-Decides, bytes_eq_sym, cases_Bool, elsewhere, false, false_from_ne_true, false≢true, is_among-true, is_some, lists_text, not, not-true, pass_bins, refl, subst, sym, without_one, ◌&&◌, ◌∙◌, ◌∷◌, ◌≡◌}
+use Rattle.cargo_toml_graph.specs.Action.{Text}
+use Rattle.cargo_toml_features.specs.declared.features.Feature.{Feature}
+use Rattle.cargo_toml_features.specs.Views.{resolution_of}
+use Rattle.cargo_toml_features.specs.Views.{value_at}
 use Rattle.std.specs.HashMap as hash
 
 pub changed_at : {S : Type 0} (Changes : Feature → Feature → Type 0) (k : Text) (m n : HashMap (Bor Text) Feature S) (old w : Feature)

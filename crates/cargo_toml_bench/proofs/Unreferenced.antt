@@ -1,14 +1,7 @@
 -- The features that no feature enables, from what a resolution with nothing removed tells.
-use Rattle.std.proofs.Common.{arith, ◌≡◌, ◌↔◌, ◌==◌, true, false, List, [], ◌∷◌, length, Option, Some, None, IsTrue, is_some, Bor, codes, refl, sym, ap, ◌∙◌}
-use Rattle.std.proofs.lemmas.Bool.{false≢true, eqb-true, not-true, not_from_false, false_from_ne_true, and_parts, and_from, or_left}
-use Rattle.std.proofs.lemmas.{Map.Text.is_eq-slice_cmp, Slice.Eq.bytes_eq-Decides}
-use Rattle.std.specs.{BTreeMap.is_at, BTreeSet.BTreeSet, BTreeSet.btree_set_len, Cmp.Lexicographic.slice_cmp, HashMap.HashMap, List.list_any, Option.option_map_or, Ordering.nat_cmp, Prelude.filter}
-use Rattle.cargo_toml_graph.specs.{Ascending.Ascend, Removal.lists_text}
-use Rattle.cargo_toml_graph.proofs.{BinLists.is_among-true, Texts.bytes_eq_refl}
-use Rattle.cargo_toml.specs.{Feature.Feature, Action.Text, Graph.Table, Graph.Edge, Graph.IsKept, Graph.IsResolved, Reach.Reaches, Reach.Reaches.edge, Removal.is_removed}
-use Rattle.cargo_toml.specs.Views.{resolution_of, set_has, value_at}
-use Rattle.cargo_toml_bench.specs.{Alone.is_alone, Alone.is_alone_at, Reports.AreUnreferenced, Reports.IsUnreferenced}
-use Rattle.cargo_toml_graph.proofs.Filtered.{those_among, those_ascend}
+use Rattle.cargo_toml_bench.proofs.Cited.{AreUnreferenced, Ascend, BTreeSet, Bor, Edge, Feature, HashMap, IsKept, IsResolved, IsTrue, IsUnreferenced, List, None, Option, Reaches, Some, Table, Text, [], and_from, and_parts, ap, arith, btree_set_len, bytes_eq-Decides, bytes_eq_refl, codes, edge, eqb-true, false, false_from_ne_true, false≢true, filter, is_alone, is_alone_at}
+use Rattle.cargo_toml_bench.proofs.Cited.{is_among-true, is_at, is_eq-slice_cmp, is_removed, is_some, length, list_any, lists_text, nat_cmp, not-true, not_from_false, option_map_or, or_left, refl, resolution_of, slice_cmp, sym, those_among, those_ascend, true, value_at, ◌==◌, ◌↔◌, ◌∙◌, ◌∷◌, ◌≡◌}
+use Rattle.cargo_toml.specs.Views.{set_has}
 
 -- a filter that keeps each feature removes none
 pub nothing_removed : (t : Table) (f : Text) → ¬ IsTrue (is_removed t (λ _. true) f)

@@ -1,15 +1,8 @@
 -- Discovery of what was discovered.
-use Rattle.std.proofs.Common.{◌≡◌, Bool, true, false, cond, ◌&&◌, ◌||◌, List, [], ◌∷◌, ◌++◌, map, filter, refl, ap, ◌∙◌, sym, Option, Some, None, codes, is_some, append-nil}
-use Rattle.std.proofs.{lemmas.List.Folds.list_any-append, lemmas.Bool.or_left, lemmas.Bool.or_right}
-use Rattle.std.specs.{List.list_any, List.cons_option, Str.bytes_eq}
-use Rattle.cargo_toml_parts.specs.Settings.{File, flag, path}
-use Rattle.cargo_toml_parts.specs.{declared.settings.Edition.Edition, Products.ProductMeaning}
+use Rattle.cargo_toml_discovery.proofs.Cited.{Around, Bool, Edition, File, List, Name, Named, None, Offered, Option, ProductMeaning, Some, StatedMeaning, [], all_found, ap, append-nil, at_library, build_in, bytes_eq, codes, cond, cons_option, discovered, false, filled_library, filter, first_in, flag, found, has_path, has_text, in_order, insert_by, is_path_of, is_some, is_text, last_product, late_taker, library}
+use Rattle.cargo_toml_discovery.proofs.Cited.{list_any, list_any-append, listed_products, main_of, main_offer, map, may_build, offer_of, offers, or_left, or_plain_library, or_right, path, product_among, product_for, product_lt, readme_in, readme_names, refl, restated, sorted_by, still_open, sym, taker, true, ◌&&◌, ◌++◌, ◌||◌, ◌∙◌, ◌∷◌, ◌≡◌}
 use Rattle.cargo_toml_discovery.proofs.Stable.{products_rank, one_sort, sorted-sorted_by, filter-sorted_by}
-use Rattle.cargo_toml_discovery.{proofs.Unique.own, proofs.Unique.or-swap, specs.Around.Around}
-use Rattle.cargo_toml_discovery.specs.Discovering.{library, or_plain_library, filled_library, at_library, build_in, may_build, readme_in, first_in, readme_names, listed_products, main_of, main_offer, StatedMeaning, discovered, restated}
-use Rattle.cargo_toml_discovery.specs.Found.{Named, Offered, offer_of, still_open, offers, is_text, is_path_of, has_path, product_for, product_among, taker, late_taker, last_product, all_found, found}
-use Rattle.cargo_toml_discovery.specs.Names.{Name, has_text}
-use Rattle.cargo_toml_discovery.specs.Sorting.{product_lt, insert_by, sorted_by, in_order}
+use Rattle.cargo_toml_discovery.proofs.{Unique.own, Unique.or-swap}
 
 -- the build script
 abbrev script : Option File

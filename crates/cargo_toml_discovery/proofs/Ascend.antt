@@ -1,17 +1,7 @@
 -- Offers stand in the order of their names, and the walk gives what each offer gives by itself.
-use Rattle.std.proofs.Common.{◌≡◌, Bool, true, false, cond, not, ◌&&◌, ◌||◌, List, [], ◌∷◌, ◌++◌, Option, Some, None, refl, ap, ◌∙◌, map, sym, append_assoc, append-nil, option_to_list, filter, subst}
-use Rattle.std.{proofs.Math.Bool.and-true, proofs.Math.Bool.and-false, specs.Str.bytes_eq}
-use Rattle.std.specs.List.{list_any, cons_option, Sorted.IsStrictlySortedBy}
-use Rattle.std.specs.{Ordering.nat_cmp, Ordering.is_lt, declared.cmp.Ordering.Ordering}
-use Rattle.std.specs.declared.cmp.Ordering.TheVariants.{Less, Equal, Greater}
-use Rattle.std.specs.Cmp.Lexicographic.{slice_cmp, nat_list_cmp_total}
-use Rattle.cargo_toml_parts.specs.{declared.settings.Edition.Edition, Products.ProductMeaning}
-use Rattle.cargo_toml_discovery.specs.Found.{Offered, product_for, product_among, last_waiting, last_product, has_offer, Named, offer_of, still_open, open_offer, offers, is_path_of, found, has_path}
-use Rattle.cargo_toml_discovery.specs.Names.{Name, is_source}
-use Rattle.cargo_toml_discovery.specs.Walk.{walk, with_extra, without, NamesAscend}
+use Rattle.cargo_toml_discovery.proofs.Cited.{Answers, Bool, Edition, Equal, Greater, IsStrictlySortedBy, Less, List, Name, Named, NamesAscend, None, Offered, Option, Ordering, ProductMeaning, Some, [], and-false, and-true, ap, append-nil, append_assoc, bytes_eq, cond, cons_option, false, filter, found, has_offer, has_path, is_lt, is_path_of, is_source, last_product, last_waiting}
+use Rattle.cargo_toml_discovery.proofs.Cited.{list_any, map, named_in, nat_cmp, nat_list_cmp_total, not, offer_of, offers, open_offer, option_to_list, product_among, product_for, product_lt, refl, slice_cmp, sorted_by, still_open, subst, sym, true, walk, with_extra, without, ◌&&◌, ◌++◌, ◌||◌, ◌∙◌, ◌∷◌, ◌≡◌}
 use Rattle.cargo_toml_discovery.proofs.Unique.{AllAbove, Sorted}
-use Rattle.cargo_toml_discovery.specs.Answers.{Answers, named_in}
-use Rattle.cargo_toml_discovery.specs.Sorting.{sorted_by, product_lt}
 
 abbrev less : Name → Name → Bool
 less a b = is_lt (slice_cmp nat_cmp a b)

@@ -1,16 +1,6 @@
 -- What an error is by its fault.
-use Rattle.std.proofs.Common.{◌≡◌, ◌⊎◌, inl, inr, sym, ap, ◌∙◌, refl, Bool, true, false}
-use denote.Enum.Bare.{sameb}
-use Rattle.std.specs.{IoError.error_kind, contracts.io.ErrorKind.the_type}
+use Rattle.cargo_toml_discovery.proofs.Cited.{Bool, Error, Error-F, ErrorKind, Fault, Io, IsEntryFault, IsFromIo, IsInput, IsListingFault, IsListingInput, Memory, NotADirectory, NotFound, OutOfMemory, SaysAbsent, Shape, Toml, ap, error_kind, false, fault_of, fault_step, fold-roll-Error, fold_out-Error, inl, inr, io, map-Error, memory, out-Error, refl, roll-Error, roll-out-Error, rolls-Io, rolls-Memory, sameb, sym, the_type, true, ◌∙◌, ◌≡◌, ◌⊎◌}
 use Rattle.std.specs.declared.io.Error.{Error as IoError}
-use Rattle.std.specs.declared.io.ErrorKind.{ErrorKind}
-use Rattle.std.specs.declared.io.ErrorKind.TheVariants.{NotADirectory, NotFound, OutOfMemory}
-use Rattle.cargo_toml_parts.specs.declared.error.Error.{Error, Io, Memory, out-Error, roll-Error, roll-out-Error, fold_out-Error, fold-roll-Error, map-Error}
-use Rattle.cargo_toml_parts.specs.{declared.error.Error.TheOpen.Error-F, Faults.IsFromIo}
-use Rattle.cargo_toml_parts.specs.declared.error.Error.TheVariants.{rolls-Io, rolls-Memory}
-use Rattle.cargo_toml_parts.specs.declared.error.ParseFault.TheVariants.{Toml, Shape}
-use Rattle.cargo_toml_parts.specs.FaultValues.{Fault, fault_of, fault_step, io, memory}
-use Rattle.cargo_toml_discovery.specs.Disk.{IsEntryFault, IsInput, IsListingFault, IsListingInput, SaysAbsent}
 
 -- `Memory` is one error alone
 layer_alone : (l : Error-F Error) → fault_step (map-Error _ _ fault_of l) ≡ memory → l ≡ Error-F.Memory

@@ -6,3 +6,4 @@ pub mod Placed
 pub mod Stable
 pub mod Stems
 pub mod Unique
+mod Cited

@@ -1,12 +1,5 @@
-use Rattle.std.proofs.Common.{◌≡◌, Bool, true, false, cond, List, [], ◌∷◌, map, refl, ap, ◌∙◌, sym, string_bytes, String, Some, None, Option, is_some}
-use Rattle.std.specs.{Option.option_map, Option.option_copied, Str.bytes_eq, Map.lookup}
-use denote.Ref.{Bor}
-use Rattle.std.specs.{Ordering.nat_cmp, BTreeMap.is_at, BTreeMap.get_by, BTreeSet.BTreeSet}
-use Rattle.std.specs.{Cmp.Lexicographic.slice_cmp, declared.alloc.Global.Global}
-use Rattle.std.proofs.lemmas.Map.Text.{is_eq-slice_cmp}
+use Rattle.cargo_toml_discovery.proofs.Cited.{BTreeSet, Bool, Bor, Global, List, Name, None, Option, Some, String, [], answer_at, answers_of, ap, bytes_eq, cond, false, get_by, is_at, is_eq-slice_cmp, is_some, lookup, map, nat_cmp, option_copied, option_map, refl, slice_cmp, string_bytes, sym, texts_in, true, ◌∙◌, ◌∷◌, ◌≡◌}
 use Rattle.cargo_toml_discovery.specs.declared.listings.Listings as code
-use Rattle.cargo_toml_discovery.specs.Answers.{texts_in, answer_at, answers_of}
-use Rattle.cargo_toml_discovery.specs.Names.{Name}
 
 pub map-cond : {A B : Type 0} (f : A → B) (b : Bool) (x y : Option A) → option_map f (cond b x y) ≡ cond b (option_map f x) (option_map f y)
 map-cond f true x y = refl

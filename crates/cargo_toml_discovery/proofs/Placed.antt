@@ -1,17 +1,10 @@
 -- Which products wait, which paths are taken, and what a walk gives, step by step.
-use Rattle.std.proofs.Common.{◌≡◌, ℕ, Bool, true, false, cond, ◌||◌, List, [], ◌∷◌, ◌++◌, Option, Some, None, refl, ap, ◌∙◌, map, take, get_or, length, ◌<◌, ◌+◌, sym, String, string_bytes, is_some, Global}
-use Rattle.std.specs.BTreeSet as sorted
-use Rattle.std.specs.{BTreeSet.BTreeSet, Cmp.Lexicographic.slice_cmp, Ordering.nat_cmp}
-use Rattle.std.specs.{Option.option_or, Option.option_map, Option.option_copied, Str.bytes_eq}
-use Rattle.std.proofs.Math.Bool.{or_comm, or-false}
-use Rattle.std.proofs.lemmas.{List.Folds.list_any-append, List.take_more, List.map_push, Map.Text.is_eq-slice_cmp}
-use denote.Ref.{Bor}
-use Rattle.cargo_toml_parts.specs.declared.settings.Edition.{Edition}
-use Rattle.cargo_toml_parts.specs.declared.product.Product as code
-use Rattle.cargo_toml_parts.specs.Products.{ProductMeaning, product_meaning}
-use Rattle.cargo_toml_discovery.specs.Found.{Offered, is_path_of, is_text, last_waiting, product_for, waits_for, waits_or}
+use Rattle.cargo_toml_discovery.proofs.Cited.{BTreeSet, Bool, Bor, Edition, List, Name, None, Offered, Option, ProductMeaning, Some, String, [], ap, bytes_eq, cond, false, get_or, is_eq-slice_cmp, is_path_in, is_path_of, is_some, is_text, last_waiting, length, list_any-append, map, map_push, nat_cmp, option_copied}
+use Rattle.cargo_toml_discovery.proofs.Cited.{option_map, option_or, or-false, or_comm, product_for, product_meaning, refl, slice_cmp, string_bytes, sym, take, take_more, true, waits_for, waits_or, walk, without, ℕ, ◌++◌, ◌+◌, ◌<◌, ◌||◌, ◌∙◌, ◌∷◌, ◌≡◌}
 use Rattle.cargo_toml_discovery.proofs.Lookups.{map-cond}
-use Rattle.cargo_toml_discovery.specs.{Names.Name, Walk.is_path_in, Walk.walk, Walk.without}
+use Rattle.std.proofs.Common.{Global}
+use Rattle.std.specs.BTreeSet as sorted
+use Rattle.cargo_toml_parts.specs.declared.product.Product as code
 
 waits-last : (b : Bool) (p : ProductMeaning) (w : Option ProductMeaning) → cond b (Some p) w ≡ option_or (cond b (Some p) None) w
 waits-last true p w = refl

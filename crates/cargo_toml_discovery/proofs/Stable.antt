@@ -1,11 +1,5 @@
 -- A stable sort has one result.
-use Rattle.std.proofs.Common.{◌≡◌, ℕ, ◌<◌, Bool, true, false, cond, not, ◌&&◌, List, [], ◌∷◌, length, get_or, refl, ap, sym, ◌∙◌, arith, filter, suc, zero, add-one, map}
-use Rattle.std.specs.Cmp.{IsStrictWeakOrder, on_total, then_total}
-use Rattle.std.specs.Cmp.Lexicographic.{nat_list_cmp_total, options_total}
-use Rattle.std.specs.List.Sorted.{IsSortedBy, IsStableBy, ties}
-use Rattle.std.proofs.lemmas.List.{MinMax.ranks_by, Sorted.sorted_far}
-use Rattle.cargo_toml_discovery.specs.Sorting.{insert_by, product_lt, sorted_by}
-use Rattle.cargo_toml_parts.specs.Products.{ProductMeaning}
+use Rattle.cargo_toml_discovery.proofs.Cited.{Bool, IsSortedBy, IsStableBy, IsStrictWeakOrder, List, ProductMeaning, [], add-one, ap, arith, cond, false, filter, get_or, insert_by, length, map, nat_list_cmp_total, not, on_total, options_total, product_lt, ranks_by, refl, sorted_by, sorted_far, suc, sym, then_total, ties, true, zero, ℕ, ◌&&◌, ◌<◌, ◌∙◌, ◌∷◌, ◌≡◌}
 
 module _ {X : Type 0} (lt : X → X → Bool) (o : IsStrictWeakOrder lt) where
   -- x is greater than none of them

@@ -1,8 +1,5 @@
 -- How often `.rs` is stripped.
-use Rattle.std.proofs.Common.{◌∙◌, ◌≡◌, ℕ, true, false, cond, [], ◌∷◌, refl, ap, sym, length, zero, suc, ◌≤◌, ◌<◌, ◌-◌, arith, length-take, ◌++◌, drop, take, take-append-drop, codes, List, Option, Some, None}
-use Rattle.std.proofs.lemmas.{Slice.Eq.bytes_eq-Decides, List.append_cancel_left}
-use Rattle.std.specs.Str.Pattern.{CutsSuffixes, FindsTextSuffix, IsFullyTrimmed, IsTrimEndMatches}
-use Rattle.cargo_toml_discovery.specs.Names.{with_endings, Name, stripped, stem, without_ending, is_source}
+use Rattle.cargo_toml_discovery.proofs.Cited.{CutsSuffixes, FindsTextSuffix, IsFullyTrimmed, IsTrimEndMatches, List, Name, None, Option, Some, [], ap, append_cancel_left, arith, bytes_eq-Decides, codes, cond, drop, false, is_source, length, length-take, refl, stem, stripped, suc, sym, take, take-append-drop, true, with_endings, without_ending, zero, ℕ, ◌++◌, ◌-◌, ◌<◌, ◌∙◌, ◌∷◌, ◌≡◌, ◌≤◌}
 
 stripped-nil : (n : ℕ) → stripped n [] ≡ []
 stripped-nil zero = refl

@@ -1,15 +1,5 @@
 -- Texts in order, each once, are given by which they are.
-use Rattle.std.proofs.Common.{◌≡◌, Bool, true, false, ◌||◌, List, [], ◌∷◌, refl, ap, ◌∙◌, sym, map, String, string_bytes}
-use Rattle.std.specs.List.{list_any, AllByRecursion, Sorted.IsStrictlySortedBy}
-use Rattle.std.specs.{Str.bytes_eq, Ordering.nat_cmp, Ordering.is_eq, Ordering.match_ordering}
-use Rattle.std.specs.{declared.cmp.Ordering.Ordering, String.string_cmp}
-use Rattle.std.specs.declared.cmp.Ordering.TheVariants.{Less, Equal, Greater}
-use Rattle.std.specs.Cmp.Lexicographic.{slice_cmp, nat_list_cmp_total}
-use Rattle.std.specs.BTreeSet.{BTreeSet, IsOrdered, contains_text}
-use Rattle.std.{specs.declared.alloc.Global.Global, proofs.lemmas.Slice.Eq.bytes_eq-Decides}
-use Rattle.std.proofs.lemmas.Map.{Text.is_eq-slice_cmp, Lookups.btree_set_from_contains, Lookups.exact_bytes}
-use Rattle.cargo_toml_discovery.specs.Answers.{texts_in}
-use Rattle.cargo_toml_discovery.specs.Names.{Name, has_text, put_in, ordered}
+use Rattle.cargo_toml_discovery.proofs.Cited.{AllByRecursion, BTreeSet, Bool, Equal, Global, Greater, IsOrdered, IsStrictlySortedBy, Less, List, Name, Ordering, String, [], ap, btree_set_from_contains, bytes_eq, bytes_eq-Decides, contains_text, exact_bytes, false, has_text, is_eq, is_eq-slice_cmp, list_any, map, match_ordering, nat_cmp, nat_list_cmp_total, ordered, put_in, refl, slice_cmp, string_bytes, string_cmp, sym, texts_in, true, ◌||◌, ◌∙◌, ◌∷◌, ◌≡◌}
 
 abbrev pub compare : Name → Name → Ordering
 compare a b = slice_cmp nat_cmp a b

@@ -1,9 +1,5 @@
 -- The parts of an action text, and one more action on a dependency.
-use Rattle.std.proofs.Common.{◌≡◌, ℕ, Bool, false, cond, List, [], ◌∷◌, length, Option, Some, None, option_map, bytes_eq, Bor, arith, refl, unwrap_or}
-use Rattle.std.specs.{List.list_any, List.position_or_len, BTreeMap.BTreeMap, BTreeMap.is_at, Map.lookup, Cmp.Lexicographic.slice_cmp, Ordering.nat_cmp}
-use Rattle.std.proofs.lemmas.{Slice.Eq.bytes_eq-Decides, Grind.common_steps}
-use Rattle.cargo_toml_graph.{specs.Action.Text, specs.Action.Action, specs.Action.join, specs.Action.join_option, proofs.Texts.bytes_eq_sym, proofs.JoinLaws.join_option_none}
-use Rattle.cargo_toml_features.specs.{Views.action_of, Views.action_at, declared.features.DepAction.DepAction}
+use Rattle.cargo_toml_features.proofs.Cited.{Action, BTreeMap, Bool, Bor, DepAction, List, None, Option, Some, Text, [], action_at, action_of, arith, bytes_eq, bytes_eq-Decides, bytes_eq_sym, common_steps, cond, false, is_at, join, join_option, join_option_none, length, list_any, lookup, nat_cmp, option_map, position_or_len, refl, slice_cmp, unwrap_or, ℕ, ◌∷◌, ◌≡◌}
 
 -- where no element passes, the search runs to the end
 pub none_found : (p : ℕ → Bool) (xs : List ℕ) → position_or_len p xs ≡ length xs → list_any p xs ≡ false

@@ -1,9 +1,5 @@
 -- What is listed, the entries and what is kept settle an answer except its binaries.
-use Rattle.std.proofs.Common.{◌≡◌, ◌↔◌, Bool, List, Option, IsTrue, IfSome, is_some, sym, ap, subst, ◌∙◌, arith, true, [], ◌∷◌, bytes_eq}
-use Rattle.std.{proofs.lemmas.Bool.false≢true, proofs.lemmas.Grind.common_steps, proofs.lemmas.Slice.Eq.bytes_eq-Decides, specs.Map.lookup}
-use Rattle.cargo_toml_graph.{specs.Action.Text, specs.Admitted.Listed, specs.Removal.is_removed, proofs.Settled.resolution_settled, proofs.Texts.by_true}
-use Rattle.cargo_toml_features.specs.{Agreement.Agree, Agreement.SameTests, Marks.NamedDetails, Marks.FeatureMarks, Marks.detail_named, Marks.details_listed, Marks.marks_in, Recorded.Entry, Recorded.RecordedKey, Resolved.Answer}
-use Rattle.cargo_toml_features.specs.Resolved.{IsAnswer, SameRecorded, table_of, IsAnswerWithout}
+use Rattle.cargo_toml_features.proofs.Cited.{Agree, Answer, Bool, Entry, FeatureMarks, IfSome, IsAnswer, IsAnswerWithout, IsTrue, List, Listed, NamedDetails, Option, RecordedKey, SameRecorded, SameTests, Text, [], ap, arith, by_true, bytes_eq, bytes_eq-Decides, common_steps, detail_named, details_listed, false≢true, is_removed, is_some, lookup, marks_in, resolution_settled, subst, sym, table_of, true, ◌↔◌, ◌∙◌, ◌∷◌, ◌≡◌}
 
 -- two that record what a third does
 alike : (a b c : Option RecordedKey) → SameRecorded a c → SameRecorded b c → SameRecorded a b

@@ -1,14 +1,8 @@
 -- Where texts stand in a list, and in one that ascends in byte order.
-use Rattle.std.proofs.Common.{◌≡◌, ◌<◌, ℕ, zero, suc, List, [], ◌∷◌, length, IsTrue, get_or, refl, sym, subst, inl, inr, arith, Bool, true, false, ◌+◌, map, Bor, rules, ◌||◌, Option, None, IfSome, is_some, bytes_eq, ap, ◌↔◌, Result, Ok}
-use Rattle.std.proofs.Common.{Err, ◌∙◌, ◌++◌, take}
-use Rattle.std.proofs.lemmas.{Bool.cases_order, Bool.false≢true, Bool.false_from_ne_true, Bool.cases_lt, Grind.common_steps, Cmp.nat_list_cmp_total, Cmp.nat_list_eq_equiv, Cmp.on_total, Cmp.on_equiv, Cmp.tied_itself, List.get_or-map}
-use Rattle.std.proofs.lemmas.{List.length-map, List.map_push, List.take_more, Map.Keys.sorted_from_all_adjacent, List.Filters.dedup_is, List.Kept.Any-dedup, List.Kept.Contains-from_dedup, List.Kept.IsStrictlySortedBy-dedup}
-use Rattle.std.proofs.lemmas.{List.Sorted.IsPermutation-sym, List.Sorted.Contains-permutation, List.Sorted.searchable_from_sorted, Map.Lookups.exact_bytes, Map.Text.is_eq-slice_cmp, Slice.Eq.bytes_eq-Decides}
-use Rattle.std.specs.{Cmp.Lexicographic.slice_cmp, List.IsAllAdjacentAnswer, List.list_any, List.Contains, List.dedup, Ordering.nat_cmp, declared.cmp.Ordering.TheVariants.Less, declared.cmp.Ordering.TheVariants.Equal}
-use Rattle.std.specs.{List.Retain.IsFiltered, List.Retain.DiffersFromLast, List.Sorted.IsPermutation, List.Sorted.IsSorted, List.Sorted.IsSearchInRange, List.Sorted.IsBinarySearchResult, Result.result_ok, declared.cmp.Ordering.Ordering}
-use Rattle.cargo_toml_graph.specs.{Ascending.Ascend, Action.Text, Admitted.is_below, Reach.Among}
-use Rattle.cargo_toml_graph.proofs.{RedirectsInOrder.below_one_way, SortedTexts.first_below, SortedTexts.others_ascend, SortedTexts.less_from, SortedTexts.texts_ascend, BinLists.among-true, BinLists.is_among-true}
-use Rattle.cargo_toml_features.specs.Places.{nth_text}
+use Rattle.cargo_toml_features.proofs.Cited.{Among, Any-dedup, Ascend, Bool, Bor, Contains, Contains-from_dedup, Contains-permutation, DiffersFromLast, Equal, Err, IfSome, IsAllAdjacentAnswer, IsBinarySearchResult, IsFiltered, IsPermutation, IsPermutation-sym, IsSearchInRange, IsSorted, IsStrictlySortedBy-dedup, IsTrue, Less, List, None, Ok, Option, Result, Text, [], among-true, ap, arith}
+use Rattle.cargo_toml_features.proofs.Cited.{below_one_way, bytes_eq, bytes_eq-Decides, cases_lt, cases_order, common_steps, dedup, dedup_is, exact_bytes, false, false_from_ne_true, false≢true, first_below, get_or, get_or-map, inl, inr, is_among-true, is_below, is_eq-slice_cmp, is_some, length, length-map, less_from, list_any, map, map_push}
+use Rattle.cargo_toml_features.proofs.Cited.{nat_cmp, nat_list_cmp_total, nat_list_eq_equiv, nth_text, on_equiv, on_total, others_ascend, refl, result_ok, rules, searchable_from_sorted, slice_cmp, sorted_from_all_adjacent, subst, suc, sym, take, take_more, texts_ascend, tied_itself, true, zero, ℕ, ◌++◌, ◌+◌, ◌<◌, ◌||◌, ◌↔◌, ◌∙◌, ◌∷◌, ◌≡◌}
+use Rattle.std.specs.declared.cmp.Ordering.{Ordering}
 
 pub among_at : {K : Type 0} (xs : List K) (k : ℕ) (d : K) → k < length xs → Among xs (get_or xs k d)
 among_at [] k d below = absurd (omega arith)

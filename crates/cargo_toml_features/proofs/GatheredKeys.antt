@@ -1,9 +1,6 @@
 -- The keys of the entries that pass a test.
-use Rattle.std.proofs.Common.{◌≡◌, ◌↔◌, ◌⊎◌, ◌<◌, ◌+◌, ◌&&◌, ◌||◌, ℕ, Bool, true, false, List, [], ◌∷◌, ◌++◌, length, map, take, get_or, Bor, IsTrue, bytes_eq, sym, ap, subst, ◌∙◌, arith, rules}
-use Rattle.std.proofs.lemmas.{Bool.false≢true, List.get_or-map, List.length-map, List.map-append, List.Folds.list_any-append, Slice.Eq.bytes_eq-Decides, Grind.common_steps}
-use Rattle.std.specs.List.{list_any}
-use Rattle.cargo_toml_graph.{specs.Action.Text, specs.Reach.Among, proofs.BinLists.among-first, proofs.BinLists.among-second, proofs.BinLists.among-either}
-use Rattle.cargo_toml_features.{specs.declared.features.ParseDependency.ParseDependency, specs.Recorded.Entry, specs.Views.entry_of, specs.FullGraph.counts_alone, proofs.ByPlace.texts, proofs.ByPlace.taken_more}
+use Rattle.cargo_toml_features.proofs.Cited.{Among, Bool, Bor, Entry, IsTrue, List, ParseDependency, Text, [], among-either, among-first, among-second, ap, arith, bytes_eq, bytes_eq-Decides, common_steps, counts_alone, entry_of, false, false≢true, get_or, get_or-map, length, length-map, list_any, list_any-append, map, map-append, rules, subst, sym, take, true, ℕ, ◌&&◌, ◌++◌, ◌+◌, ◌<◌, ◌||◌, ◌↔◌, ◌∙◌, ◌∷◌, ◌≡◌, ◌⊎◌}
+use Rattle.cargo_toml_features.proofs.ByPlace.{texts, taken_more}
 
 either : (a b : Bool) → IsTrue (a || (b || false)) → IsTrue a ⊎ IsTrue b
 either v0 v1 v2 = search rules

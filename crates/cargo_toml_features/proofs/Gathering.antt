@@ -1,12 +1,7 @@
 -- One more text of a feature's list, and sets of texts.
-use Rattle.std.proofs.Common.{◌≡◌, Bool, true, false, cond, ◌||◌, List, [], ◌∷◌, ◌++◌, map, is_some, Some, None, bytes_eq, Bor, take, length, get_or, ℕ, ◌+◌, ◌<◌, Result, Ok, Err, IfOk, refl, sym, ap, ap₂, ◌∙◌, arith}
-use Rattle.std.{proofs.Math.Bool.or-false, proofs.lemmas.List.Folds.list_any-append, proofs.lemmas.List.Sums.fold_push, proofs.lemmas.Map.Text.is_eq-slice_cmp, proofs.lemmas.Grind.common_steps}
-use Rattle.std.specs.{BTreeMap.BTreeMap, BTreeMap.is_at, BTreeSet.BTreeSet, Cmp.Lexicographic.slice_cmp, Ordering.nat_cmp, List.list_any}
-use Rattle.cargo_toml_package.specs.Details.{Detail}
-use Rattle.cargo_toml_features.specs.{declared.action.ActionText.ActionText, declared.features.DepAction.DepAction, declared.features.Feature.Feature, ActionText.action_in, ActionText.item_in, Views.action_at, Views.set_has}
-use Rattle.cargo_toml_features.{specs.Reading.IsReadFeature, specs.Reading.joined_in, proofs.ByPlace.taken_more}
-use Rattle.cargo_toml_graph.specs.{Action.Text, Action.Action, Action.Item, Action.join_option, Action.Item.Name, Action.Item.On, Admitted.action_on, Admitted.item_names}
-use Rattle.cargo_toml_graph.proofs.JoinLaws.{join_option_none}
+use Rattle.cargo_toml_features.proofs.Cited.{Action, ActionText, BTreeMap, BTreeSet, Bool, Bor, DepAction, Detail, Err, Feature, IfOk, IsReadFeature, Item, List, Name, None, Ok, On, Result, Some, Text, [], action_at, action_in, action_on, ap, ap₂, arith, bytes_eq, common_steps, cond, false, fold_push, get_or, is_at, is_eq-slice_cmp}
+use Rattle.cargo_toml_features.proofs.Cited.{is_some, item_in, item_names, join_option, join_option_none, joined_in, length, list_any, list_any-append, map, nat_cmp, or-false, refl, set_has, slice_cmp, sym, take, true, ℕ, ◌++◌, ◌+◌, ◌<◌, ◌||◌, ◌∙◌, ◌∷◌, ◌≡◌}
+use Rattle.cargo_toml_features.proofs.ByPlace.{taken_more}
 use Rattle.std.specs.BTreeSet as sorted
 
 pub acting : (t : ActionText) → true ≡ (t.is_dep_only || is_some t.dep_feature) → item_in t ≡ On t.target.now (action_in t)

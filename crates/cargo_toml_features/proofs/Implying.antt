@@ -1,13 +1,7 @@
 -- Features implied one after another.
-use Rattle.std.proofs.Common.{◌≡◌, ◌<◌, ◌&&◌, ◌||◌, not, ℕ, zero, suc, Bool, true, false, cond, List, [], ◌∷◌, ◌++◌, length, map, get_or, take, ◌+◌, Vec, Option, Some, None, is_some, option_map, bytes_eq, Bor, refl, sym, ap, subst, ◌∙◌}
-use Rattle.std.proofs.Common.{arith, rules}
-use Rattle.std.proofs.Math.Bool.{and-or_distrib_right, or-false}
-use Rattle.std.proofs.lemmas.{Bool.false≢true, Bool.false_from_ne_true, List.Folds.list_any-append, Slice.Eq.bytes_eq-Decides, Map.Text.btree_map_updates_str, Grind.common_steps}
-use Rattle.std.specs.{BTreeMap.BTreeMap, BTreeSet.BTreeSet, Cmp.Lexicographic.slice_cmp, List.list_any, Map.lookup, Option.IsSomeAnd, Option.option_or, Ordering.nat_cmp, declared.alloc.Global.Global}
-use Rattle.cargo_toml_features.specs.{declared.features.DepAction.DepAction, declared.features.Feature.Feature, Recorded.Entry, Resolved.plain_action, Views.action_of, Views.action_at, InOrder.feature_at, FullGraph.AreFree}
-use Rattle.cargo_toml_features.specs.FullGraph.{IsImplied, Becomes, ImpliesAll, is_optional_at, is_offered, is_offered_alone, is_one_of}
+use Rattle.cargo_toml_features.proofs.Cited.{AreFree, BTreeMap, BTreeSet, Becomes, Bool, Bor, DepAction, Entry, Feature, Global, ImpliesAll, IsImplied, IsSomeAnd, List, None, Option, Some, Text, Vec, [], action_at, action_of, and-or_distrib_right, ap, arith, btree_map_updates_str, bytes_eq, bytes_eq-Decides, bytes_eq_sym, common_steps, cond, false, false_from_ne_true, false≢true, feature_at, get_or}
+use Rattle.cargo_toml_features.proofs.Cited.{is_offered, is_offered_alone, is_one_of, is_optional_at, is_some, length, list_any, list_any-append, lookup, map, nat_cmp, not, option_map, option_or, or-false, plain_action, refl, rules, slice_cmp, subst, suc, sym, take, true, zero, ℕ, ◌&&◌, ◌++◌, ◌+◌, ◌<◌, ◌||◌, ◌∙◌, ◌∷◌, ◌≡◌}
 use Rattle.cargo_toml_features.proofs.{TextKeys.none_in, ByPlace.taken_more, Placed.none_from, ReadAll.has_more}
-use Rattle.cargo_toml_graph.{specs.Action.Text, proofs.Texts.bytes_eq_sym}
 use Rattle.std.specs.BTreeMap as tree
 
 stays : (t : Bool) (q : Text) (o : Option Feature) → (t ≡ true → is_some o ≡ true) → Becomes t q o o

@@ -15,3 +15,4 @@ pub mod ReadAll
 pub mod Requiring
 pub mod GatheredKeys
 pub mod Gathering
+mod Cited

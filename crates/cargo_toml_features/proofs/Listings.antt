@@ -1,13 +1,7 @@
 -- The names of a table, in byte order and each once, and those of a hashed one.
-use Rattle.std.proofs.Common.{◌≡◌, T, cond, List, [], ◌∷◌, map, Some, bytes_eq, refl, sym, subst, ap, ap₂, ◌∙◌, arith, Option, Bor, option_map, string_bytes, String, unwrap_or, Vec, ◌||◌, Bool, true, false, ◌++◌, None, is_some}
-use Rattle.std.proofs.lemmas.{Cmp.nat_list_cmp_total, Map.Lookups.exact_bytes, Map.Text.is_eq-slice_cmp, Map.Text.btree_map_updates_str, Grind.common_steps, Bool.or_right, List.map-append, List.Folds.list_any-append}
-use Rattle.std.{proofs.lemmas.Map.Made.is_some-lookup, proofs.lemmas.Slice.Eq.bytes_eq-Decides, proofs.Math.Bool.or-false}
-use Rattle.std.specs.{FinMap.Entries.find, FinMap.Entries.below_all, FinMap.Entries.is_sorted, FinMap.Entries.same_entries, Cmp.Lexicographic.slice_cmp, List.AllByRecursion, List.list_any, List.Sorted.IsStrictlySortedBy, Map.lookup}
-use Rattle.std.specs.{Ordering.nat_cmp, declared.cmp.Ordering.TheVariants.Less, Option.option_copied, BTreeMap.BTreeMap, BTreeMap.get_by, BTreeMap.is_at, String.string_cmp, declared.alloc.Global.Global, HashMap.HashMap, Map.Iter.deref_pair}
-use Rattle.cargo_toml_graph.{specs.Action.Text, specs.Admitted.Listed, specs.Ascending.Ascend, proofs.Cut.Ascends, proofs.SortedTexts.texts_ascend, proofs.Texts.bytes_eq_sym}
-use Rattle.cargo_toml_package.specs.{Details.Detail, Details.detail_of, Details.plain_detail, declared.target.FeatureDetail.FeatureDetail}
-use Rattle.cargo_toml_parts.specs.Reads.{map_meaning}
-use Rattle.cargo_toml_features.specs.{Marks.detail_named, Marks.detail_in, Views.listed_of, declared.admit.Listing.Listing, Hashed.actions_at, Hashed.sorted_actions_at}
+use Rattle.cargo_toml_features.proofs.Cited.{AllByRecursion, Ascend, Ascends, BTreeMap, Bool, Bor, Detail, FeatureDetail, Global, HashMap, IsStrictlySortedBy, Less, List, Listed, Listing, None, Option, Some, String, T, Text, Vec, [], actions_at, ap, ap₂, arith, below_all, btree_map_updates_str, bytes_eq, bytes_eq-Decides, bytes_eq_sym, common_steps, cond, deref_pair, detail_in, detail_named, detail_of, exact_bytes, false, get_by, is_at, is_eq-slice_cmp, is_some}
+use Rattle.cargo_toml_features.proofs.Cited.{is_some-lookup, is_sorted, list_any, list_any-append, listed_of, lookup, map, map-append, map_meaning, nat_cmp, nat_list_cmp_total, option_copied, option_map, or-false, or_right, plain_detail, refl, same_entries, slice_cmp, sorted_actions_at, string_bytes, string_cmp, subst, sym, texts_ascend, true, unwrap_or, ◌++◌, ◌||◌, ◌∙◌, ◌∷◌, ◌≡◌}
+use Rattle.std.specs.FinMap.Entries.{find}
 use Rattle.std.specs.BTreeMap as tree
 
 -- the order of keys is the byte order of the names that they list

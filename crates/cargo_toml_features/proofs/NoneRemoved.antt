@@ -1,8 +1,5 @@
 -- A map of a resolution with nothing removed has what the table has, and enables what it enables.
-use Rattle.std.proofs.Common.{◌≡◌, Bor, IsTrue, refl, subst, inl, arith}
-use Rattle.std.{proofs.lemmas.Grind.common_steps, specs.HashMap.HashMap}
-use Rattle.cargo_toml_graph.specs.{Action.Text, Graph.Table, Graph.Edge, Graph.IsResolved, Reach.Gathers, Recursive.Enables, Recursive.Enables.itself, Recursive.Enables.further}
-use Rattle.cargo_toml_features.specs.{Views.resolution_of, Views.table_in, declared.features.Feature.Feature}
+use Rattle.cargo_toml_features.proofs.Cited.{Bor, Edge, Enables, Feature, Gathers, HashMap, IsResolved, IsTrue, Table, Text, arith, common_steps, further, inl, itself, refl, resolution_of, subst, table_in, ◌≡◌}
 
 -- what a feature of a table enables is one of its features
 pub enables_has : {t : Table} {f g : Text} → IsTrue (t.has f) → Enables t f g → IsTrue (t.has g)

@@ -1,13 +1,10 @@
 -- The lists of pairs, as the actions of one feature are added, and the features still to visit.
-use Rattle.std.proofs.Common.{◌≡◌, ◌++◌, ◌∷◌, [], Bool, true, false, cond, map, List, Option, Some, None, Bor, Vec, Global, unwrap_or, option_map, bytes_eq, IsTrue, IsFalse, refl, sym, ap, ◌∙◌, append_assoc, arith, ◌+◌, ◌≤◌, ◌&&◌, ◌||◌}
-use Rattle.std.proofs.Common.{length, is_some, subst, length-append, slice_get}
-use Rattle.std.proofs.lemmas.{List.map-append, List.append-nil, Map.NonePasses, Map.Entries.none_past_head, Map.Keys.IsDistinct-tail, Map.Keys.IsDistinct-from_sorted, Cmp.eq_by_cmp_equiv, Bool.cond-true, Bool.cond-false}
-use Rattle.std.proofs.lemmas.{Slice.Eq.bytes_eq-Decides, Map.Text.hash_map_updates_str, Map.Text.is_eq-slice_cmp, Grind.common_steps, List.Folds.list_any-append}
-use Rattle.std.specs.{Map.Iter.deref_pair, Cmp.Lexicographic.slice_cmp, Cmp.Lexicographic.on_texts, Ordering.nat_cmp, Ordering.eq_by_cmp, List.IsDistinct, List.list_any, Map.lookup, Map.keys_of, BTreeMap.BTreeMap, BTreeMap.is_at}
-use Rattle.std.{specs.HashMap.HashMap, specs.Option.option_map_or, specs.Option.IfSome, specs.Option.MatchOption, specs.Option.option_copied, specs.Option.option_to_list, proofs.Math.Bool.or-false}
-use Rattle.cargo_toml_features.specs.{declared.features.DepAction.DepAction, Reached.Lists, Reached.pairs_at, Reached.HaveNoEmpty, Reached.IsKeyed, Visits.AddsPair, Visits.unconditional, Visits.is_pending, Visits.AreHeld}
-use Rattle.cargo_toml_features.specs.{Visits.PushesNamed, Visits.still, Views.value_at, Views.action_of, Views.action_at, declared.features.Feature.Feature}
-use Rattle.cargo_toml_graph.{specs.Action.Text, specs.Action.Action, proofs.Texts.bytes_eq_sym}
+use Rattle.cargo_toml_features.proofs.Cited.{Action, AddsPair, AreHeld, BTreeMap, Bool, Bor, DepAction, Feature, HashMap, HaveNoEmpty, IsDistinct, IsDistinct-from_sorted, IsDistinct-tail, IsFalse, IsKeyed, IsTrue, List, Lists, None, NonePasses, Option, PushesNamed, Some, Text, Vec, [], action_at, action_of, ap, append-nil, arith, bytes_eq, bytes_eq-Decides, bytes_eq_sym, common_steps, cond, cond-false, cond-true, deref_pair, eq_by_cmp, eq_by_cmp_equiv, false, hash_map_updates_str, is_at}
+use Rattle.cargo_toml_features.proofs.Cited.{is_eq-slice_cmp, is_pending, is_some, keys_of, length, length-append, list_any, list_any-append, lookup, map, map-append, nat_cmp, none_past_head, on_texts, option_copied, option_map, option_map_or, option_to_list, or-false, pairs_at, refl, slice_cmp, slice_get, still, subst, sym, true, unconditional, unwrap_or, value_at, ◌&&◌, ◌++◌, ◌+◌, ◌||◌, ◌∙◌, ◌∷◌, ◌≡◌, ◌≤◌}
+use Rattle.std.proofs.Common.{Global}
+use Rattle.std.proofs.Common.{append_assoc}
+use Rattle.std.specs.Option.{IfSome}
+use Rattle.std.specs.Option.{MatchOption}
 use Rattle.std.specs.BTreeMap as tree
 use Rattle.std.specs.HashMap as hash
 

@@ -1,12 +1,6 @@
 -- Values under names that ascend, features in that order, and one more that is put among them.
-use Rattle.std.proofs.Common.{◌≡◌, ◌<◌, ℕ, zero, suc, Bool, true, false, cond, List, [], ◌∷◌, length, map, set, get_or, Option, None, Bor, IsTrue, bytes_eq, refl, sym, ap, subst, arith, ◌∙◌, rules, ◌⊎◌, ◌+◌, ◌≤◌, ◌++◌, Some, is_some, ap₂}
-use Rattle.std.proofs.Common.{inl, inr}
-use Rattle.std.proofs.lemmas.{List.length-map, List.get_or-map, List.map-set, List.set-get_or, Slice.Eq.bytes_eq-Decides, Grind.common_steps, Bool.false≢true, Bool.cases_order, Cmp.nat_list_cmp_total, List.Edits.insert_end}
-use Rattle.std.{proofs.lemmas.Map.Lookups.exact_bytes, specs.List.insert, specs.List.list_any, specs.List.Sorted.IsPartitionPoint, specs.List.Sorted.IsPartitionedBy, specs.Option.option_or}
-use Rattle.cargo_toml_graph.specs.{Action.Text, Admitted.is_below, Reach.Among, Ascending.Ascend}
-use Rattle.cargo_toml_graph.proofs.{RedirectsInOrder.below_one_way, SortedTexts.first_below, SortedTexts.others_ascend, SortedTexts.one_ascends, SortedTexts.put_first}
-use Rattle.cargo_toml_features.specs.{Slots.HaveSameNames, Slots.held_among, Slots.held_in, Slots.names_in, declared.slots.Slots.Slots, Places.nth_text, declared.features.Feature.Feature, InOrder.AreInOrder, InOrder.feature_at}
-use Rattle.cargo_toml_features.specs.InOrder.{names_of, IsBoundOf, IsPlaceOf}
+use Rattle.cargo_toml_features.proofs.Cited.{Among, AreInOrder, Ascend, Bool, Bor, Feature, HaveSameNames, IsBoundOf, IsPartitionPoint, IsPartitionedBy, IsPlaceOf, IsTrue, List, None, Option, Slots, Some, Text, [], ap, ap₂, arith, below_one_way, bytes_eq, bytes_eq-Decides, cases_order, common_steps, cond, exact_bytes, false, false≢true, feature_at, first_below, get_or, get_or-map, held_among, held_in, inl, inr}
+use Rattle.cargo_toml_features.proofs.Cited.{insert, insert_end, is_below, is_some, length, length-map, list_any, map, map-set, names_in, names_of, nat_list_cmp_total, nth_text, one_ascends, option_or, others_ascend, put_first, refl, rules, set, set-get_or, subst, suc, sym, true, zero, ℕ, ◌++◌, ◌+◌, ◌<◌, ◌∙◌, ◌∷◌, ◌≡◌, ◌≤◌, ◌⊎◌}
 use Rattle.cargo_toml_features.proofs.ByPlace.{among_at, Below, below_then, lower, at_among, rises}
 
 module _ {V : Type 0} where

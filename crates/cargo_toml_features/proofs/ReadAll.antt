@@ -1,15 +1,7 @@
 -- The lists of all features, read one text and one list after another.
-use Rattle.std.proofs.Common.{◌≡◌, ◌||◌, List, [], ◌∷◌, ◌++◌, map, bytes_eq, Bor, ℕ, ◌+◌, ◌<◌, take, length, get_or, String, string_bytes, Vec, sym, arith, rules, ◌≢◌, Bool, true, false, cond, drop, is_some, MatchOption, Option, Some, None}
-use Rattle.std.proofs.Common.{unwrap_or, codes, refl, ap, subst, ◌∙◌, inl, inr, suc, add-one, ap₂}
-use Rattle.std.proofs.{Math.Bool.or-false, Math.Bool.or_assoc, Math.Seq.drop-cons}
-use Rattle.std.specs.{declared.alloc.Global.Global, List.list_any, List.AllByRecursion, Map.lookup, Option.option_map_or, Option.option_or, Option.IsSomeAnd}
-use Rattle.std.proofs.lemmas.{List.map_push, List.map-append, List.take-append-drop, List.Folds.list_any-append, List.Sums.fold_push, Grind.common_steps, Bool.false≢true, Bool.false_from_ne_true, Slice.Eq.bytes_eq-Decides}
-use Rattle.cargo_toml_graph.specs.{Action.Text, Action.Item, Action.item_of, Action.Action, Admitted.action_on, Admitted.Listed, Admitted.items, Admitted.item_names, Admitted.joined_action, Reach.Among, Reach.IsOnce}
-use Rattle.cargo_toml_graph.proofs.Texts.{bytes_eq_refl}
-use Rattle.cargo_toml_features.specs.{Reading.Notes, Reading.joined_in, Reading.IsReadFeature, Reading.AreFresh, Reading.IsFresh, Reading.IsRead, Searching.has_key, declared.acting.Acting.Acting, declared.features.Feature.Feature}
-use Rattle.cargo_toml_features.specs.{declared.admit.Listing.Listing, Marks.NamedDetails, Marks.detail_named, Marks.detail_in, Marks.detail_listed, Marks.named_details, Views.listed_of, Views.set_has, Views.action_at, InOrder.feature_at}
-use Rattle.cargo_toml_features.{specs.InOrder.table_among, proofs.ByPlace.taken_more, proofs.Listings.listed_one, proofs.Listings.names_listed}
-use Rattle.cargo_toml_package.specs.Details.{Detail, plain_detail}
+use Rattle.cargo_toml_features.proofs.Cited.{Acting, Action, AllByRecursion, Among, AreFresh, Bool, Bor, Detail, Feature, Global, IsFresh, IsOnce, IsRead, IsReadFeature, IsSomeAnd, Item, List, Listed, Listing, MatchOption, NamedDetails, None, Notes, Option, Some, String, Text, Vec, [], action_at, action_on, add-one, ap, ap₂, arith, bytes_eq, bytes_eq-Decides, bytes_eq_refl, codes, common_steps, cond, detail_in, detail_listed, detail_named, drop, drop-cons, false, false_from_ne_true, false≢true, feature_at, fold_push}
+use Rattle.cargo_toml_features.proofs.Cited.{get_or, has_key, inl, inr, is_some, item_names, item_of, items, joined_action, joined_in, length, list_any, list_any-append, listed_of, lookup, map, map-append, map_push, named_details, option_map_or, option_or, or-false, or_assoc, plain_detail, refl, rules, set_has, string_bytes, subst, suc, sym, table_among, take, take-append-drop, true, unwrap_or, ℕ, ◌++◌, ◌+◌, ◌<◌, ◌||◌, ◌∙◌, ◌∷◌, ◌≡◌, ◌≢◌}
+use Rattle.cargo_toml_features.proofs.{ByPlace.taken_more, Listings.listed_one, Listings.names_listed}
 
 -- the items of the first texts, and of one more
 pub items_more : (ts : List (String Global)) (i : ℕ) (t : String Global) (bs : Text) → i < length ts → t ≡ get_or ts i t → bs ≡ string_bytes t

@@ -1,9 +1,5 @@
 -- What dependencies have anyway, by the places of their keys.
-use Rattle.std.proofs.Common.{◌≡◌, List, [], ◌∷◌, ◌++◌, option_map, refl, ap, arith, rules, ◌<◌, ◌+◌, ℕ, Option, None, length, get_or, take}
-use Rattle.std.proofs.lemmas.{List.take_more, Grind.common_steps}
-use Rattle.cargo_toml_features.specs.{declared.features.FeatureDependency.FeatureDependency, Recorded.Entry, Recorded.first_target, Recorded.is_redundant, Recorded.recorded_of, Views.recorded_in}
-use Rattle.cargo_toml_features.specs.{declared.slots.RedundantFeatures.RedundantFeatures, FullGraph.has_redundant, Slots.held_among}
-use Rattle.cargo_toml_graph.specs.Action.{Text}
+use Rattle.cargo_toml_features.proofs.Cited.{Entry, FeatureDependency, List, None, Option, RedundantFeatures, Text, [], ap, arith, common_steps, first_target, get_or, has_redundant, held_among, is_redundant, length, option_map, recorded_in, recorded_of, refl, rules, take, take_more, ℕ, ◌++◌, ◌+◌, ◌<◌, ◌∷◌, ◌≡◌}
 
 -- of no record there is no target
 pub no_target : (es : List Entry) → None ≡ recorded_of es → None ≡ first_target es

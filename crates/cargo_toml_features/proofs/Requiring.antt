@@ -1,11 +1,7 @@
 -- Features in places, of which one after another has its turn, and binaries gained one after another.
-use Rattle.std.proofs.Common.{◌≡◌, ◌<◌, ◌+◌, ℕ, zero, suc, Bool, true, false, cond, List, [], ◌∷◌, length, set, get_or, get_or-set_same, get_or-set_other, below_more, Some, bytes_eq, refl, sym, ap, subst, arith, ◌++◌, take, map, Option}
-use Rattle.std.proofs.Common.{None, ◌∙◌}
-use Rattle.std.proofs.lemmas.{List.length-set, List.get_or_default, List.append_assoc, List.append-nil, List.map-append, Grind.common_steps, List.Elements.filter-append, Slice.Eq.bytes_eq-Decides}
+use Rattle.cargo_toml_features.proofs.Cited.{Bool, Feature, List, None, Option, Relates, Required, RequiredAll, Requirement, Some, Text, [], ap, append-nil, append_assoc, arith, below_more, bin_requirement, bytes_eq, bytes_eq-Decides, bytes_eq_sym, common_steps, cond, false, feature_at, filter-append, get_or, get_or-set_other, get_or-set_same, get_or_default, length, length-set, map, map-append, names_of, own_of, refl, set, subst, suc, sym, take, true, zero, ℕ, ◌++◌, ◌+◌, ◌<◌, ◌∙◌, ◌∷◌, ◌≡◌}
+use Rattle.cargo_toml_features.proofs.ByPlace.{taken_more}
 use Rattle.std.specs.List.{filter}
-use Rattle.cargo_toml_features.specs.{declared.features.Feature.Feature, InOrder.feature_at, InOrder.names_of, Slots.Relates, declared.required.Requirement.Requirement, OwnBins.own_of, OwnBins.bin_requirement, FullGraph.Required}
-use Rattle.cargo_toml_features.{specs.FullGraph.RequiredAll, proofs.ByPlace.taken_more}
-use Rattle.cargo_toml_graph.{specs.Action.Text, proofs.Texts.bytes_eq_sym}
 
 -- features of the same names, related where those in each place are
 pub features_related : (R : Feature → Feature → Type 0) → (vs ws : List Feature) → names_of ws ≡ names_of vs → length ws ≡ length vs

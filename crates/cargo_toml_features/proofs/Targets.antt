@@ -1,11 +1,8 @@
 -- The targets of a dependency by the order of their keys: the first is the first target of the entries that were recorded.
-use Rattle.std.proofs.Common.{◌≡◌, Ordering, Less, Equal, Greater, true, Option, option_map, Bor, refl, sym, ap, ◌∙◌, arith, ◌<◌, Bool, false, cond, List, [], ◌∷◌, fold, find, length, Some, None, is_some, IsSome, ap₂, subst}
-use Rattle.std.proofs.lemmas.{Bool.false≢true, Bool.false_from_ne_true, Grind.common_steps, Cmp.upto, Cmp.tied_itself, Cmp.alike_right, Cmp.on_total, Option.same_Some}
-use Rattle.std.specs.{Option.option_copied, Ordering.is_eq, Ordering.is_gt, Ordering.is_lt, Ordering.on, Ordering.ordering_reverse, BTreeMap.BTreeMap, Cmp.IsTotalOrder, List.AllByRecursion, Map.lookup}
-use Rattle.cargo_toml_package.specs.{declared.dependency.Dependency.Dependency, Dependencies.DependencyMeaning, Dependencies.dependency_meaning}
-use Rattle.cargo_toml_features.specs.{declared.features.Kind.Kind, declared.features.TargetKey.TargetKey, Recorded.Target, Recorded.target_cmp, Recorded.Entry, Recorded.recorded_of, Recorded.first_target, Views.target_in, Views.recorded_in}
-use Rattle.cargo_toml_features.specs.{declared.features.FeatureDependency.FeatureDependency, FirstTarget.HasTarget, FirstTarget.IsFirst, Resolved.SameRecorded}
-use Rattle.cargo_toml_graph.specs.Action.{Text}
+use Rattle.cargo_toml_features.proofs.Cited.{AllByRecursion, BTreeMap, Bool, Bor, Dependency, DependencyMeaning, Entry, FeatureDependency, Greater, HasTarget, IsFirst, IsSome, IsTotalOrder, Kind, List, None, Option, Ordering, SameRecorded, Some, Target, TargetKey, Text, [], alike_right, ap, ap₂, arith, common_steps, cond, dependency_meaning, false, false_from_ne_true, false≢true}
+use Rattle.cargo_toml_features.proofs.Cited.{find, first_target, fold, is_eq, is_gt, is_lt, is_some, length, lookup, on, on_total, option_copied, option_map, ordering_reverse, recorded_in, recorded_of, refl, same_Some, subst, sym, target_cmp, target_in, tied_itself, true, upto, ◌<◌, ◌∙◌, ◌∷◌, ◌≡◌}
+use Rattle.std.proofs.Common.{Less}
+use Rattle.std.proofs.Common.{Equal}
 use Rattle.std.specs.BTreeMap as tree
 use Rattle.cargo_toml_features.specs.contracts.features.TargetKeyOrd.TheImpl as key_order
 use Rattle.cargo_toml_features.specs.contracts.features.TargetKeyOrd.TheImpl.Laws as laws

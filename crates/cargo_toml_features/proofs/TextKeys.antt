@@ -1,8 +1,5 @@
 -- Sets and maps of `&str`, by the bytes of their keys.
-use Rattle.std.proofs.Common.{◌≡◌, Bool, true, false, cond, ◌||◌, [], bytes_eq, Bor, refl, ap, ◌∙◌}
-use Rattle.std.{proofs.lemmas.Map.Text.is_eq-slice_cmp, specs.Cmp.Lexicographic.slice_cmp, specs.Ordering.nat_cmp, specs.BTreeSet.BTreeSet}
-use Rattle.cargo_toml_graph.{specs.Action.Text, proofs.Texts.bytes_eq_sym}
-use Rattle.cargo_toml_features.specs.Views.{set_has}
+use Rattle.cargo_toml_features.proofs.Cited.{BTreeSet, Bool, Bor, Text, [], ap, bytes_eq, bytes_eq_sym, cond, false, is_eq-slice_cmp, nat_cmp, refl, set_has, slice_cmp, true, ◌||◌, ◌∙◌, ◌≡◌}
 use Rattle.std.specs.BTreeSet as sorted
 
 pub inserted : (bs : Text) (s n : BTreeSet (Bor Text)) → sorted.UpdatesBy (λ x y. slice_cmp nat_cmp x.now y.now) (λ k. slice_cmp nat_cmp bs k.now) s n true → (x : Text) → set_has n x ≡ (set_has s x || bytes_eq x bs)

@@ -1,9 +1,5 @@
 -- Sets and maps once `retain` has run through them.
-use Rattle.std.proofs.Common.{◌≡◌, ◌&&◌, ◌||◌, Bool, true, false, cond, List, [], ◌∷◌, filter, Option, Some, None, IsTrue, Bor, refl, sym, ap, subst, ◌∙◌, rules}
-use Rattle.std.proofs.lemmas.{Map.Text.is_eq-slice_cmp, Slice.Eq.bytes_eq-Decides}
-use Rattle.std.specs.{BTreeMap.is_at, BTreeSet.BTreeSet, Cmp.Lexicographic.slice_cmp, List.list_any, Map.lookup, Map.Calls.RetainsPairs, Ordering.nat_cmp}
-use Rattle.cargo_toml_graph.specs.Action.{Text}
-use Rattle.cargo_toml_features.specs.Views.{set_has}
+use Rattle.cargo_toml_features.proofs.Cited.{BTreeSet, Bool, Bor, IsTrue, List, None, Option, RetainsPairs, Some, Text, [], ap, bytes_eq-Decides, cond, false, filter, is_at, is_eq-slice_cmp, list_any, lookup, nat_cmp, refl, rules, set_has, slice_cmp, subst, sym, true, ◌&&◌, ◌||◌, ◌∙◌, ◌∷◌, ◌≡◌}
 
 -- a set of texts of which those are left that pass a test
 pub has_filtered : (test : Text → Bool) (s n : BTreeSet (Bor Text)) → n.keys ≡ filter (λ k. test k.now) s.keys → (x : Text) → set_has n x ≡ (set_has s x && test x)

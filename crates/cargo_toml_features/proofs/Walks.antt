@@ -1,12 +1,7 @@
 -- The work that is left to a walk that marks a feature when it is taken from the stack: a measure for the depth-first order.
-use Rattle.std.proofs.Common.{◌≡◌, ◌+◌, ◌≤◌, ℕ, suc, Bool, true, false, cond, List, [], ◌∷◌, length, Some, Bor, bytes_eq, arith, ◌<◌, ◌⊎◌, ◌&&◌, ◌++◌, map, Option, None, is_some, IsTrue, IsFalse, refl, sym, ap, subst, inl, inr, ◌∙◌}
-use Rattle.std.proofs.Common.{length-append, rules}
-use Rattle.std.proofs.lemmas.{Bool.false≢true, Bool.cases_Bool, Bool.or_cases, Bool.or_left, Bool.or_right, Slice.Eq.bytes_eq-Decides, Grind.common_steps, List.map-append, List.append-nil}
-use Rattle.std.specs.{Map.lookup, Option.option_map_or, HashMap.HashMap}
-use Rattle.cargo_toml_graph.specs.{Action.Text, Action.Action, Reach.Among, Reach.IsOnce, Graph.Table, Recursive.Enables, Recursive.ArePairs, Recursive.Enables.itself, Recursive.Enables.further}
-use Rattle.cargo_toml_graph.proofs.BinLists.{among-either, among-first, among-second, once-push}
-use Rattle.cargo_toml_features.specs.{declared.features.Feature.Feature, Reached.Found, Reached.Lists, Reached.AreEnabled, Reached.ComeFrom, Reached.HaveNoEmpty, Reached.pairs_at, Views.value_at, Views.set_has, Views.action_at}
-use Rattle.cargo_toml_features.{specs.Views.table_in, specs.Visits.unconditional, specs.Visits.is_pending, specs.Visits.AreHeld, specs.Visits.PushesNamed, specs.Visits.PutsFound, specs.Visits.AddsActions, proofs.Pending.is_pending-push}
+use Rattle.cargo_toml_features.proofs.Cited.{Action, AddsActions, Among, AreEnabled, AreHeld, ArePairs, Bool, Bor, ComeFrom, Enables, Feature, Found, HashMap, HaveNoEmpty, IsFalse, IsOnce, IsTrue, List, Lists, None, Option, PushesNamed, PutsFound, Some, Table, Text, [], action_at, among-either, among-first, among-second, ap, append-nil, arith, bytes_eq, bytes_eq-Decides, cases_Bool, common_steps, cond, false}
+use Rattle.cargo_toml_features.proofs.Cited.{false≢true, further, inl, inr, is_pending, is_some, itself, length, length-append, lookup, map, map-append, once-push, option_map_or, or_cases, or_left, or_right, pairs_at, refl, rules, set_has, subst, suc, sym, table_in, true, unconditional, value_at, ℕ, ◌&&◌, ◌++◌, ◌+◌, ◌<◌, ◌∙◌, ◌∷◌, ◌≡◌, ◌≤◌, ◌⊎◌}
+use Rattle.cargo_toml_features.proofs.Pending.{is_pending-push}
 
 -- one for each feature that is not found, and one for each of its names
 abbrev pub work : (Text → Bool) → List (Bor Text × Feature) → ℕ

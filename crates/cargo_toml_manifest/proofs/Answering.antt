@@ -1,26 +1,8 @@
 -- What is answered of a completion, by where the manifest inherits from, and what that says.
-use Rattle.std.proofs.Common.{◌≡◌, ◌⊎◌, ℕ, List, Bool, Option, Some, None, Result, Ok, Err, true, false, ap, inl, inr, map, refl, subst, sym, ◌∙◌, string_bytes}
-use Rattle.std.specs.Prelude.{option_map}
-use Rattle.toml.specs.View.{view}
-use Rattle.cargo_toml_parts.specs.declared.error.Error.{Error, Memory}
-use Rattle.cargo_toml_parts.specs.{FaultValues.Fault, FaultValues.fault_of, Wrapping.wrap}
-use Rattle.cargo_toml_discovery.specs.{Answers.Answers, Answers.filled, Folders.IsListed, Told.Told}
-use Rattle.cargo_toml_discovery.specs.Names.{Name}
-use Rattle.cargo_toml_discovery.specs.Seen.{IsOneOf, MayTell, Seen, Tells, faulty, seen, unclear}
-use Rattle.cargo_toml_manifest.proofs.FoundAround.{one_of-wrapped, found_for-extends}
-use Rattle.cargo_toml_package.specs.Sharing.{Shared, shared}
-use Rattle.cargo_toml_package.specs.declared.sharing.NewParts.{NewParts}
-use Rattle.cargo_toml_manifest.specs.Answering.{IsAnsweredAt, IsAnsweredBy, IsFaultOf, IsRefusal}
-use Rattle.cargo_toml_manifest.specs.Choosing.{AnswersHint, Choice, Handed, MayFind, RootsTold, choice, from, hint_of, lost, own_choice, told_choice, unclear_root}
-use Rattle.cargo_toml_manifest.specs.Completing.{GivenBy, Meets, Outcome, complete, complete_by, gives, inherited_by, no_workspace, path_of, refuses, seen_at, then_found, untold}
-use Rattle.cargo_toml_manifest.specs.{Finding.found_around, Finding.with_found, Inheriting.needs}
-use Rattle.cargo_toml_manifest.specs.Installing.{installed, with_completion}
-use Rattle.cargo_toml_manifest.specs.Manifests.{ManifestMeaning, manifest_meaning}
-use Rattle.cargo_toml_manifest.specs.Refusing.{IsCause, IsRefusedAt, IsRefusedBy}
-use Rattle.cargo_toml_manifest.specs.Told.{AnswersRoot, ToldRoot, no_root, open_root, root}
-use Rattle.cargo_toml_manifest.specs.declared.finding.Completion.{Completion}
+use Rattle.cargo_toml_manifest.proofs.Cited.{Answers, AnswersHint, AnswersRoot, Bool, Choice, Completion, Err, Error, Fault, GivenBy, Handed, IsAnsweredAt, IsAnsweredBy, IsCause, IsFaultOf, IsListed, IsOneOf, IsRefusal, IsRefusedAt, IsRefusedBy, List, ManifestMeaning, MayFind, MayTell, Meets, Memory, Name, NewParts, None, Ok, Option, Outcome, Result, RootsTold, Seen, Shared, Some, Tells, Told, ToldRoot, ap, choice, complete, complete_by, false, fault_of, faulty, filled}
+use Rattle.cargo_toml_manifest.proofs.Cited.{found_around, from, gives, hint_of, inherited_by, inl, inr, installed, lost, manifest_meaning, map, needs, no_root, no_workspace, open_root, option_map, own_choice, path_of, refl, refuses, root, seen, seen_at, shared, string_bytes, subst, sym, then_found, told_choice, true, unclear, unclear_root, untold, view, with_completion, with_found, wrap, ℕ, ◌∙◌, ◌≡◌, ◌⊎◌}
 use Rattle.cargo_toml_manifest.proofs.Meeting.{Found, found_answer, found_at, found_choice, hint_alone, own_by_root}
-use Rattle.cargo_toml_manifest.proofs.Rooted.{IsWrapped, stays_memory, told_with}
+use Rattle.cargo_toml_manifest.proofs.{FoundAround.one_of-wrapped, FoundAround.found_for-extends, Rooted.IsWrapped, Rooted.stays_memory, Rooted.told_with}
 
 -- what is stated of the root leaves the choice open, or makes it as any answer does
 open_choice : (o : Option Shared) (b : Bool) (t : ToldRoot) → (own_choice o b open_root ≡ unclear_root) ⊎ (own_choice o b t ≡ own_choice o b open_root)

@@ -1,17 +1,7 @@
 -- Of which kinds the faults are that stand in place of a root among real files.
-use Rattle.std.proofs.Common.{◌≡◌, ◌⊎◌, inl, inr, refl, sym, ap, ◌∙◌, ℕ, List, Some, Err, String, string_bytes}
-use Rattle.std.specs.{IoError.error_kind, declared.alloc.Global.Global}
-use Rattle.std.specs.declared.io.Error.{Error as IoError}
-use Rattle.std.specs.declared.io.ErrorKind.TheVariants.{NotFound}
-use Rattle.cargo_toml_parts.specs.declared.error.Error.{Error, Io, Memory, WorkspaceIntegrity, fold-roll-Error}
-use Rattle.cargo_toml_parts.specs.{declared.error.Error.TheOpen.Error-F, Faults.IsFromIo}
-use Rattle.cargo_toml_parts.specs.declared.error.Error.TheVariants.{rolls-WorkspaceIntegrity}
-use Rattle.cargo_toml_parts.specs.FaultValues.{Fault, fault_of, fault_step, io, workspace_integrity}
-use Rattle.cargo_toml_parts.specs.Wrapping.{wrap}
-use Rattle.cargo_toml_discovery.proofs.Faults.{fault_of-io, from_input, has_memory}
-use Rattle.cargo_toml_manifest.specs.RealFiles.{IsNoWorkspace, IsRootFault, expected_workspace}
-use Rattle.cargo_toml_manifest.specs.Roots.{IsFromSlice}
+use Rattle.cargo_toml_manifest.proofs.Cited.{Err, Error, Error-F, Fault, Global, Io, IsFromIo, IsFromSlice, IsNoWorkspace, IsRootFault, List, Memory, NotFound, Some, String, WorkspaceIntegrity, ap, error_kind, expected_workspace, fault_of, fault_of-io, fault_step, fold-roll-Error, from_input, has_memory, inl, inr, io, refl, rolls-WorkspaceIntegrity, string_bytes, sym, workspace_integrity, wrap, ℕ, ◌∙◌, ◌≡◌, ◌⊎◌}
 use Rattle.cargo_toml_manifest.proofs.Rooted.{IsWrapped, stays_memory}
+use Rattle.std.specs.declared.io.Error.{Error as IoError}
 
 -- that nothing was found
 pub nothing_found : (f : IoError) → error_kind f ≡ NotFound → IsRootFault (fault_of (Io f))

@@ -1,22 +1,7 @@
 -- What is found around a manifest whose package takes its fields.
-use Rattle.std.proofs.Common.{◌≡◌, Bool, true, false, cond, List, [], ◌∷◌, refl, ap, ◌∙◌, sym, map, subst, Option, ◌⊎◌, inl, inr, codes, Some, None}
-use Rattle.std.specs.Prelude.{unwrap_or}
-use Rattle.cargo_toml_parts.specs.{FaultValues.Fault, FaultValues.fault_of, Wrapping.wrap}
-use Rattle.cargo_toml_parts.specs.{InheritableValues.value_of, declared.error.Error.Error}
-use Rattle.cargo_toml_parts.specs.{Settings.flag, declared.settings.Edition.TheVariants.E2015}
-use Rattle.cargo_toml_discovery.specs.Answers.{Answers, answer_at, filled_by, filled, around_in}
-use Rattle.cargo_toml_discovery.specs.Around.{named_by, named_at, each_named, entries_at, make_around, around, Around}
-use Rattle.cargo_toml_discovery.specs.{Found.Named, Names.Name, Names.in_folder, Names.is_source}
-use Rattle.cargo_toml_discovery.specs.Seen.{Seen, seen, faulty, unclear, seen_as, pair, and_then, names_at, root_names, IsOneOf, Tells}
-use Rattle.cargo_toml_discovery.specs.Told.{Told, names, absent, denied, open_path}
-use Rattle.cargo_toml_discovery.specs.declared.listings.Wanted.{Wanted}
-use Rattle.cargo_toml_discovery.specs.Discovering.{StatedMeaning, DiscoveredMeaning, discovered, discovered_meaning}
-use Rattle.cargo_toml_discovery.specs.declared.discovery.Discovered.{Discovered}
-use Rattle.cargo_toml_package.specs.{Packages.PackageMeaning, declared.sharing.NewParts.NewParts}
-use Rattle.cargo_toml_package.specs.declared.inheriting.NewFields.{NewFields}
-use Rattle.cargo_toml_manifest.specs.Finding.{stated_by, wanted_by, found_around, found_for, with_discovered, with_found, with_found_for}
-use Rattle.cargo_toml_manifest.specs.Installing.{taken, installed, installed_if_there}
-use Rattle.cargo_toml_manifest.{specs.Manifests.ManifestMeaning, proofs.Heard.tell-as}
+use Rattle.cargo_toml_manifest.proofs.Cited.{Answers, Around, Bool, Discovered, DiscoveredMeaning, E2015, Error, Fault, IsOneOf, List, ManifestMeaning, Name, Named, NewFields, NewParts, None, Option, PackageMeaning, Seen, Some, StatedMeaning, Tells, Told, Wanted, [], absent, and_then, answer_at, ap, around, around_in, codes, cond, denied, discovered, discovered_meaning, each_named, entries_at, false, fault_of, faulty, filled, filled_by, flag}
+use Rattle.cargo_toml_manifest.proofs.Cited.{found_around, found_for, in_folder, inl, inr, installed, installed_if_there, is_source, make_around, map, named_at, named_by, names, names_at, open_path, pair, refl, root_names, seen, seen_as, stated_by, subst, sym, taken, true, unclear, unwrap_or, value_of, wanted_by, with_discovered, with_found, with_found_for, wrap, ◌∙◌, ◌∷◌, ◌≡◌, ◌⊎◌}
+use Rattle.cargo_toml_manifest.proofs.Heard.{tell-as}
 
 -- the second is the first, unless that is unclear
 abbrev pub Ext : {A : Type 0} → Seen A → Seen A → Type 0

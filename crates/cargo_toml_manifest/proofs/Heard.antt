@@ -1,21 +1,9 @@
 -- What was told of folders, as it is kept, and that it is all that is asked for.
-use Rattle.std.proofs.Common.{◌≡◌, ℕ, Bool, true, false, cond, List, [], ◌∷◌, ◌++◌, refl, ap, ◌∙◌, sym, map, String, string_bytes, subst, Option, Some, None, is_some, ◌⊎◌, inl, inr, unwrap_or, get_or, length, ◌<◌, take, ◌+◌, arith, zero, suc, Result, Ok, Err, IfErr, not, ◌&&◌, filter, codes}
-use Rattle.std.specs.{Result.IsErrAnd, Str.bytes_eq, declared.alloc.Global.Global, HashSet.HashSet}
-use Rattle.std.proofs.lemmas.{Slice.Eq.bytes_eq-Decides, List.take_more, List.map_push}
-use Rattle.std.specs.{BTreeSet.BTreeSet, declared.io.ErrorKind.ErrorKind}
-use Rattle.std.specs.declared.io.ErrorKind.TheVariants.{NotFound}
-use Rattle.cargo_toml_parts.specs.declared.error.Error.{Error, Memory}
-use Rattle.cargo_toml_parts.specs.FaultValues.{Fault, fault_of, io}
-use Rattle.cargo_toml_discovery.specs.Answers.{Answers, answer_at, names_in, below, filled_by, texts_in, named_in, entries_if, around_in, filled}
-use Rattle.cargo_toml_discovery.specs.Names.{Name, has_text, in_folder, is_source, may_be_folder}
-use Rattle.cargo_toml_discovery.specs.Seen.{Seen, seen, faulty, unclear, seen_as, pair, names_at, root_names, IsOneOf, MayTell, Tells, is_absence, is_not_found, and_then}
-use Rattle.cargo_toml_discovery.specs.Told.{Told, names, absent, denied, open_path}
-use Rattle.cargo_toml_discovery.proofs.Unique.{own, texts_in-ordered, texts_in-itself}
-use Rattle.cargo_toml_discovery.specs.{Folders.AnswersNames, Folders.RefusesBy, Found.Named}
-use Rattle.cargo_toml_discovery.proofs.Faults.{fault_of-memory}
-use Rattle.cargo_toml_discovery.specs.Around.{named_by, each_named, entries_at, make_around, around}
-use Rattle.cargo_toml_discovery.specs.declared.listings.Wanted.{Wanted}
-use Rattle.cargo_toml_manifest.specs.Gathering.{AnswerFits, Fits, Grows, Has, HasEach, MayTellOneOf, HasProducts, IsHeard, Listed, Sorts, HasRoot, HasAll}
+use Rattle.cargo_toml_manifest.proofs.Cited.{AnswerFits, Answers, AnswersNames, BTreeSet, Bool, Err, Error, ErrorKind, Fault, Fits, Global, Grows, Has, HasAll, HasEach, HasProducts, HasRoot, HashSet, IfErr, IsErrAnd, IsHeard, IsOneOf, List, Listed, MayTell, MayTellOneOf, Memory, Name, Named, None, NotFound, Ok, Option, RefusesBy, Result, Seen, Some, Sorts, String, Tells, Told, Wanted, [], absent}
+use Rattle.cargo_toml_manifest.proofs.Cited.{and_then, answer_at, ap, arith, around, around_in, below, bytes_eq, bytes_eq-Decides, codes, cond, denied, each_named, entries_at, entries_if, false, fault_of, fault_of-memory, faulty, filled, filled_by, filter, get_or, has_text, in_folder, inl, inr, io, is_absence, is_not_found, is_some, is_source, length}
+use Rattle.cargo_toml_manifest.proofs.Cited.{make_around, map, map_push, may_be_folder, named_by, named_in, names, names_at, names_in, open_path, own, pair, refl, root_names, seen, seen_as, string_bytes, subst, suc, sym, take, take_more, texts_in, texts_in-itself, texts_in-ordered, true, unclear, zero, ℕ, ◌&&◌, ◌++◌, ◌+◌, ◌<◌, ◌∙◌, ◌∷◌, ◌≡◌, ◌⊎◌}
+use Rattle.std.proofs.Common.{unwrap_or}
+use Rattle.std.proofs.Common.{not}
 
 pub root_is_answer : (t : Told) (ns : List Name) → root_names (filled_by t (Some ns)) ≡ seen ns → AnswerFits t ns
 root_is_answer (names ts) ns h = h

@@ -1,11 +1,6 @@
 -- What is held of a manifest that was read is read as that manifest.
-use Rattle.std.proofs.Common.{◌≡◌, inl, inr, ℕ, List, Option, Some, Result, Ok, Err, IfOk, sym, ap, ◌∙◌}
+use Rattle.cargo_toml_manifest.proofs.Cited.{AnyRefuses, Data, DocumentRefuses, Err, Error, HeldManifest, IfOk, IsFromBytes, IsFromText, IsReading, List, Manifest, ManifestMeaning, ManifestRefuses, Memory, Ok, Option, Result, Some, Value, any_tree, ap, document_reads, inl, inr, manifest_meaning, manifest_reads, parse_document, sym, view, ℕ, ◌∙◌, ◌≡◌}
 use Rattle.std.specs.Prelude.{IfErr}
-use Rattle.toml.specs.{Data.Data, Parse.parse_document, View.view, declared.value.Value.Value}
-use Rattle.cargo_toml_parts.specs.{Reads.IsReading, declared.error.Error.Error, declared.error.Error.Memory}
-use Rattle.cargo_toml_manifest.specs.Manifests.{ManifestMeaning, ManifestRefuses, manifest_meaning, manifest_reads}
-use Rattle.cargo_toml_manifest.specs.Texts.{AnyRefuses, DocumentRefuses, IsFromBytes, IsFromText, any_tree, document_reads}
-use Rattle.cargo_toml_manifest.specs.{declared.manifest.Manifest.Manifest, declared.held.HeldManifest.HeldManifest}
 
 abbrev meaning_held : HeldManifest → ManifestMeaning Data
 meaning_held h = manifest_meaning view h.manifest.value

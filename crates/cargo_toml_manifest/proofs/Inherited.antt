@@ -1,14 +1,5 @@
 -- What is inherited, step by step, until a fault.
-use Rattle.std.proofs.Common.{◌≡◌, ◌⊎◌, inl, inr, refl, Result, Ok, Err, ℕ, List, Option}
-use Rattle.cargo_toml_parts.specs.{Answers.◌>>=◌, FaultValues.Fault, FaultValues.fault_of}
-use Rattle.cargo_toml_parts.specs.declared.error.Error.{Error, Memory}
-use Rattle.cargo_toml_parts.specs.declared.inheritable.Inheritable.{Inheritable}
-use Rattle.cargo_toml_package.specs.InheritedDependencies.{Entries, inherited_entries, inherited_target, inherited_targets}
-use Rattle.cargo_toml_package.specs.Targets.{TargetMeaning}
-use Rattle.cargo_toml_package.specs.{Packages.PackageMeaning, Templates.TemplateMeaning}
-use Rattle.cargo_toml_package.specs.Sharing.{LintsByTool, inherited_lints}
-use Rattle.cargo_toml_manifest.specs.Inheriting.{inherited_from, inherited_if_there, own_tables}
-use Rattle.cargo_toml_manifest.specs.Manifests.{ManifestMeaning}
+use Rattle.cargo_toml_manifest.proofs.Cited.{Entries, Err, Error, Fault, Inheritable, LintsByTool, List, ManifestMeaning, Memory, Ok, Option, PackageMeaning, Result, TargetMeaning, TemplateMeaning, fault_of, inherited_entries, inherited_from, inherited_if_there, inherited_lints, inherited_target, inherited_targets, inl, inr, own_tables, refl, ℕ, ◌>>=◌, ◌≡◌, ◌⊎◌}
 
 -- what is known of a refusal
 abbrev pub Refuses : {A : Type 0} → Result A Fault → Error → Type 0

@@ -1,31 +1,9 @@
 -- What is completed leaves nothing to the workspace, and completing it again changes nothing.
-use Rattle.std.proofs.Common.{◌≡◌, false, Option, Some, None, refl, ap, sym, ◌∙◌, subst, ℕ, List, [], ◌∷◌, Bool, true, cond, Result, Ok, Err}
-use Rattle.std.{specs.Option.option_map_or, proofs.lemmas.Bool.or_parts, specs.List.list_any}
-use Rattle.std.specs.Prelude.{IfSome, option_map, option_and_then, not}
-use Rattle.cargo_toml_parts.specs.declared.inheritable.Inheritable.TheVariants.{Set, Inherited}
-use Rattle.cargo_toml_parts.specs.{Answers.◌>>=◌, Answers.beside, Answers.each, FaultValues.Fault}
-use Rattle.cargo_toml_parts.specs.{InheritableValues.is_set, Paths.workspace_folder}
-use Rattle.cargo_toml_parts.specs.declared.inheritable.Inheritable.{Inheritable}
-use Rattle.cargo_toml_package.specs.Dependencies.{DependencyMeaning, InheritedMeaning, simple, inherited, detailed}
-use Rattle.cargo_toml_package.specs.InheritedDependencies.{Entries, adds_nothing, any_left, any_target_left, entry_at, from_template, inherited_entries, inherited_entry, inherited_target, inherited_targets, is_left, detail_of_requirement, target_left, with_entry}
-use Rattle.cargo_toml_package.specs.Targets.{TargetMeaning}
-use Rattle.cargo_toml_package.proofs.LastingDependencies.{target-kept, targets-kept}
-use Rattle.cargo_toml_discovery.{proofs.Again.discovered-again, specs.Names.Name, specs.Told.Told}
-use Rattle.cargo_toml_discovery.specs.Around.{Around, around}
-use Rattle.cargo_toml_discovery.specs.Discovering.{DiscoveredMeaning, StatedMeaning, discovered, restated}
-use Rattle.cargo_toml_discovery.specs.Seen.{Seen, seen, faulty, unclear, seen_as}
-use Rattle.cargo_toml_package.proofs.Lasting.{files-own, filled_package, package-kept}
-use Rattle.cargo_toml_package.specs.Inheriting.{any_field_left, IsFilled, inherited_package, with_template_if_there}
-use Rattle.cargo_toml_package.specs.Packages.{PackageMeaning, package_meaning}
-use Rattle.cargo_toml_package.specs.{declared.package.Package.Package, Templates.TemplateMeaning}
-use Rattle.cargo_toml_package.specs.Sharing.{LintsByTool, Shared, inherited_lints, shared}
-use Rattle.cargo_toml_manifest.specs.Finding.{found_around, found_for, stated_by, wanted_by, with_discovered}
-use Rattle.cargo_toml_manifest.specs.Inheriting.{needs, inherited_if_there, inherited_from, inherited_manifest, own_tables}
-use Rattle.cargo_toml_manifest.specs.Manifests.{ManifestMeaning, held}
-use Rattle.cargo_toml_manifest.specs.Choosing.{Handed, RootsTold, from, hint_of, own_choice}
-use Rattle.cargo_toml_manifest.specs.Completing.{complete, complete_by, gives, seen_at, then_found, IsLasting}
-use Rattle.cargo_toml_manifest.specs.Told.{ToldRoot, root, no_root, open_root}
-use Rattle.cargo_toml_manifest.{specs.declared.manifest.Manifest.Manifest, proofs.Inherited.then}
+use Rattle.cargo_toml_manifest.proofs.Cited.{Around, Bool, DependencyMeaning, DiscoveredMeaning, Entries, Err, Fault, Handed, IfSome, Inheritable, Inherited, InheritedMeaning, IsFilled, IsLasting, LintsByTool, List, Manifest, ManifestMeaning, Name, None, Ok, Option, Package, PackageMeaning, Result, RootsTold, Seen, Set, Shared, Some, StatedMeaning, TargetMeaning, TemplateMeaning, Told, ToldRoot, [], adds_nothing, any_field_left, any_left, any_target_left, ap, around, beside, complete}
+use Rattle.cargo_toml_manifest.proofs.Cited.{complete_by, cond, detail_of_requirement, detailed, discovered, discovered-again, each, entry_at, false, faulty, files-own, filled_package, found_around, found_for, from, from_template, gives, held, hint_of, inherited, inherited_entries, inherited_entry, inherited_from, inherited_if_there, inherited_lints, inherited_manifest, inherited_package, inherited_target, inherited_targets, is_left, is_set}
+use Rattle.cargo_toml_manifest.proofs.Cited.{list_any, needs, no_root, not, open_root, option_and_then, option_map, option_map_or, or_parts, own_choice, own_tables, package-kept, package_meaning, refl, restated, root, seen, seen_as, seen_at, shared, simple, stated_by, subst, sym, target-kept, target_left, targets-kept, then_found, true, unclear, wanted_by, with_discovered, with_entry, with_template_if_there, workspace_folder, ℕ, ◌>>=◌, ◌∙◌, ◌∷◌}
+use Rattle.cargo_toml_manifest.proofs.Cited.{◌≡◌}
+use Rattle.cargo_toml_manifest.proofs.Inherited.{then}
 
 seen-from : {A B : Type 0} (f : A → B) (s : Seen A) (y : B) → seen_as f s ≡ seen y → (x : A) × (s ≡ seen x) × (f x ≡ y)
 seen-from f (seen x) y h = let same : f x ≡ y = cc in (x, refl, same)

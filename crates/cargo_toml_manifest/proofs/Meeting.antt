@@ -1,20 +1,7 @@
 -- Which outcome an answer meets.
-use Rattle.std.proofs.Common.{◌≡◌, inl, inr, sym, ap, ◌∙◌, refl, ℕ, List, Bool, true, false, Option, Some, None, Ok, Err, [], String, string_bytes}
-use Rattle.std.specs.{Prelude.is_some, Prelude.option_map, declared.alloc.Global.Global}
-use Rattle.toml.specs.{Data.Data, View.view, declared.value.Value.Value}
-use Rattle.cargo_toml_parts.specs.declared.error.Error.{Error}
-use Rattle.cargo_toml_discovery.specs.{Names.Name, Told.Told}
-use Rattle.cargo_toml_package.specs.Sharing.{shared_of, Shared, shared}
-use Rattle.cargo_toml_manifest.specs.Choosing.{AnswersHint, Choice, Handed, MayFind, RootsTold, choice, from, hint_of, own_choice, told_choice}
-use Rattle.cargo_toml_manifest.specs.{Completed.IsCompleted, Finding.with_found}
-use Rattle.cargo_toml_manifest.specs.Completing.{Meets, Outcome, gives, no_workspace, refuses, untold}
-use Rattle.cargo_toml_manifest.specs.Installing.{installed, with_completion}
-use Rattle.cargo_toml_manifest.specs.Manifests.{ManifestMeaning, held, manifest_meaning}
-use Rattle.cargo_toml_manifest.specs.Told.{ToldRoot, root, no_root, open_root, AnswersRoot}
-use Rattle.cargo_toml_package.specs.Workspaces.{WorkspaceMeaning, workspace_meaning}
-use Rattle.cargo_toml_manifest.specs.declared.finding.Completion.{Completion}
-use Rattle.cargo_toml_manifest.specs.declared.manifest.Manifest.{Manifest}
-use Rattle.cargo_toml_package.specs.declared.workspace.Workspace.{Workspace}
+use Rattle.cargo_toml_manifest.proofs.Cited.{AnswersHint, AnswersRoot, Bool, Choice, Completion, Data, Err, Error, Global, Handed, IsCompleted, List, Manifest, ManifestMeaning, MayFind, Meets, Name, None, Ok, Option, Outcome, RootsTold, Shared, Some, String, Told, ToldRoot, Value, Workspace, WorkspaceMeaning, [], ap, choice, false, from, gives, held, hint_of, inl}
+use Rattle.cargo_toml_manifest.proofs.Cited.{inr, installed, manifest_meaning, no_root, no_workspace, open_root, option_map, own_choice, refl, refuses, root, shared, shared_of, string_bytes, sym, told_choice, true, untold, view, with_completion, with_found, workspace_meaning, ℕ, ◌∙◌, ◌≡◌}
+use Rattle.std.specs.Prelude.{is_some}
 
 -- what a root shares is what its workspace does
 sharing : {X M : Type 0} (f : X → M) (workspace : Option (Workspace X)) → option_map shared (option_map (workspace_meaning f) workspace) ≡ shared_of workspace

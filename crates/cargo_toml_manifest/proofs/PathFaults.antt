@@ -1,11 +1,5 @@
 -- Why a file could not be completed.
-use Rattle.std.proofs.Common.{◌≡◌, inr, refl, ℕ, List, Option, Some, None}
-use Rattle.std.specs.Prelude.{IsSome, IsUtf8}
-use Rattle.toml.specs.Data.{Data}
-use Rattle.cargo_toml_parts.specs.declared.error.Error.{Error}
-use Rattle.cargo_toml_manifest.specs.Manifests.{ManifestMeaning}
-use Rattle.cargo_toml_manifest.specs.RealFiles.{IsPathFault, IsTextFault}
-use Rattle.cargo_toml_manifest.specs.declared.manifest.Manifest.{Manifest}
+use Rattle.cargo_toml_manifest.proofs.Cited.{Data, Error, IsPathFault, IsSome, IsTextFault, IsUtf8, List, Manifest, ManifestMeaning, None, Option, Some, inr, refl, ℕ, ◌≡◌}
 
 -- for a fault of its text
 pub refused_in_file : {X M : Type 0} (path text : List ℕ) (meaning : Manifest X → ManifestMeaning M) (reads : Data → Option (ManifestMeaning M))

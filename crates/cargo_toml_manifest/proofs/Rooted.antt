@@ -1,19 +1,7 @@
 -- What becomes of the bytes of a root, of what is stated of it, and of its fault.
-use Rattle.std.proofs.Common.{◌≡◌, ◌⊎◌, inl, inr, sym, ap, ◌∙◌, refl, subst, ℕ, List, Bool, true, false, ◌&&◌, Option, Some, None, Result, Ok, Err, IfOk, String, string_bytes, Vec}
-use Rattle.std.specs.Prelude.{is_some, not, option_map}
-use Rattle.std.specs.declared.{alloc.Global.Global, io.ErrorKind.TheVariants.Unsupported}
-use Rattle.toml.specs.{Data.Data, Parse.parse_document, View.view, declared.value.Value.Value}
-use Rattle.cargo_toml_parts.specs.declared.error.Error.{Error, Memory}
-use Rattle.cargo_toml_parts.specs.FaultValues.{Fault, fault_of, io, workspace_integrity}
-use Rattle.cargo_toml_parts.specs.Wrapping.{wrap}
-use Rattle.cargo_toml_manifest.specs.declared.manifest.Manifest.{Manifest}
-use Rattle.cargo_toml_manifest.specs.Manifests.{ManifestMeaning, manifest_meaning, manifest_reads}
-use Rattle.cargo_toml_manifest.specs.Refusing.{IsToldWith, MayHold, MayLose, ReadsBy}
-use Rattle.cargo_toml_manifest.specs.Roots.{IsRootAt, IsNoRoot, IsFromSlice, not_a_workspace}
-use Rattle.cargo_toml_manifest.specs.Texts.{any_tree, document_reads}
-use Rattle.cargo_toml_manifest.specs.Told.{ToldRoot, root, no_root, open_root, heard, IsRootIn, ReadsRoot, AnswersRoot}
-use Rattle.cargo_toml_discovery.proofs.Faults.{memory_alone, fault_of-memory}
-use Rattle.cargo_toml_discovery.specs.Folders.{RefusesBy}
+use Rattle.cargo_toml_manifest.proofs.Cited.{AnswersRoot, Bool, Data, Err, Error, Fault, Global, IfOk, IsFromSlice, IsNoRoot, IsRootAt, IsRootIn, IsToldWith, List, Manifest, ManifestMeaning, MayHold, MayLose, Memory, None, Ok, Option, ReadsBy, ReadsRoot, RefusesBy, Result, Some, String, ToldRoot, Unsupported, Value, Vec, any_tree, ap, document_reads, false, fault_of}
+use Rattle.cargo_toml_manifest.proofs.Cited.{fault_of-memory, heard, inl, inr, io, manifest_meaning, manifest_reads, memory_alone, no_root, not, not_a_workspace, open_root, option_map, parse_document, refl, root, string_bytes, subst, sym, true, view, workspace_integrity, wrap, ℕ, ◌&&◌, ◌∙◌, ◌≡◌, ◌⊎◌}
+use Rattle.std.specs.Prelude.{is_some}
 
 abbrev Read : Type 0
 Read = Vec ℕ Global × String Global

@@ -1,12 +1,5 @@
 -- What is read of a tree is what the text gives that spells it.
-use Rattle.std.proofs.Common.{◌≡◌, inl, inr, ℕ, List, refl, String}
-use Rattle.std.proofs.Common.{Bool, true, false, Option, Some, None, Result, Ok, Err}
-use Rattle.std.specs.{Prelude.if◌then◌else◌, BTreeMap.BTreeMap, declared.alloc.Global.Global}
-use Rattle.toml.specs.{Data.Data, Data.Members, Data.table, Parse.parse_document}
-use Rattle.toml.specs.declared.value.Value.{Value}
-use Rattle.cargo_toml_parts.specs.{declared.error.Error.Error, Reads.IsReading}
-use Rattle.cargo_toml_parts.specs.Floats.{has_no_float, RefusedIf}
-use Rattle.cargo_toml_manifest.specs.Texts.{DocumentRefuses, IsFromBytes, IsFromText, IsTree, IsTreeOfBytes, document_reads, tree_of}
+use Rattle.cargo_toml_manifest.proofs.Cited.{BTreeMap, Bool, Data, DocumentRefuses, Err, Error, Global, IsFromBytes, IsFromText, IsReading, IsTree, IsTreeOfBytes, List, Members, None, Ok, Option, RefusedIf, Result, Some, String, Value, document_reads, false, has_no_float, if◌then◌else◌, inl, inr, parse_document, refl, table, tree_of, true, ℕ, ◌≡◌}
 
 -- a tree that is told holds no float, and is the one that is spelled
 told : (b : Bool) (d e : Data) → (if b then Some d else None) ≡ Some e → (b ≡ true) × (d ≡ e)

@@ -1,15 +1,7 @@
 -- The features of a table, taken apart: their names stay in order, and each half is what it should be.
-use Rattle.std.proofs.Common.{◌≡◌, ap, refl, sym, subst, ℕ, Bool, true, false, cond, not, List, [], ◌∷◌, String, Global, string_bytes, Less, nat_cmp}
-use Rattle.std.specs.Cmp.Lexicographic.{slice_cmp}
-use Rattle.std.specs.List.{AllByRecursion}
-use Rattle.std.specs.List.Sorted.{IsStrictlySortedBy}
-use Rattle.std.specs.Map.{keys_of}
-use Rattle.std.specs.String.{string_cmp}
-use Rattle.cargo_toml_parts.specs.Reads.{pairs_meaning}
-use Rattle.cargo_toml_package.specs.declared.feature.WrittenFeature.{WrittenFeature}
-use Rattle.cargo_toml_package.specs.declared.target.FeatureDetail.{FeatureDetail}
-use Rattle.cargo_toml_package.specs.Details.{Detail, detail_of, is_plain}
-use Rattle.cargo_toml_package.specs.Features.{details_of, feature_meaning, lists_of}
+use Rattle.cargo_toml_package.proofs.Cited.{AllByRecursion, Bool, Detail, FeatureDetail, IsStrictlySortedBy, Less, List, String, WrittenFeature, [], ap, cond, detail_of, details_of, false, feature_meaning, is_plain, keys_of, lists_of, not, pairs_meaning, refl, slice_cmp, string_bytes, string_cmp, subst, sym, true, ℕ, ◌∷◌, ◌≡◌}
+use Rattle.std.proofs.Common.{Global}
+use Rattle.std.proofs.Common.{nat_cmp}
 
 -- names that ascend
 abbrev pub Ascend : List (List ℕ) → Type 0

@@ -1,16 +1,5 @@
 -- The dependency of a key.
-use Rattle.std.proofs.Common.{◌≡◌, ℕ, Bool, true, false, cond, List, [], ◌∷◌, map, refl, string_bytes, String, Some, Option, option_map}
-use Rattle.std.specs.Str.{bytes_eq}
-use Rattle.std.specs.Map.{lookup}
-use Rattle.std.specs.Ordering.{nat_cmp}
-use Rattle.std.specs.BTreeMap.{is_at, BTreeMap, get_by}
-use Rattle.std.specs.Cmp.Lexicographic.{slice_cmp}
-use Rattle.std.specs.declared.alloc.Global.{Global}
-use Rattle.std.proofs.lemmas.Map.Text.{is_eq-slice_cmp}
-use Rattle.cargo_toml_parts.specs.Reads.{map_meaning}
-use Rattle.cargo_toml_package.specs.declared.dependency.Dependency.{Dependency}
-use Rattle.cargo_toml_package.specs.Dependencies.{DependencyMeaning, dependency_meaning}
-use Rattle.cargo_toml_package.specs.InheritedDependencies.{entry_at}
+use Rattle.cargo_toml_package.proofs.Cited.{BTreeMap, Bool, Dependency, DependencyMeaning, Global, List, Option, Some, String, [], bytes_eq, cond, dependency_meaning, entry_at, false, get_by, is_at, is_eq-slice_cmp, lookup, map, map_meaning, nat_cmp, option_map, refl, slice_cmp, string_bytes, true, ℕ, ◌∷◌, ◌≡◌}
 
 choose : (b : Bool) (x : Dependency) (r : Option Dependency) (s : Option DependencyMeaning) → s ≡ option_map dependency_meaning r → cond b (Some (dependency_meaning x)) s ≡ option_map dependency_meaning (cond b (Some x) r)
 choose true x r s e = refl

@@ -1,15 +1,5 @@
 -- What the inherited dependencies become, and all of them by that.
-use Rattle.std.proofs.Common.{◌≡◌, inl, inr, ℕ, List, [], ◌∷◌, ◌++◌, refl, Option, Result, Ok, Err, ap, append_assoc, ◌∙◌}
-use Rattle.std.specs.Prelude.{Vec}
-use Rattle.std.specs.Result.{result_map_both}
-use Rattle.std.specs.declared.alloc.Global.{Global}
-use Rattle.cargo_toml_package.specs.declared.dependency.Dependency.{Dependency}
-use Rattle.cargo_toml_parts.specs.declared.error.Error.{Error}
-use Rattle.cargo_toml_parts.specs.FaultValues.{Fault}
-use Rattle.cargo_toml_parts.specs.Answers.{◌>>=◌, Gives, beside}
-use Rattle.cargo_toml_package.specs.Dependencies.{DependencyMeaning, InheritedMeaning, simple, inherited, detailed}
-use Rattle.cargo_toml_package.specs.InheritedDependencies.{Entries, inherited_entry, inherited_entries}
-use Rattle.cargo_toml_package.specs.Replacing.{made_meaning, replaced}
+use Rattle.cargo_toml_package.proofs.Cited.{Dependency, DependencyMeaning, Entries, Err, Error, Fault, Gives, Global, InheritedMeaning, List, Ok, Option, Result, Vec, [], ap, append_assoc, beside, detailed, inherited, inherited_entries, inherited_entry, inl, inr, made_meaning, refl, replaced, result_map_both, simple, ℕ, ◌++◌, ◌>>=◌, ◌∙◌, ◌∷◌, ◌≡◌}
 
 -- one more in front
 abbrev pub in_front : {A F : Type 0} → Result A F → Result (List A) F → Result (List A) F

@@ -1,13 +1,6 @@
 -- What a workspace lacks, as a fault.
-use Rattle.std.proofs.Common.{◌≡◌, ◌++◌, codes, true, String, Global, string_bytes, Result, Ok, Err, refl, ap, sym, ◌∙◌}
-use Rattle.std.specs.Result.{result_and}
-use Rattle.cargo_toml_parts.specs.Answers.{Gives}
-use Rattle.cargo_toml_parts.specs.declared.error.Error.{Error, fold-roll-Error}
-use Rattle.cargo_toml_parts.specs.declared.error.Error.TheVariants.{WorkspaceIntegrity, rolls-WorkspaceIntegrity}
-use Rattle.cargo_toml_parts.specs.FaultValues.{Fault, fault_of, fault_step, workspace_integrity}
-use Rattle.cargo_toml_package.specs.Inheriting.{any_field_left, checked_package, installed_package}
-use Rattle.cargo_toml_package.specs.Packages.{PackageMeaning}
-use Rattle.cargo_toml_package.specs.declared.inheriting.NewFields.{NewFields}
+use Rattle.cargo_toml_package.proofs.Cited.{Err, Error, Fault, Gives, NewFields, Ok, PackageMeaning, Result, String, WorkspaceIntegrity, any_field_left, ap, checked_package, codes, fault_of, fault_step, fold-roll-Error, installed_package, refl, result_and, rolls-WorkspaceIntegrity, string_bytes, sym, true, workspace_integrity, ◌++◌, ◌∙◌, ◌≡◌}
+use Rattle.std.proofs.Common.{Global}
 
 integrity : (s : String Global) → fault_of (WorkspaceIntegrity s) ≡ workspace_integrity (string_bytes s)
 integrity s = ap fault_of (sym (rolls-WorkspaceIntegrity s)) ∙ fold-roll-Error Fault fault_step _

@@ -1,16 +1,6 @@
 -- Where no field of a package is left to the workspace: each has a value, inheritance changes nothing, and discovery leaves none to it.
-use Rattle.std.proofs.Common.{◌≡◌, ℕ, List, false, IsTrue, IsSome, Bool, true, ◌||◌, Option, Some, None, Ok, refl}
+use Rattle.cargo_toml_package.proofs.Cited.{Bool, File, Inheritable, Inherited, IsFilled, IsSome, IsTrue, List, None, Ok, Option, Package, PackageMeaning, Set, Some, TemplateMeaning, any_field_left, false, field_is_left, filled_field, filled_if_there, held_package, inheritable_map, inherited_package, is_known, is_left_there, refl, true, value_of, with_template, with_template_if_there, ℕ, ◌||◌, ◌≡◌}
 use Rattle.std.specs.Prelude.{option_map}
-use Rattle.cargo_toml_parts.specs.declared.inheritable.Inheritable.{Inheritable}
-use Rattle.cargo_toml_parts.specs.declared.inheritable.Inheritable.TheVariants.{Set, Inherited}
-use Rattle.cargo_toml_parts.specs.InheritableValues.{value_of}
-use Rattle.cargo_toml_parts.specs.Inherits.{inheritable_map}
-use Rattle.cargo_toml_parts.specs.Settings.{File}
-use Rattle.cargo_toml_package.specs.Inheriting.{IsFilled, any_field_left, filled_field, filled_if_there, inherited_package, field_is_left, is_left_there, with_template, with_template_if_there}
-use Rattle.cargo_toml_package.specs.PackageAnswers.{is_known}
-use Rattle.cargo_toml_package.specs.Packages.{PackageMeaning, held_package}
-use Rattle.cargo_toml_package.specs.Templates.{TemplateMeaning}
-use Rattle.cargo_toml_package.specs.declared.package.Package.{Package}
 
 -- what a test of several things says of each
 or_left : (a b : Bool) → a || b ≡ false → a ≡ false

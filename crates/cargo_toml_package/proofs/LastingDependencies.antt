@@ -1,12 +1,5 @@
 -- Where no dependency is left to the workspace, inheritance changes nothing.
-use Rattle.std.proofs.Common.{◌≡◌, ℕ, List, [], ◌∷◌, Bool, false, Option, Result, Ok, refl, ap}
-use Rattle.std.proofs.lemmas.Bool.{or_parts}
-use Rattle.std.specs.List.{list_any}
-use Rattle.cargo_toml_parts.specs.Answers.{◌>>=◌, beside, each}
-use Rattle.cargo_toml_parts.specs.FaultValues.{Fault}
-use Rattle.cargo_toml_package.specs.Dependencies.{DependencyMeaning, simple, inherited, detailed}
-use Rattle.cargo_toml_package.specs.InheritedDependencies.{Entries, any_left, any_target_left, inherited_entries, inherited_entry, inherited_target, inherited_targets, is_left, target_left}
-use Rattle.cargo_toml_package.specs.Targets.{TargetMeaning}
+use Rattle.cargo_toml_package.proofs.Cited.{Bool, DependencyMeaning, Entries, Fault, List, Ok, Option, Result, TargetMeaning, [], any_left, any_target_left, ap, beside, detailed, each, false, inherited, inherited_entries, inherited_entry, inherited_target, inherited_targets, is_left, list_any, or_parts, refl, simple, target_left, ℕ, ◌>>=◌, ◌∷◌, ◌≡◌}
 
 -- a step that gives this leads to what follows
 then : {A B : Type 0} (step : Result A Fault) (x : A) (next : A → Result B Fault) (r : Result B Fault) → step ≡ Ok x →

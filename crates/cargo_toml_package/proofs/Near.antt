@@ -1,22 +1,7 @@
 -- Entries that are gone through beside the table that they are of.
-use Rattle.std.proofs.Common.{◌≡◌, ◌∙◌, ◌++◌, ℕ, List, [], ◌∷◌, Result, Ok, Err, None, Some, ap, refl, rules, string_bytes, String, subst, sym}
-use Rattle.std.proofs.lemmas.List.Elements.{All-head, All-tail, All-same}
-use Rattle.std.specs.BTreeMap.{BTreeMap, get_by}
-use Rattle.std.specs.Cmp.Lexicographic.{slice_cmp}
-use Rattle.std.specs.List.{All}
-use Rattle.std.specs.Ordering.{nat_cmp}
-use Rattle.std.specs.declared.alloc.Global.{Global}
-use Rattle.cargo_toml_parts.specs.FaultValues.{Fault, fault_of, fault_step, inherited_unknown_value}
-use Rattle.cargo_toml_parts.specs.declared.error.Error.{InheritedUnknownValue, fold-roll-Error}
-use Rattle.cargo_toml_parts.specs.declared.error.Error.TheOpen.{Error-F}
-use Rattle.cargo_toml_parts.specs.declared.error.Error.TheVariants.{rolls-InheritedUnknownValue}
-use Rattle.cargo_toml_parts.specs.Reads.{map_meaning}
-use Rattle.cargo_toml_package.specs.declared.dependency.Dependency.{Dependency}
-use Rattle.cargo_toml_package.specs.Dependencies.{DependencyMeaning, dependency_meaning, InheritedMeaning, simple, inherited, detailed}
-use Rattle.cargo_toml_package.specs.InheritedDependencies.{Entries, entry_at, inherited_entries, inherited_entry}
-use Rattle.cargo_toml_package.specs.Near.{AreEntriesOf}
-use Rattle.cargo_toml_package.proofs.Entries.{entry_at-map}
-use Rattle.cargo_toml_package.proofs.Inherited.{behind, behind-push, needed}
+use Rattle.cargo_toml_package.proofs.Cited.{All, All-head, All-same, All-tail, AreEntriesOf, BTreeMap, Dependency, DependencyMeaning, Entries, Err, Error-F, Fault, Global, InheritedMeaning, InheritedUnknownValue, List, None, Ok, Result, Some, String, [], ap, dependency_meaning, detailed, entry_at, fault_of, fault_step, fold-roll-Error}
+use Rattle.cargo_toml_package.proofs.Cited.{get_by, inherited, inherited_entries, inherited_entry, inherited_unknown_value, map_meaning, nat_cmp, refl, rolls-InheritedUnknownValue, rules, simple, slice_cmp, string_bytes, subst, sym, ℕ, ◌++◌, ◌∙◌, ◌∷◌, ◌≡◌}
+use Rattle.cargo_toml_package.proofs.{Entries.entry_at-map, Inherited.behind, Inherited.behind-push, Inherited.needed}
 
 -- a pair that a map has at its key
 abbrev pub IsAt : BTreeMap (String Global) Dependency → String Global × Dependency → Type 0

@@ -1,7 +1,5 @@
 -- A closure that puts values of an iterator in the place of a map's, one after the other.
-use Rattle.std.proofs.Common.{◌≡◌, ℕ, Bool, true, cond, List, [], ◌∷◌, map, ap, sym, ◌∙◌, String, string_bytes}
-use Rattle.std.specs.Map.Calls.{RetainsPairs}
-use Rattle.std.specs.declared.alloc.Global.{Global}
+use Rattle.cargo_toml_package.proofs.Cited.{Bool, Global, List, RetainsPairs, String, [], ap, cond, map, string_bytes, sym, true, ℕ, ◌∙◌, ◌∷◌, ◌≡◌}
 
 -- what the closure does at a value, where `rest` are those that it still holds; and what a list becomes by that
 pub record Puts {F X M R : Type 0} (meaning : X → M) (rest : F → List R) (next : M → List R → M) (left : M → List R → List R)

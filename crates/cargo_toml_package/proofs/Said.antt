@@ -1,8 +1,5 @@
 -- Tables that say whether they are inherited, and tables that do not.
-use Rattle.std.proofs.Common.{◌≡◌, Bool, true, false, Option, Some, None, option_and_then, option_map, is_some, codes, refl}
-use Rattle.toml.specs.Data.{Data, Members, as_bool, get_member}
-use Rattle.cargo_toml_parts.specs.Reads.{given_of, required_at, required_of}
-use Rattle.cargo_toml_package.specs.Dependencies.{DetailMeaning, InheritedMeaning, detail_of_table, detailed, inherited, inherited_of, inherited_or, says_workspace, strict_of}
+use Rattle.cargo_toml_package.proofs.Cited.{Bool, Data, DetailMeaning, InheritedMeaning, Members, None, Option, Some, as_bool, codes, detail_of_table, detailed, false, get_member, given_of, inherited, inherited_of, inherited_or, is_some, option_and_then, option_map, refl, required_at, required_of, says_workspace, strict_of, true, ◌≡◌}
 
 -- a table that says whether it is inherited reads as an inherited dependency or not at all
 at_flag : {A B R : Type 0} (w : Option Bool) (a : Option A) (b : Option B) (f : A → B → Bool → R) → is_some w ≡ true →

@@ -1,19 +1,9 @@
 -- A copy of a dependency holds the same.
-use Rattle.std.proofs.Common.{◌≡◌, ℕ, List, String, string_bytes, ap}
-use Rattle.toml.specs.Data.{Data}
-use Rattle.toml.specs.View.{view}
-use Rattle.toml.specs.declared.value.Value.{Value}
-use Rattle.cargo_toml_parts.specs.Versions.{requirement_meaning}
-use Rattle.cargo_toml_parts.proofs.SameCopies.{zip_same, option_same, requirement_same}
-use Rattle.std.specs.declared.alloc.Global.{Global}
-use Rattle.cargo_toml_package.specs.declared.dependency.Dependency.{Dependency}
-use Rattle.cargo_toml_package.specs.declared.dependency.Dependency.TheVariants.{Simple, Inherited, Detailed}
-use Rattle.cargo_toml_package.specs.declared.dependency.DependencyDetail.{DependencyDetail}
-use Rattle.cargo_toml_package.specs.declared.dependency.InheritedDependencyDetail.{InheritedDependencyDetail}
+use Rattle.cargo_toml_package.proofs.Cited.{Data, Dependency, DependencyDetail, Detailed, Global, InheritedDependencyDetail, List, Simple, String, Value, ap, dependency_meaning, detail_meaning, detailed, inherited, inherited_meaning, option_same, requirement_meaning, requirement_same, simple, string_bytes, view, zip_same, ℕ, ◌≡◌}
+use Rattle.cargo_toml_package.specs.declared.dependency.Dependency.TheVariants.{Inherited}
 use Rattle.cargo_toml_package.specs.contracts.dependency.DependencyClone.TheImpl as dependency
 use Rattle.cargo_toml_package.specs.contracts.dependency.DependencyDetailClone.TheImpl as detail
 use Rattle.cargo_toml_package.specs.contracts.dependency.InheritedDependencyDetailClone.TheImpl as inherited_detail
-use Rattle.cargo_toml_package.specs.Dependencies.{inherited_meaning, detail_meaning, dependency_meaning, simple, inherited, detailed}
 
 pub pair_same : (x y : String Global × Value) → (string_bytes y.0 ≡ string_bytes x.0) × (view y.1 ≡ view x.1) → ◌≡◌ {A = List ℕ × Data} (string_bytes y.0, view y.1) (string_bytes x.0, view x.1)
 pair_same x y h = let a = h.0 in let b = h.1 in cc

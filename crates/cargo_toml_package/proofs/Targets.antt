@@ -1,11 +1,5 @@
 -- What targets become, as far as it is made.
-use Rattle.std.proofs.Common.{◌≡◌, ◌⊎◌, inl, inr, ℕ, List, [], ◌∷◌, ◌++◌, refl, Ok, Err, Option}
-use Rattle.cargo_toml_parts.specs.declared.error.Error.{Error, Memory}
-use Rattle.cargo_toml_parts.specs.FaultValues.{Fault, fault_of}
-use Rattle.cargo_toml_package.specs.declared.workspace_dependencies.targets.NewTarget.{NewTarget}
-use Rattle.cargo_toml_package.specs.InheritedDependencies.{Entries, inherited_target, inherited_targets}
-use Rattle.cargo_toml_package.specs.Replacing.{replaced_target, replaced_targets}
-use Rattle.cargo_toml_package.specs.Targets.{TargetMeaning}
+use Rattle.cargo_toml_package.proofs.Cited.{Entries, Err, Error, Fault, List, Memory, NewTarget, Ok, Option, TargetMeaning, [], fault_of, inherited_target, inherited_targets, inl, inr, refl, replaced_target, replaced_targets, ℕ, ◌++◌, ◌∷◌, ◌≡◌, ◌⊎◌}
 
 -- the targets are those of which this was made, and the rest
 abbrev pub IsMade : Option Entries → List ℕ → List (List ℕ × TargetMeaning) → List NewTarget → List (List ℕ × TargetMeaning) → Type 0

@@ -1,10 +1,6 @@
 -- A text that grows by a piece for each element, and what is told of each.
-use Rattle.std.proofs.Common.{◌≡◌, ◌++◌, ◌∙◌, IfSome, List, [], ◌∷◌, None, Option, Some, ap, append-nil, append_assoc, inl, inr, is_some, refl, subst, sym, true}
-use Rattle.std.proofs.{lemmas.Bool.false≢true, lemmas.Bool.or_cases, lemmas.Map.Text.is_eq-slice_cmp, lemmas.Slice.Eq.bytes_eq-Decides}
-use Rattle.std.specs.{Borrow.Bor, BTreeMap.is_at, BTreeSet.BTreeSet, Cmp.Lexicographic.slice_cmp, HashMap.HashMap, List.AllByRecursion, List.flat_map, List.list_any, Ordering.nat_cmp}
-use Rattle.cargo_toml_features.specs.Views.{set_has, value_at}
-use Rattle.cargo_toml_graph.specs.Action.{Text}
-use Rattle.cargo_toml_program.specs.Lines.{AddsLines, TextsAscend, line_at}
+use Rattle.cargo_toml_program.proofs.Cited.{AddsLines, AllByRecursion, BTreeSet, HashMap, IfSome, List, None, Option, Some, Text, TextsAscend, [], ap, append-nil, append_assoc, bytes_eq-Decides, false≢true, flat_map, inl, inr, is_at, is_eq-slice_cmp, is_some, line_at, list_any, nat_cmp, or_cases, refl, set_has, slice_cmp, subst, sym, true, value_at, ◌++◌, ◌∙◌, ◌∷◌, ◌≡◌}
+use Rattle.std.specs.Borrow.{Bor}
 
 -- none is left
 pub ends : {X : Type 0} (show : X → Text) (whole text : Text) (left : List X) → left ≡ [] → text ++ flat_map show left ≡ whole → text ≡ whole

@@ -1,9 +1,5 @@
 -- The lines of products that are gone through by their places.
-use Rattle.std.proofs.Common.{◌≡◌, ◌++◌, ◌∙◌, ◌+◌, ◌<◌, ℕ, List, [], ◌∷◌, get_or, length, map, take, sym, ap, append_assoc, append-nil}
-use Rattle.std.proofs.lemmas.List.{map_push, take_more}
-use Rattle.std.proofs.lemmas.List.Concat.{flat_map-append}
-use Rattle.std.specs.List.{flat_map}
-use Rattle.cargo_toml_graph.specs.Action.{Text}
+use Rattle.cargo_toml_program.proofs.Cited.{List, Text, [], ap, append-nil, append_assoc, flat_map, flat_map-append, get_or, length, map, map_push, sym, take, take_more, ℕ, ◌++◌, ◌+◌, ◌<◌, ◌∙◌, ◌∷◌, ◌≡◌}
 
 -- the line of one more
 pub one_more : {X Y : Type 0} (line : Y → Text) (g : X → Y) (start old new : Text) (xs : List X) (i : ℕ) (x : X) → i < length xs → x ≡ get_or xs i x

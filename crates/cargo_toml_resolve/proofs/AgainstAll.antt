@@ -1,9 +1,6 @@
 -- An answer beside one of a filter that keeps every name, beside another by its own filter, and beside what holds the same.
-use Rattle.std.proofs.Common.{arith, ◌≡◌, ◌&&◌, not, Bool, true, List, Bor, Option, codes, nat_eq, IsFalse, IsSome, IsTrue, is_some}
-use Rattle.{std.specs.List.starts_with, cargo_toml_graph.proofs.Members.resolved_alike}
-use Rattle.cargo_toml_graph.specs.{Action.Text, Admitted.Listed, Graph.Table, Graph.IsResolved, Graph.Resolution, Kept.KeepsEnabling, Kept.LosesNothing, Kept.NoneIsLeft, Removal.is_removed, Removal.SameKept}
-use Rattle.cargo_toml_features.{specs.Marks.NamedDetails, specs.Recorded.Entry, specs.Resolved.Answer, specs.Resolved.IsAnswer, specs.Resolved.IsAnswerWithout, specs.Resolved.table_of, proofs.Agreement.settled}
-use Rattle.cargo_toml_resolve.{specs.Filter.Asked, specs.Removed.AgreesWithAll, specs.Removed.IsAnswerBy, specs.Removed.IsRemovedBy, proofs.ByFilter.answer_alike}
+use Rattle.cargo_toml_resolve.proofs.Cited.{AgreesWithAll, Answer, Asked, Bool, Bor, Entry, IsAnswer, IsAnswerBy, IsAnswerWithout, IsFalse, IsRemovedBy, IsResolved, IsSome, IsTrue, KeepsEnabling, List, Listed, LosesNothing, NamedDetails, NoneIsLeft, Option, Resolution, SameKept, Table, Text, arith, codes, is_removed, is_some, nat_eq, not, resolved_alike, settled, starts_with, table_of, true, ◌&&◌, ◌≡◌}
+use Rattle.cargo_toml_resolve.proofs.ByFilter.{answer_alike}
 use Rattle.cargo_toml_graph.proofs.AgainstAll as graph
 use Rattle.cargo_toml_graph.proofs.Closure as closure
 

@@ -1,12 +1,8 @@
 -- What holds of a graph of numbers holds of the table that it stands for, and so do its features.
-use Rattle.std.proofs.Common.{◌≡◌, ◌⊎◌, ◌↔◌, ◌<◌, ℕ, Bool, true, false, List, length, IsTrue, Some, refl, sym, subst, arith, Option, None, Bor, is_some, ap, inl, inr, ◌∙◌}
-use Rattle.std.{proofs.lemmas.Bool.cases_Bool, proofs.lemmas.Bool.false≢true, specs.HashMap.HashMap, specs.Option.IsSomeAnd, specs.Option.option_map_or}
-use Rattle.cargo_toml_graph.specs.{Action.Text, Action.Action, Action.IsJoin, Admitted.is_below, Graph.Table, Graph.Edge, Graph.ReachesThrough, Graph.KeepsName, Graph.IsEnabledBy, Graph.Says, Graph.IsKept, Graph.IsResolved, Reach.Reaches}
-use Rattle.cargo_toml_graph.{specs.Reach.Gathers, specs.Reach.GathersLabel, specs.Reach.Reaches.edge, specs.Reach.Reaches.through, specs.Redirects.RedirectsTo, proofs.OneRemoval.target, proofs.Joins.join_alike}
-use Rattle.cargo_toml_resolve.specs.{Numbers.Leads, Numbers.IsWanted, Numbers.IsPassed, Numbers.IsUnder, Numbers.IsRedirect, Numbers.KeepsLabel, Numbers.PassesAny, NumberedTables.HasNumber, NumberedTables.IsNaming}
-use Rattle.cargo_toml_resolve.specs.{NumberedTables.IsNumbered, Enabling.EnablesThrough, Parts.deeds_of, Parts.place_action, Parts.place_deeds, Parts.place_enabler, Parts.place_names, KeptFeatures.IsKeptFeature, KeptFeatures.StandFor}
-use Rattle.cargo_toml_resolve.{specs.Holding.Holds, proofs.InPlace.actions_at, proofs.InPlace.names_at}
-use Rattle.cargo_toml_features.{specs.Places.nth_text, specs.declared.features.Feature.Feature, specs.Views.action_at, specs.Views.set_has, specs.Views.resolution_of, specs.Views.value_at, proofs.ByPlace.lower_place}
+use Rattle.cargo_toml_resolve.proofs.Cited.{Action, Bool, Bor, Edge, EnablesThrough, Feature, Gathers, GathersLabel, HasNumber, HashMap, IsEnabledBy, IsJoin, IsKept, IsKeptFeature, IsNaming, IsNumbered, IsPassed, IsRedirect, IsResolved, IsSomeAnd, IsTrue, IsUnder, IsWanted, KeepsLabel, KeepsName, Leads, List, None, Option, PassesAny, Reaches, ReachesThrough, RedirectsTo, Says, Some, StandFor, Table, Text, action_at, ap}
+use Rattle.cargo_toml_resolve.proofs.Cited.{arith, cases_Bool, deeds_of, edge, false, false≢true, inl, inr, is_below, is_some, join_alike, length, lower_place, nth_text, option_map_or, place_action, place_deeds, place_enabler, place_names, refl, resolution_of, set_has, subst, sym, target, through, true, value_at, ℕ, ◌<◌, ◌↔◌, ◌∙◌, ◌≡◌, ◌⊎◌}
+use Rattle.cargo_toml_resolve.proofs.InPlace.{actions_at, names_at}
+use Rattle.cargo_toml_resolve.specs.Holding.{Holds}
 
 module _ (t : Table) (Removed : Text → Type 0) (texts : List Text) (edges names : List (List ℕ)) (flags : List Bool)
     (h : IsNumbered t Removed texts edges names flags) where

@@ -1,12 +1,7 @@
 -- Binaries that are put into the lists of features, and that removed places pass on, turn after turn.
-use Rattle.std.proofs.Common.{◌≡◌, ◌⊎◌, ◌<◌, ◌≤◌, ◌+◌, ◌&&◌, ◌||◌, ℕ, zero, suc, true, false, Bool, List, [], ◌∷◌, cond, length, map, nat_eq, not, take, Bor, refl, sym, ap, subst, inl, inr, ◌∙◌, arith, eq-eqb, eqb-true, ◌++◌, slice_get}
-use Rattle.std.proofs.Common.{Some, bytes_eq, IsTrue, ◌↔◌, get_or, set, length-set, Option, OnOk, Result, if◌then◌else◌}
-use Rattle.{std.proofs.Math.Bool.or-false, std.proofs.Math.Seq.map-set_same, cargo_toml_features.specs.declared.features.Feature.Feature, cargo_toml_features.specs.Views.set_has}
-use Rattle.std.proofs.lemmas.{Bool.cases_Bool, Bool.false≢true, Bool.or_cases, Bool.or_left, Bool.or_right, Bool.cases_eq, Bool.Decides.nat_tests, Slice.Eq.bytes_eq-Decides, Option.same_Some, Option.slice_get_read, List.map_more}
-use Rattle.std.{proofs.lemmas.List.Folds.list_any-append, specs.List.list_any, specs.List.slice_index_or, specs.List.zip, specs.BTreeSet.BTreeSet, specs.BTreeSet.btree_set_len, specs.Option.option_map_or}
-use Rattle.cargo_toml_graph.{specs.Action.Text, specs.Reach.Among, specs.Removal.put_each, specs.Removal.lists_text, proofs.BinLists.among-true, proofs.BinLists.put_puts}
-use Rattle.cargo_toml_resolve.specs.{Numbers.IsWanted, Numbers.Leads, Passing.AreKnown, Passing.bins_of, Passing.passed_below, Passing.passed_from, Passing.Knows, Passing.MayKnow, Passing.Puts, Texts.texts_now, Parts.but_bins}
-use Rattle.cargo_toml_resolve.{specs.Parts.with_said, proofs.InPlace.alike_len, proofs.InPlace.set_here, proofs.InPlace.set_others}
+use Rattle.cargo_toml_resolve.proofs.Cited.{Among, AreKnown, BTreeSet, Bool, Bor, Feature, IsTrue, IsWanted, Knows, Leads, List, MayKnow, OnOk, Option, Puts, Result, Some, Text, [], among-true, ap, arith, bins_of, btree_set_len, but_bins, bytes_eq, bytes_eq-Decides, cases_Bool, cases_eq, cond, eq-eqb, eqb-true, false, false≢true, get_or, if◌then◌else◌, inl, inr, length, length-set, list_any, list_any-append, lists_text, map, map-set_same}
+use Rattle.cargo_toml_resolve.proofs.Cited.{map_more, nat_eq, nat_tests, not, option_map_or, or-false, or_cases, or_left, or_right, passed_below, passed_from, put_each, put_puts, refl, same_Some, set, set_has, slice_get, slice_get_read, slice_index_or, subst, suc, sym, take, texts_now, true, with_said, zero, zip, ℕ, ◌&&◌, ◌++◌, ◌+◌, ◌<◌, ◌||◌, ◌↔◌, ◌∙◌, ◌∷◌, ◌≡◌, ◌≤◌, ◌⊎◌}
+use Rattle.cargo_toml_resolve.proofs.InPlace.{alike_len, set_here, set_others}
 
 -- a test tells whether a number stands in a list
 pub stands_true : (xs : List ℕ) (y : ℕ) → Among xs y → list_any (nat_eq y) xs ≡ true

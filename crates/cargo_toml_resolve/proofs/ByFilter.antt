@@ -1,13 +1,7 @@
 -- Features that the filter refuses, by their flags, and answers without them.
-use Rattle.std.proofs.Common.{◌≡◌, ◌↔◌, ◌&&◌, ◌||◌, ◌<◌, not, ℕ, suc, Bool, true, false, List, [], ◌∷◌, length, Bor, Option, Some, None, IfSome, IsTrue, bytes_eq, codes, nat_eq, arith, refl, sym, inl, inr, is_some, ◌∙◌}
-use Rattle.std.proofs.lemmas.{Bool.false≢true, Bool.and_from, Bool.and_parts, Bool.or_cases, Bool.or_left, Bool.or_right, Slice.Eq.bytes_eq-Decides}
-use Rattle.std.specs.{List.slice_index_or, List.starts_with, BTreeSet.BTreeSet, HashMap.HashMap}
-use Rattle.{cargo_toml_features.specs.Views.value_at, cargo_toml_resolve.proofs.InPlace.has_place}
-use Rattle.cargo_toml_graph.specs.{Action.Text, Admitted.Listed, Admitted.is_below, Graph.Table, Graph.IsKept, Redirects.RedirectsTo, Removal.is_removed}
-use Rattle.cargo_toml_graph.proofs.{Members.label_within, Members.resolved_alike, PassedBins.grown_weaker, PassedBins.passed_alike}
-use Rattle.cargo_toml_features.specs.{declared.features.Feature.Feature, InOrder.AreInOrder, InOrder.AreTable, InOrder.names_of, InOrder.table_among, Marks.NamedDetails, Marks.details_listed, Recorded.Entry, Resolved.Answer}
-use Rattle.cargo_toml_features.{specs.Resolved.IsAnswer, specs.Resolved.IsAnswerWithout, specs.Resolved.table_of, specs.Places.nth_text, proofs.Agreement.told_by_listed}
-use Rattle.cargo_toml_resolve.specs.{Numbers.IsWanted, Filter.Answers, Filter.Asked, Filter.HasNameFilter, Filter.IsFlagOf, Filter.IsHiddenName, Filter.FilterTells, Numbering.IsFlagged, Removed.IsAnswerBy, Removed.IsRemovedBy, KeptFeatures.AreKeptBy, KeptFeatures.AreKept}
+use Rattle.cargo_toml_resolve.proofs.Cited.{Answer, Answers, AreInOrder, AreKept, AreKeptBy, AreTable, Asked, BTreeSet, Bool, Bor, Entry, Feature, FilterTells, HasNameFilter, HashMap, IfSome, IsAnswer, IsAnswerBy, IsAnswerWithout, IsFlagOf, IsFlagged, IsHiddenName, IsKept, IsRemovedBy, IsTrue, IsWanted, List, Listed, NamedDetails, None, Option, RedirectsTo, Some, Table, Text, [], and_from, and_parts, arith, bytes_eq, bytes_eq-Decides, codes}
+use Rattle.cargo_toml_resolve.proofs.Cited.{details_listed, false, false≢true, grown_weaker, inl, inr, is_below, is_removed, is_some, label_within, length, names_of, nat_eq, not, nth_text, or_cases, or_left, or_right, passed_alike, refl, resolved_alike, slice_index_or, starts_with, suc, sym, table_among, table_of, told_by_listed, true, value_at, ℕ, ◌&&◌, ◌<◌, ◌||◌, ◌↔◌, ◌∙◌, ◌∷◌, ◌≡◌}
+use Rattle.cargo_toml_resolve.proofs.InPlace.{has_place}
 
 -- the flag of the feature of this name, by looking it up
 abbrev pub flag_at : List Feature → List Bool → Text → Bool

@@ -1,10 +1,7 @@
 -- Hashed maps get one value after another.
-use Rattle.std.proofs.Common.{◌≡◌, ◌<◌, ◌+◌, ℕ, zero, suc, Bool, true, false, cond, List, [], ◌∷◌, length, drop, Option, Some, None, Bor, bytes_eq, is_some, slice_get, refl, sym, ap, subst, inl, inr, ◌∙◌, arith, if◌then◌else◌, get_or, ◌≤◌}
-use Rattle.std.{proofs.Math.Seq.drop-cons, specs.HashMap.HashMap, specs.Option.option_or}
-use Rattle.std.proofs.lemmas.{Bool.cases_Bool, Bool.cases_eq, Bool.false_from_ne_true, List.length-drop, Slice.Eq.bytes_eq-Decides, Option.slice_get_read}
-use Rattle.cargo_toml_graph.{specs.Action.Text, specs.Reach.Among, specs.Ascending.Ascend, proofs.RedirectsInOrder.below_one_way, proofs.SortedTexts.first_below, proofs.SortedTexts.others_ascend}
-use Rattle.cargo_toml_features.specs.{declared.features.Feature.Feature, InOrder.AreInOrder, InOrder.feature_at, InOrder.names_of, Views.value_at, Slots.held_among}
-use Rattle.cargo_toml_resolve.{specs.Placed.HasThose, specs.Texts.texts_now, proofs.InPlace.one_place}
+use Rattle.cargo_toml_resolve.proofs.Cited.{Among, AreInOrder, Ascend, Bool, Bor, Feature, HasThose, HashMap, List, None, Option, Some, Text, [], ap, arith, below_one_way, bytes_eq, bytes_eq-Decides, cases_Bool, cases_eq, cond, drop, drop-cons, false, false_from_ne_true, feature_at, first_below, get_or, held_among}
+use Rattle.cargo_toml_resolve.proofs.Cited.{if◌then◌else◌, inl, inr, is_some, length, length-drop, names_of, option_or, others_ascend, refl, slice_get, slice_get_read, subst, suc, sym, texts_now, true, value_at, zero, ℕ, ◌+◌, ◌<◌, ◌∙◌, ◌∷◌, ◌≡◌, ◌≤◌}
+use Rattle.cargo_toml_resolve.proofs.InPlace.{one_place}
 
 -- the map has what is said of the features in the places below n of which Here holds
 module _ {V S : Type 0} (vs : List Feature) (Here : ℕ → Type 0) (Is : ℕ → Feature → V → Type 0) (n : ℕ) (m : HashMap (Bor Text) V S) where

@@ -1,11 +1,7 @@
 -- The texts of a set, as a list, lists that are gathered of sets, and sets of the texts of numbers.
-use Rattle.std.proofs.Common.{arith, ◌≡◌, ◌↔◌, List, [], ◌∷◌, map, IsTrue, Result, Ok, Err, IfOk, Vec, Global, Bor, subst, sym, inl, inr, ◌∙◌, ◌⊎◌, ◌++◌, ◌||◌, ◌+◌, ◌<◌, ℕ, Bool, length, get_or, take, bytes_eq, refl, ap}
-use Rattle.std.proofs.lemmas.{Bool.false≢true, Bool.or_left, Bool.or_right, Bool.or_cases, Map.Text.is_eq-slice_cmp, Slice.Eq.bytes_eq-Decides, List.map_push, List.length-map, List.take_more, List.Folds.list_any-append, Grind.common_steps}
-use Rattle.std.proofs.Math.Bool.{or-false}
-use Rattle.std.specs.{BTreeMap.is_at, BTreeSet.BTreeSet, Cmp.Lexicographic.slice_cmp, List.list_any, List.Sorted.IsStrictlySortedBy, Ordering.nat_cmp}
-use Rattle.cargo_toml_graph.{specs.Action.Text, specs.Reach.Among, specs.Ascending.Ascend, proofs.SortedTexts.texts_ascend, proofs.BinLists.is_among-true, proofs.BinLists.among-true}
-use Rattle.cargo_toml_features.specs.{Views.set_has, Places.nth_text}
-use Rattle.cargo_toml_resolve.{specs.Texts.texts_now, specs.Holding.HasTextsOf, specs.Holding.IsTextOf, proofs.Steps.among_at, proofs.Steps.among_push, proofs.Steps.item_at}
+use Rattle.cargo_toml_resolve.proofs.Cited.{Among, Ascend, BTreeSet, Bool, Bor, Err, Global, HasTextsOf, IfOk, IsStrictlySortedBy, IsTextOf, IsTrue, List, Ok, Result, Text, Vec, [], among-true, ap, arith, bytes_eq, bytes_eq-Decides, common_steps, false≢true, get_or, inl, inr, is_among-true, is_at, is_eq-slice_cmp, length, length-map, list_any}
+use Rattle.cargo_toml_resolve.proofs.Cited.{list_any-append, map, map_push, nat_cmp, nth_text, or-false, or_cases, or_left, or_right, refl, set_has, slice_cmp, subst, sym, take, take_more, texts_ascend, texts_now, ℕ, ◌++◌, ◌+◌, ◌<◌, ◌||◌, ◌↔◌, ◌∙◌, ◌∷◌, ◌≡◌, ◌⊎◌}
+use Rattle.cargo_toml_resolve.proofs.Steps.{among_at, among_push, item_at}
 
 abbrev texts : List (Bor Text) → List Text
 texts xs = map (λ t. t.now) xs

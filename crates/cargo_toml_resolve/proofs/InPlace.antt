@@ -1,12 +1,6 @@
 -- Features by their parts and by their places.
-use Rattle.std.proofs.Common.{◌≡◌, ◌≢◌, ◌<◌, ℕ, Bool, true, false, cond, List, [], ◌∷◌, length, map, set, slice_get, Option, Some, None, option_map, bytes_eq, refl, sym, ap, subst, ◌∙◌, arith, length-set, ◌↔◌, if◌then◌else◌, zero, suc}
-use Rattle.std.proofs.Common.{IfSome, IsTrue, is_some, inl, inr}
-use Rattle.std.proofs.lemmas.{Bool.cases_lt, Bool.false≢true, List.length-map, List.get_or-set_same, List.get_or-set_other, Option.same_Some, Option.slice_get-map, Option.slice_get-get_or, Option.slice_get_past, Option.slice_get_within}
-use Rattle.std.{proofs.lemmas.Option.slice_get_cases, proofs.lemmas.Simd.map-map, proofs.lemmas.Slice.Eq.bytes_eq-Decides, specs.List.find, specs.List.slice_index_or, specs.Option.option_map_or}
-use Rattle.cargo_toml_graph.{specs.Action.Text, specs.Admitted.is_below, specs.Graph.Table, specs.Graph.Edge, specs.Reach.Among, proofs.RedirectsInOrder.below_one_way, proofs.SortedTexts.first_below, proofs.SortedTexts.others_ascend}
-use Rattle.cargo_toml_features.specs.{declared.features.Feature.Feature, InOrder.feature_at, InOrder.names_of, InOrder.AreInOrder, InOrder.AreTable, InOrder.HaveNoEnablers, Places.nth_text, Views.action_at, Views.set_has}
-use Rattle.cargo_toml_features.proofs.{ByPlace.once, TextKeys.none_in}
-use Rattle.cargo_toml_resolve.specs.Parts.{AreAlikeIn, Said, with_said, LeadsAt, deeds_of, place_action, place_enabler, place_names}
+use Rattle.cargo_toml_resolve.proofs.Cited.{Among, AreAlikeIn, AreInOrder, AreTable, Bool, Edge, Feature, HaveNoEnablers, IfSome, IsTrue, LeadsAt, List, None, Option, Said, Some, Table, Text, [], action_at, ap, arith, below_one_way, bytes_eq, bytes_eq-Decides, cases_lt, cond, deeds_of, false, false≢true, feature_at, find, first_below, get_or-set_other, get_or-set_same, if◌then◌else◌, inl, inr, is_below, is_some, length, length-map, length-set, map}
+use Rattle.cargo_toml_resolve.proofs.Cited.{map-map, names_of, none_in, nth_text, once, option_map, option_map_or, others_ascend, place_action, place_enabler, place_names, refl, same_Some, set, set_has, slice_get, slice_get-get_or, slice_get-map, slice_get_cases, slice_get_past, slice_get_within, slice_index_or, subst, suc, sym, true, with_said, zero, ℕ, ◌<◌, ◌↔◌, ◌∙◌, ◌∷◌, ◌≡◌, ◌≢◌}
 
 pub set_here : {X : Type 0} (xs : List X) (i : ℕ) (x : X) → i < length xs → slice_get (set xs i x) i ≡ Some x
 set_here xs i x lt = slice_get-get_or (set xs i x) i x (subst (λ n. i < n) (sym (length-set xs i x)) lt) ∙ ap Some (get_or-set_same xs i x x lt)

@@ -1,14 +1,7 @@
 -- Enablers that features learn, place by place, and what is kept where no feature is removed.
-use Rattle.std.proofs.Common.{◌≡◌, ◌≢◌, ◌↔◌, ◌⊎◌, ◌<◌, ◌+◌, ◌||◌, ◌∷◌, ℕ, Bool, false, true, List, [], length, map, get_or, set, slice_get, Option, Some, None, Bor, IsTrue, IfSome, is_some, option_map, bytes_eq, refl, sym, ap, subst, inl}
-use Rattle.{std.proofs.Common.inr, std.proofs.Common.◌∙◌, std.proofs.Common.arith, std.proofs.Common.IfOk, std.proofs.Common.Result, std.proofs.Math.Seq.map-set_same}
-use Rattle.std.proofs.lemmas.{Bool.cases_eq, Bool.false≢true, Bool.or_cases, Bool.or_left, Bool.or_right, Bool.false_from_ne_true, List.length-map, Option.slice_get_read, Slice.Eq.bytes_eq-Decides}
-use Rattle.std.specs.{BTreeSet.BTreeSet, BTreeSet.btree_set_len, BTreeMap.btree_map_len, BTreeMap.is_at, Cmp.Lexicographic.slice_cmp, Map.lookup, Ordering.nat_cmp, HashMap.HashMap, Option.option_map_or}
-use Rattle.cargo_toml_graph.specs.{Bins.ArePassedOn, Ascending.Ascend, Action.Text, Graph.Edge, Graph.IsPlain, Graph.IsUnremoved, Graph.Table, Reach.Among, Admitted.is_below, Redirects.RedirectsTo}
-use Rattle.cargo_toml_graph.proofs.{SortedTexts.none_ascend, Unremoved.resolved_unremoved}
-use Rattle.cargo_toml_features.specs.{Places.nth_text, declared.features.DepAction.DepAction, declared.features.Feature.Feature, InOrder.AreInOrder, InOrder.AreTable, InOrder.HaveNoEnablers, InOrder.feature_at, InOrder.names_of}
-use Rattle.cargo_toml_features.{specs.InOrder.resolution_among, specs.Views.action_at, specs.Views.action_of, specs.Views.set_has, specs.Views.value_at, specs.Views.resolution_of, proofs.TextKeys.none_in}
-use Rattle.cargo_toml_resolve.specs.{Enabling.AreSameButEnablers, Enabling.GainEnabler, Enabling.Leader, Enabling.LeaderBelow, Enabling.LeadsTo, Enabling.LearnBy, Enabling.LearnEach, KeptFeatures.AreKept, Parts.LeadsAt, Parts.but_enablers}
-use Rattle.cargo_toml_resolve.specs.{Parts.deeds_of, Parts.place_enabler, Parts.said_of, Parts.with_said, Texts.texts_now}
+use Rattle.cargo_toml_resolve.proofs.Cited.{Among, AreInOrder, AreKept, ArePassedOn, AreSameButEnablers, AreTable, Ascend, BTreeSet, Bool, Bor, DepAction, Edge, Feature, GainEnabler, HashMap, HaveNoEnablers, IfOk, IfSome, IsPlain, IsTrue, IsUnremoved, Leader, LeaderBelow, LeadsAt, LeadsTo, LearnBy, LearnEach, List, None, Option, RedirectsTo, Result, Some, Table, Text, [], action_at}
+use Rattle.cargo_toml_resolve.proofs.Cited.{action_of, ap, arith, btree_map_len, btree_set_len, but_enablers, bytes_eq, bytes_eq-Decides, cases_eq, deeds_of, false, false_from_ne_true, false≢true, feature_at, get_or, inl, inr, is_at, is_below, is_some, length, length-map, lookup, map, map-set_same, names_of, nat_cmp, none_ascend, none_in}
+use Rattle.cargo_toml_resolve.proofs.Cited.{nth_text, option_map, option_map_or, or_cases, or_left, or_right, place_enabler, refl, resolution_among, resolution_of, resolved_unremoved, said_of, set, set_has, slice_cmp, slice_get, slice_get_read, subst, sym, texts_now, true, value_at, with_said, ℕ, ◌+◌, ◌<◌, ◌||◌, ◌↔◌, ◌∙◌, ◌∷◌, ◌≡◌, ◌≢◌, ◌⊎◌}
 use Rattle.cargo_toml_resolve.proofs.InPlace.{edge_at, found_at, has_place, no_enabler, alike_found, alike_len, alike_named, alike_place, names_alike, set_here, set_others}
 
 -- first these texts, then those

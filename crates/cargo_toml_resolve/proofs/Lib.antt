@@ -13,3 +13,4 @@ pub mod ByFilter
 pub mod BinTurns
 pub mod Learning
 pub mod TakenOver
+mod Cited

@@ -1,15 +1,11 @@
 -- Texts that get numbers, and rows of numbers, one after another.
-use Rattle.std.proofs.Common.{◌≡◌, ◌≢◌, ◌↔◌, ◌⊎◌, ◌<◌, ◌≤◌, ◌+◌, ℕ, zero, suc, Bool, true, false, List, [], ◌∷◌, ◌++◌, length, map, take, get_or, replicate, slice_get, IsTrue, Option, Some, None, is_some, option_map, Bor, refl, sym, ap}
-use Rattle.std.proofs.Common.{subst, inl, inr, ◌∙◌, arith, if◌then◌else◌, btree_map_len, IfSome}
-use Rattle.std.proofs.lemmas.{Bool.false≢true, Bool.cases_lt, Bool.cases_eq, List.length-map, List.map_push, List.take_all, List.get_or-take, List.get_or_append_left, List.length-append, List.length-take-le, List.take-map, List.take-take, Map.Text.is_eq-slice_cmp, Slice.Eq.bytes_eq-Decides}
-use Rattle.std.{proofs.lemmas.List.take_at, proofs.lemmas.List.get_or_past, proofs.lemmas.Map.Made.is_some-lookup, proofs.Math.Seq.get_or-append_seam}
-use Rattle.std.specs.{BTreeMap.BTreeMap, BTreeSet.BTreeSet, BTreeSet.btree_set_len, Map.Iter.deref_pair, Option.option_copied, Option.option_map_or}
-use Rattle.cargo_toml_graph.specs.{Ascending.Ascend, Action.Text, Graph.IsPlain, Reach.Among}
-use Rattle.cargo_toml_features.specs.{Places.nth_text, declared.features.DepAction.DepAction, declared.features.Feature.Feature, Views.action_at, Views.action_of, Views.set_has, InOrder.names_of}
-use Rattle.cargo_toml_features.proofs.{ByPlace.among_at, ByPlace.once, TextKeys.none_in}
-use Rattle.cargo_toml_resolve.specs.{Numbers.IsWanted, Numbers.Leads, Numbers.row_items, Enabling.LeadsTo, Numbering.Gains, Numbering.HasNames, Numbering.IsTarget, Numbering.AreTextsOf, Numbering.Extends, Numbering.IsNodeOf}
-use Rattle.cargo_toml_resolve.specs.{Numbering.AreRead, Parts.deeds_of, Parts.place_names, Texts.texts_now, NumberedTables.IsNaming}
-use Rattle.cargo_toml_resolve.proofs.{Steps.among_more, Steps.among_push, InOrder.among_keys, InOrder.all_seen, InOrder.seen, InOrder.seen_push, Learning.no_keys}
+use Rattle.cargo_toml_resolve.proofs.Cited.{Among, AreRead, AreTextsOf, Ascend, BTreeMap, BTreeSet, Bool, Bor, DepAction, Extends, Feature, Gains, HasNames, IfSome, IsNaming, IsNodeOf, IsPlain, IsTarget, IsTrue, IsWanted, Leads, LeadsTo, List, None, Option, Some, Text, [], action_at, action_of, among_at, ap, arith, btree_set_len, bytes_eq-Decides, cases_eq, cases_lt, deeds_of, deref_pair, false, false≢true, get_or, get_or-append_seam, get_or-take, get_or_append_left, get_or_past}
+use Rattle.cargo_toml_resolve.proofs.Cited.{if◌then◌else◌, inl, inr, is_eq-slice_cmp, is_some, is_some-lookup, length, length-map, length-take-le, map, map_push, names_of, none_in, nth_text, once, option_copied, option_map, option_map_or, place_names, refl, replicate, row_items, set_has, slice_get, subst, suc, sym, take, take-map, take-take, take_at, texts_now, true, zero, ℕ, ◌++◌, ◌+◌, ◌<◌, ◌↔◌, ◌∙◌, ◌∷◌, ◌≡◌, ◌≢◌, ◌≤◌, ◌⊎◌}
+use Rattle.cargo_toml_resolve.proofs.InOrder.{among_keys, all_seen, seen, seen_push}
+use Rattle.cargo_toml_resolve.proofs.{Steps.among_more, Steps.among_push, Learning.no_keys}
+use Rattle.std.proofs.Common.{btree_map_len}
+use Rattle.std.proofs.lemmas.List.{take_all}
+use Rattle.std.proofs.lemmas.List.{length-append}
 
 -- a list of one item
 only_item : {X : Type 0} (xs : List X) (x : X) → length xs ≡ 1 → slice_get xs 0 ≡ Some x → xs ≡ x ∷ []

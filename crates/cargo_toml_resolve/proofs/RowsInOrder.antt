@@ -1,10 +1,8 @@
 -- Rows in ascending order: a path through the removed vertices below r is cut at the first vertex that is not below the one that it left.
-use Rattle.std.proofs.Common.{◌≡◌, ◌≢◌, ◌⊎◌, ◌↔◌, ◌<◌, ◌≤◌, ◌+◌, ℕ, Bool, true, false, List, length, get_or, set, replicate, refl, sym, inl, inr, ◌∙◌, arith, [], ◌∷◌, ap, subst, Vec}
-use Rattle.std.proofs.lemmas.{Bool.cases_eq, Bool.cases_lt, Bool.cases_Bool, Bool.false≢true, List.get_or-set_same, List.get_or-set_other, List.get_or_past, List.get_or-replicate, List.length-replicate}
-use Rattle.cargo_toml_graph.specs.{Reach.Among, Reach.Reaches, Reach.Gathers, Reach.GathersLabel, Reach.With, Reach.Reaches.edge, Reach.Reaches.through}
-use Rattle.cargo_toml_graph.proofs.{Members.label_within, Members.reaches_within, Closure.chained, Split.widen, Split.joined, Split.split, Split.label_split}
-use Rattle.cargo_toml_resolve.specs.{Numbers.IsWanted, Numbers.FindsRedirects, Numbers.HasLabel, Numbers.IsPassed, Numbers.IsRedirect, Numbers.Leads, Numbers.Replaces, Numbers.row_items, Numbers.Moves, Bits.Gains, Bits.Holds, Dense.IsTable}
+use Rattle.cargo_toml_resolve.proofs.Cited.{Among, Bool, FindsRedirects, Gathers, GathersLabel, HasLabel, Holds, IsPassed, IsRedirect, IsTable, IsWanted, Leads, List, Moves, Reaches, Replaces, Vec, With, [], ap, arith, cases_Bool, cases_eq, cases_lt, chained, edge, false, false≢true, get_or, get_or-replicate, get_or-set_other, get_or-set_same}
+use Rattle.cargo_toml_resolve.proofs.Cited.{get_or_past, inl, inr, joined, label_split, label_within, length, length-replicate, reaches_within, refl, replicate, row_items, set, split, subst, sym, through, true, widen, ℕ, ◌+◌, ◌<◌, ◌↔◌, ◌∙◌, ◌∷◌, ◌≡◌, ◌≢◌, ◌≤◌, ◌⊎◌}
 use Rattle.cargo_toml_resolve.proofs.Steps.{gathered, last_edge, with_last, has_row}
+use Rattle.cargo_toml_resolve.specs.Bits.{Gains}
 
 module _ (E : ℕ → ℕ → Type 0) (R : ℕ → Type 0) (L : ℕ → ℕ → Type 0) where
   -- a removed vertex below n

@@ -1,9 +1,5 @@
 -- Sets of texts, by the bytes of their keys, and actions that a feature takes over, one after another.
-use Rattle.std.proofs.Common.{arith, ◌≡◌, Bool, false, cond, ◌&&◌, ◌||◌, not, List, [], ◌∷◌, ◌++◌, bytes_eq, Bor, map, refl, ap, ◌∙◌, Option, Some, None, is_some, option_map}
-use Rattle.std.{proofs.Math.Bool.or-false, proofs.lemmas.List.map_push, proofs.lemmas.List.Folds.list_any-append, proofs.lemmas.Map.Text.is_eq-slice_cmp, proofs.lemmas.Slice.Eq.bytes_eq-Decides}
-use Rattle.std.specs.{Cmp.Lexicographic.slice_cmp, Ordering.nat_cmp, BTreeSet.BTreeSet, BTreeMap.BTreeMap, BTreeMap.is_at, Map.lookup, Map.Iter.deref_pair}
-use Rattle.cargo_toml_graph.{specs.Action.Text, specs.Action.Action, specs.Action.join_option, proofs.Texts.bytes_eq_sym, proofs.JoinLaws.join_option_assoc, proofs.JoinLaws.join_option_self, proofs.JoinLaws.join_option_none}
-use Rattle.cargo_toml_features.{specs.Views.set_has, specs.Views.action_of, specs.Views.action_at, specs.declared.features.DepAction.DepAction, proofs.Gathering.is_text_in}
+use Rattle.cargo_toml_resolve.proofs.Cited.{Action, BTreeMap, BTreeSet, Bool, Bor, DepAction, List, None, Option, Some, Text, [], action_at, action_of, ap, arith, bytes_eq, bytes_eq-Decides, bytes_eq_sym, cond, deref_pair, false, is_at, is_eq-slice_cmp, is_some, is_text_in, join_option, join_option_assoc, join_option_none, join_option_self, list_any-append, lookup, map, map_push, nat_cmp, not, option_map, or-false, refl, set_has, slice_cmp, ◌&&◌, ◌++◌, ◌||◌, ◌∙◌, ◌∷◌, ◌≡◌}
 use Rattle.std.specs.BTreeSet as sorted
 
 pub removed_text : (bs : Text) (s n : BTreeSet (Bor Text)) → sorted.UpdatesBy (λ x y. slice_cmp nat_cmp x.now y.now) (λ k. slice_cmp nat_cmp bs k.now) s n false → (x : Text) → set_has n x ≡ (set_has s x && not (bytes_eq x bs))

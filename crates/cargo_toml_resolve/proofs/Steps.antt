@@ -1,10 +1,7 @@
 -- Steps of a walk over numbers, by marks, and the walk.
-use Rattle.std.proofs.Common.{◌≡◌, ◌≢◌, ◌⊎◌, ◌↔◌, ◌<◌, ◌≤◌, ◌+◌, ℕ, zero, suc, Bool, true, false, List, [], ◌∷◌, ◌++◌, take, length, get_or, set, Vec, refl, sym, ap, subst, inl, inr, ◌∙◌, arith, length-append, length-set, map, replicate}
-use Rattle.{std.proofs.Common.nat_eq, std.proofs.lemmas.Option.get_or_from_slice_get, std.proofs.lemmas.Option.slice_get_read, std.specs.Option.option_map_or}
-use Rattle.std.proofs.lemmas.{Bool.cases_eq, Bool.cases_lt, List.get_or-set_same, List.get_or-set_other, List.get_or_past, List.take-append-le, List.take_all, List.take_more, List.map-set, List.Sums.sum_by-set, Bool.Decides.nat_tests}
-use Rattle.cargo_toml_graph.specs.{Reach.Among, Reach.Reaches, Reach.GathersLabel, Reach.Gathers, Reach.Reaches.edge, Reach.Reaches.through}
-use Rattle.cargo_toml_graph.proofs.{BinLists.among-either, BinLists.among-first, BinLists.among-second, Closure.chained}
-use Rattle.cargo_toml_resolve.specs.{Bits.words_of, Numbers.AreMarked, Numbers.FindsNamed, Numbers.IsWanted, Numbers.Leads, Numbers.IsPassed, Numbers.HasLabel}
+use Rattle.cargo_toml_resolve.proofs.Cited.{Among, AreMarked, Bool, FindsNamed, Gathers, GathersLabel, HasLabel, IsPassed, IsWanted, Leads, List, Reaches, Vec, [], among-either, among-first, among-second, ap, arith, cases_eq, cases_lt, chained, edge, false, get_or, get_or-set_other, get_or-set_same, get_or_from_slice_get, get_or_past, inl, inr, length, length-append}
+use Rattle.cargo_toml_resolve.proofs.Cited.{length-set, map, map-set, nat_eq, nat_tests, option_map_or, refl, replicate, set, slice_get_read, subst, suc, sum_by-set, sym, take, take-append-le, take_more, through, true, words_of, zero, ℕ, ◌++◌, ◌+◌, ◌<◌, ◌↔◌, ◌∙◌, ◌∷◌, ◌≡◌, ◌≢◌, ◌≤◌, ◌⊎◌}
+use Rattle.std.proofs.lemmas.List.{take_all}
 use Rattle.cargo_toml_features.proofs.ByPlace as places
 
 pub among_push : {K : Type 0} (xs : List K) (y x : K) → Among (xs ++ y ∷ []) x ↔ (Among xs x ⊎ (x ≡ y))

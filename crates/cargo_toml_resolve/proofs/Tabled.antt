@@ -1,10 +1,9 @@
 -- Bits of words, and bit matrices, row after row.
-use Rattle.std.proofs.Common.{◌≡◌, ◌≢◌, ◌↔◌, ◌⊎◌, ◌<◌, ◌≤◌, ◌+◌, ◌*◌, ℕ, Bool, List, [], ◌∷◌, ◌++◌, take, length, get_or, set, Vec, sym, ap, subst, inl, inr, ◌∙◌, arith, length-append, length-set, ◌/◌, ◌%◌, ◌^◌, max, w64}
-use Rattle.std.proofs.lemmas.{Bool.cases_eq, Bool.cases_lt, List.get_or_past, List.get_or-set_same, List.get_or-set_other, List.get_or_append_left, Nat.Bits.bit_at_or, Nat.Bits.bit_at-zero, Nat.Bits.bit_at-lt, Nat.Bits.bit_at_set_same}
-use Rattle.std.{proofs.lemmas.Nat.Bits.bit_at_set_other, proofs.lemmas.Option.slice_get-get_or, proofs.lemmas.Option.slice_get_past, proofs.Math.Seq.get_or-append_seam, specs.Option.option_map_or, specs.Int.bit_at, specs.Prelude.bit_or}
-use Rattle.cargo_toml_graph.specs.Reach.{Among}
-use Rattle.cargo_toml_resolve.specs.{Bits.AreWide, Bits.Gains, Bits.HasBit, Bits.Holds, Bits.words_of, Dense.IsTable, Numbers.IsWanted}
-use Rattle.cargo_toml_resolve.proofs.{InPlace.set_here, InPlace.set_others, Steps.among_more, Steps.among_push, Steps.read_at, Steps.row_read}
+use Rattle.cargo_toml_resolve.proofs.Cited.{Among, AreWide, Bool, HasBit, Holds, IsTable, IsWanted, List, Vec, [], ap, arith, bit_at, bit_at-lt, bit_at-zero, bit_at_or, bit_at_set_other, bit_at_set_same, bit_or, cases_eq, cases_lt, get_or, get_or-append_seam, get_or-set_other, get_or-set_same, get_or_append_left, get_or_past, inl}
+use Rattle.cargo_toml_resolve.proofs.Cited.{inr, length, length-append, length-set, max, option_map_or, set, slice_get-get_or, slice_get_past, subst, sym, take, w64, words_of, ℕ, ◌%◌, ◌*◌, ◌++◌, ◌+◌, ◌/◌, ◌<◌, ◌^◌, ◌↔◌, ◌∙◌, ◌∷◌, ◌≡◌, ◌≢◌, ◌≤◌, ◌⊎◌}
+use Rattle.cargo_toml_resolve.proofs.Steps.{among_more, among_push, read_at, row_read}
+use Rattle.cargo_toml_resolve.proofs.{InPlace.set_here, InPlace.set_others}
+use Rattle.cargo_toml_resolve.specs.Bits.{Gains}
 
 -- past the last word there is no bit
 pub no_bit_past : (words : List ℕ) (x : ℕ) → length words ≤ x / 64 → ¬ HasBit words x

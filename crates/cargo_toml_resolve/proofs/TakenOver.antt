@@ -1,13 +1,10 @@
 -- One feature of a list takes over what those that it passes do.
-use Rattle.std.proofs.Common.{◌≡◌, ◌↔◌, ◌<◌, ◌⊎◌, ℕ, List, [], length, set, get_or, Some, Bor, refl, sym, ap, subst, inl, inr, ◌∙◌, arith, length-set, slice_get, ◌+◌, take, Option, None, false, option_map, ◌≢◌, ◌≤◌, Bool, true}
-use Rattle.std.{proofs.Math.Seq.map-set_same, proofs.lemmas.Option.slice_get_read, proofs.lemmas.Bool.cases_Bool, proofs.lemmas.Bool.cases_eq, proofs.lemmas.Bool.false≢true, proofs.lemmas.List.get_or-map}
-use Rattle.{std.specs.Option.option_map_or, std.specs.BTreeMap.BTreeMap, std.specs.BTreeSet.BTreeSet, cargo_toml_resolve.specs.Texts.texts_now}
-use Rattle.cargo_toml_graph.specs.{Action.Text, Action.Action, Action.IsJoin, Action.join_option, Reach.Among, Reach.Reaches, Reach.Reaches.edge, Reach.Reaches.through}
-use Rattle.cargo_toml_graph.proofs.Joins.{join_alike, join_one, join_halves}
-use Rattle.cargo_toml_features.specs.{declared.features.DepAction.DepAction, declared.features.Feature.Feature, Views.action_at, Views.set_has, Places.nth_text}
-use Rattle.cargo_toml_resolve.specs.{Holding.DoesAt, Holding.ComesToHold, Holding.AllTakeOver, Holding.HasTextsOf, Holding.Holds, Holding.TakesOver, Parts.but_deeds, Parts.deeds_of, Parts.place_action, Parts.place_deeds, Parts.with_said}
-use Rattle.cargo_toml_resolve.specs.{Parts.but_enablers, Parts.place_enabler, Numbers.IsPassed, Numbers.IsWanted, Numbers.KeepsLabel, Numbers.Leads, Numbers.PassesAny, Enabling.EnablesThrough, Enabling.GainEnabler, NumberedTables.HasNumber}
-use Rattle.cargo_toml_resolve.proofs.{InPlace.set_here, InPlace.set_others, InPlace.alike_at, InPlace.alike_len, InPlace.alike_place, InPlace.still_alike, Steps.among_more, Learning.then_each, RowsInOrder.none_among}
+use Rattle.cargo_toml_resolve.proofs.Cited.{Action, AllTakeOver, Among, BTreeMap, BTreeSet, Bool, Bor, ComesToHold, DepAction, DoesAt, EnablesThrough, Feature, GainEnabler, HasNumber, HasTextsOf, IsJoin, IsPassed, IsWanted, KeepsLabel, Leads, List, None, Option, PassesAny, Reaches, Some, TakesOver, Text, [], action_at, ap, arith, but_deeds, but_enablers, cases_Bool, cases_eq, deeds_of, edge, false, false≢true, get_or, inl, inr}
+use Rattle.cargo_toml_resolve.proofs.Cited.{join_alike, join_halves, join_one, join_option, length, length-set, map-set_same, nth_text, option_map, option_map_or, place_action, place_deeds, place_enabler, refl, set, set_has, slice_get, slice_get_read, subst, sym, take, texts_now, through, true, with_said, ℕ, ◌+◌, ◌<◌, ◌↔◌, ◌∙◌, ◌≡◌, ◌≢◌, ◌≤◌, ◌⊎◌}
+use Rattle.cargo_toml_resolve.proofs.InPlace.{set_here, set_others, alike_at, alike_len, alike_place, still_alike}
+use Rattle.cargo_toml_resolve.proofs.{Steps.among_more, Learning.then_each, RowsInOrder.none_among}
+use Rattle.std.proofs.lemmas.List.{get_or-map}
+use Rattle.cargo_toml_resolve.specs.Holding.{Holds}
 
 -- what stands in a place does
 pub acts_there : (vs : List Feature) (b : ℕ) (v : Feature) → slice_get vs b ≡ Some v → (k : Text) → place_action vs b k ≡ action_at v.enables_deps k

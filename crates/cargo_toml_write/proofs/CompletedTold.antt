@@ -1,18 +1,8 @@
 -- What completion gives of a manifest that is told, from a workspace that is, is told.
-use Rattle.std.proofs.Common.{arith, ◌≡◌, refl, ℕ, List, [], ◌∷◌, Bool, Option, Some, None, IfSome, option_and_then, Result, Ok, Err, if◌then◌else◌}
-use Rattle.std.proofs.lemmas.List.Elements.{All-from_recursion, recursion_from_All}
-use Rattle.std.specs.{Result.result_ok, List.AllByRecursion, Str.bytes_eq}
-use Rattle.semver.specs.Parse.{Held}
-use Rattle.cargo_toml_package.specs.InheritedDependencies.{Entries, detail_of_requirement, entry_at, from_template, inherited_entries, inherited_entry, inherited_target, inherited_targets, with_entry}
-use Rattle.cargo_toml_package.specs.{Dependencies.DependencyMeaning, Dependencies.InheritedMeaning, Dependencies.detailed, Dependencies.inherited, Dependencies.simple, Targets.TargetMeaning, Inheriting.any_field_left}
-use Rattle.cargo_toml_package.specs.{Inheriting.filled_field, Inheriting.inherited_package, Inheriting.with_template_if_there, Packages.PackageMeaning, Templates.TemplateMeaning, Sharing.LintsByTool, Sharing.Shared, Sharing.inherited_lints}
-use Rattle.cargo_toml_discovery.specs.{Discovering.discovered, Names.Name, Around.around, Seen.Seen, Seen.seen, Seen.seen_as}
-use Rattle.cargo_toml_manifest.specs.{Choosing.Choice, Choosing.from, Choosing.lost, Choosing.unclear_root, Completing.complete_by, Completing.gives, Completing.seen_at, Completing.then_found, Finding.found_for, Finding.stated_by}
-use Rattle.cargo_toml_manifest.specs.{Finding.wanted_by, Finding.with_discovered, Inheriting.inherited_from, Inheriting.inherited_if_there, Inheriting.inherited_manifest, Inheriting.own_tables, Manifests.ManifestMeaning}
-use Rattle.cargo_toml_parts.specs.{Paths.workspace_folder, Answers.◌>>=◌, Answers.beside, Answers.each, FaultValues.Fault, Versions.Parts, declared.inheritable.Inheritable.Inheritable}
+use Rattle.cargo_toml_write.proofs.Cited.{All-from_recursion, AllByRecursion, Bool, CanBeRead, Choice, ChoiceIsTold, DependencyAgain, DependencyMeaning, EachValue, Entries, Err, Fault, Held, IfSet, IfSome, Inheritable, InheritedMeaning, IsApart, IsTold, IsVersionAgain, LintsByTool, List, ManifestMeaning, Name, None, Ok, Option, PackageMeaning, Parts, Result, Seen, Shared, SharedIsTold, Some, TargetMeaning, TargetMeets}
+use Rattle.cargo_toml_write.proofs.Cited.{TemplateAgain, TemplateMeaning, VersionAgain, [], any_field_left, arith, around, beside, bytes_eq, complete_by, detail_of_requirement, detailed, discovered, each, entry_at, filled_field, found_for, from, from_template, gives, if◌then◌else◌, inherited, inherited_entries, inherited_entry, inherited_from, inherited_if_there, inherited_lints}
+use Rattle.cargo_toml_write.proofs.Cited.{inherited_manifest, inherited_package, inherited_target, inherited_targets, lost, option_and_then, own_tables, recursion_from_All, refl, reread_dependency, result_ok, seen, seen_as, seen_at, simple, stated_by, then_found, unclear_root, wanted_by, with_discovered, with_entry, with_template_if_there, workspace_folder, ℕ, ◌>>=◌, ◌∷◌, ◌≡◌}
 use Rattle.cargo_toml_write.proofs.ReadParts.{Gives, gives_none, gives_some}
-use Rattle.cargo_toml_write.specs.{Asked.EachValue, Asked.IfSet, Asked.TargetMeets, Requirements.CanBeRead, Reread.ChoiceIsTold, Reread.IsTold, Reread.SharedIsTold, Reread.reread_dependency, WrittenDependencies.DependencyAgain}
-use Rattle.cargo_toml_write.specs.{WrittenPackages.IsVersionAgain, WrittenPackages.TemplateAgain, WrittenPackages.VersionAgain, WrittenTables.IsApart}
 use Rattle.cargo_toml_discovery.specs.Told as folders
 
 -- what is answered, if no fault, is such

@@ -5,3 +5,4 @@ pub mod ReadParts
 pub mod Rows
 pub mod Spelled
 pub mod Writers
+mod Cited

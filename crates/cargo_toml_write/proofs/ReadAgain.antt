@@ -1,19 +1,7 @@
 -- What a table holds at its keys after writes, and what it is read as: key by key, and as lists and maps.
-use Rattle.std.proofs.Common.{arith, ◌≡◌, true, false, Option, Some, is_eq, sym, ap, ℕ, List, [], ◌∷◌, String, Global, Ordering, Less, Equal, Greater, string_bytes, nat_cmp, refl, ◌∙◌, ◌&&◌, Bool, None, option_map, subst, inl, inr, not}
-use Rattle.std.proofs.Common.{zero, suc, Result, Ok, Err, IfErr, IfSome, IsTrue, if◌then◌else◌, option_and_then}
-use Rattle.std.proofs.{lemmas.Bool.false≢true, lemmas.Bool.and_parts, lemmas.Bool.cases_Bool, lemmas.Bool.not-true, lemmas.Cmp.nat_list_cmp_total, lemmas.Map.Text.is_eq-slice_cmp, lemmas.Slice.Eq.bytes_eq-Decides}
-use Rattle.std.proofs.lemmas.List.Elements.{recursion_from_All}
-use Rattle.std.specs.{Cmp.Lexicographic.slice_cmp, Ordering.match_ordering, Ordering.ordering_reverse, Cmp.tied_itself, BTreeMap.insert_entry, String.string_cmp, Option.unwrap_or, Result.result_ok, Str.bytes_eq, List.All}
-use Rattle.std.specs.List.{AllByRecursion}
-use Rattle.toml.specs.Data.{Data, Members, no_members, member, get_member, boolean, string, Items, no_items, item, as_str, as_bool, as_table}
-use Rattle.toml.specs.{declared.value.Value.Value, View.view, View.members_view}
-use Rattle.toml.proofs.Views.{Entry}
-use Rattle.cargo_toml_parts.specs.Reads.{is_among, others_read, array_of, items_reads, list_of, required_of, optional_of, given_of, map_of}
-use Rattle.cargo_toml_parts.specs.{declared.error.Error.Error, declared.error.Error.Memory, Floats.has_no_float, Floats.without_floats, declared.inheritable.Inheritable.Inheritable, declared.inheritable.Inheritable.TheVariants.Set}
-use Rattle.cargo_toml_parts.specs.{declared.inheritable.Inheritable.TheVariants.Inherited, Inherits.inheritable_of, Inherits.set_or, Inherits.workspace_flag, Versions.Parts, Versions.version_of}
-use Rattle.cargo_toml_write.specs.Ways.{IsMap, all_of, exactly, free_way, inheritable_way, inherited_tree, is_nil, is_set_and, list_way, map_way, members_of, table_way, text_way, texts_way, truth_way, unless_missing, version_way}
-use Rattle.cargo_toml_write.specs.Writes.{AreEntries, AreItems, AreWritten, IsHeld, IsReadAgain, IsWriting, Row, Way, put_member, put_some, unless}
-use Rattle.cargo_toml_write.specs.{Asked.EachValue, Asked.IfSet, Reread.each_value, WrittenPackages.IsVersionAgain}
+use Rattle.cargo_toml_write.proofs.Cited.{All, AllByRecursion, AreEntries, AreItems, AreWritten, Bool, Data, EachValue, Entry, Equal, Err, Error, Global, Greater, IfErr, IfSet, IfSome, Inheritable, Inherited, IsHeld, IsMap, IsReadAgain, IsTrue, IsVersionAgain, IsWriting, Items, Less, List, Members, Memory, None, Ok, Option, Ordering, Parts, Result, Row, Set, Some, String, Value, Way, [], all_of, and_parts, ap, arith, array_of, as_bool, as_str, as_table, boolean, bytes_eq, bytes_eq-Decides}
+use Rattle.cargo_toml_write.proofs.Cited.{cases_Bool, each_value, exactly, false, false≢true, free_way, get_member, given_of, has_no_float, if◌then◌else◌, inheritable_of, inheritable_way, inherited_tree, inl, inr, insert_entry, is_among, is_eq, is_eq-slice_cmp, is_nil, is_set_and, item, items_reads, list_of, list_way, map_of, map_way, match_ordering, member, members_of, members_view, nat_cmp, nat_list_cmp_total, no_items, no_members, not, not-true}
+use Rattle.cargo_toml_write.proofs.Cited.{option_and_then, option_map, optional_of, ordering_reverse, others_read, put_member, put_some, recursion_from_All, refl, required_of, result_ok, set_or, slice_cmp, string, string_bytes, string_cmp, subst, suc, sym, table_way, text_way, texts_way, tied_itself, true, truth_way, unless, unless_missing, unwrap_or, version_of, version_way, view, without_floats, workspace_flag, zero, ℕ, ◌&&◌, ◌∙◌, ◌∷◌, ◌≡◌}
 
 chosen : (o : Ordering) (a b c : List Entry) → members_view (match_ordering o a b c) ≡ match_ordering o (members_view a) (members_view b) (members_view c)
 chosen o a b c = grind arith

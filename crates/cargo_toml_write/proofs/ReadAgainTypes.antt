@@ -1,43 +1,16 @@
 -- Written settings, tables, dependencies, packages, workspaces and manifests, each read as what it is read again as.
-use Rattle.std.proofs.Common.{inl, inr, arith, ◌≡◌, ◌∙◌, refl, ap, ℕ, true, option_map, option_and_then, List, [], codes, Bool, false, Option, Some, None, sym, ◌∷◌, Result, IfSome, subst, cond, not, map, is_eq, IsTrue, Less, nat_cmp, Ok}
-use Rattle.std.proofs.Common.{Err}
-use Rattle.std.proofs.{lemmas.Bool.and_parts, lemmas.Bool.false≢true, lemmas.Bool.Decides.Decides-int_eq, lemmas.List.Elements.recursion_from_All, lemmas.Cmp.nat_list_cmp_total, lemmas.Map.Text.is_eq-slice_cmp}
-use Rattle.std.proofs.lemmas.Slice.Eq.{bytes_eq-Decides}
-use Rattle.std.specs.{Ordering.ordering_reverse, Map.keys_of, List.Sorted.IsStrictlySortedBy, Result.result_ok, Cmp.Lexicographic.slice_cmp, List.AllByRecursion, Str.bytes_eq}
-use Rattle.toml.specs.Data.{as_str, Data, as_bool, as_table, Members, no_members, get_member, string, table, array, Items}
-use Rattle.toml.specs.{declared.value.Value.Value, View.view}
-use Rattle.cargo_toml_manifest.specs.Manifests.{badges_reads, no_badges, no_profiles, product_reads, profiles_reads, ManifestMeaning, manifest_meaning, manifest_of, manifest_reads, target_reads}
-use Rattle.cargo_toml_manifest.specs.declared.manifest.Manifest.{Manifest}
-use Rattle.cargo_toml_parts.specs.Reads.{given_of, list_of, is_among, map_of, others_read, required_of, required_at, optional_of, array_of}
-use Rattle.cargo_toml_parts.specs.Settings.{edition_reads, edition_text, resolver_reads, resolver_text, File, flag, path, file_of, Registries, everywhere, among, publish_of}
-use Rattle.cargo_toml_parts.specs.Badges.{BadgeMeaning, BadgesMeaning, badges_of, badge_of, badge_reads, or_none, status_of, maintenance_of, maintenance_reads}
-use Rattle.cargo_toml_parts.specs.{Numbers.i8_of, Numbers.u16_of, declared.error.Error.Error, ProfileSettings.debug_of, ProfileSettings.strip_of, ProfileSettings.lto_of, declared.settings.Edition.TheVariants.E2015}
-use Rattle.cargo_toml_parts.specs.{declared.settings.Edition.TheVariants.E2018, declared.settings.Edition.TheVariants.E2021, declared.settings.Edition.TheVariants.E2024, declared.settings.Resolver.TheVariants.V1}
-use Rattle.cargo_toml_parts.specs.{declared.settings.Resolver.TheVariants.V2, declared.settings.Resolver.TheVariants.V3, Products.ProductMeaning, Products.either_flag, Products.product_of, declared.badge.MaintenanceStatus.MaintenanceStatus}
-use Rattle.cargo_toml_parts.specs.{declared.lint.LintLevel.LintLevel, declared.lint.LintLevel.TheVariants.Allow, declared.lint.LintLevel.TheVariants.Warn, declared.lint.LintLevel.TheVariants.ForceWarn}
-use Rattle.cargo_toml_parts.specs.{declared.lint.LintLevel.TheVariants.Deny, declared.lint.LintLevel.TheVariants.Forbid, Lints.LintMeaning, Lints.lint_keys, Lints.level_of, Lints.level_alone, Lints.table_lint, Lints.lint_of}
-use Rattle.cargo_toml_parts.specs.{Profiles.ProfilesMeaning, Profiles.profile_keys, Profiles.profile_of, Profiles.profile_reads, Profiles.profiles_of, Versions.requirement_of, Versions.Parts, Versions.version_of}
-use Rattle.cargo_toml_parts.specs.{declared.inheritable.Inheritable.Inheritable, Inherits.inheritable_map, Inherits.inheritable_of}
-use Rattle.cargo_toml_write.proofs.ReadAgain.{Again, AgainAs, AllHeld, Any, FirstHeld, ReadsAs, StandsAt, StandsFor, again, alone, collected, first_held, flagged, free_again, free_maps, given, inheritable_again, list_again, map_as, map_same, nil, nil_left}
-use Rattle.cargo_toml_write.proofs.ReadAgain.{nil_map, other_member, read_back, required, same_tree, set_stands, step, table_again, text_again, texts_again, truth_again, untouched, version_again, whole}
-use Rattle.cargo_toml_write.proofs.{ReadParts.AreNamed, ReadParts.AreSaid, ReadParts.Gives, ReadParts.bind, ReadParts.gives_some, ReadParts.skip, Spelled.spelled_again}
-use Rattle.cargo_toml_write.specs.Reread.{IsTold, each_value, reread, reread_dependency, reread_target, reread_workspace, told}
-use Rattle.cargo_toml_write.specs.Ways.{Ascend, IsMap, all_of, free_way, inheritable_way, is_nil, list_way, map_way, members_of, number_way, requirement_way, small_way, text_way, texts_way, truth_way, unless_missing, version_way}
-use Rattle.cargo_toml_write.specs.WrittenDependencies.{AreTold, DependencyAgain, DetailAgain, dependencies_way, dependency_way, detail_reads, detail_under, detail_way, feature_way, features_in, features_way, inherited_reads, inherited_rows}
-use Rattle.cargo_toml_write.specs.WrittenDependencies.{inherited_way, known_rows, target_rows, target_way, told_features, told_rows, told_way}
-use Rattle.cargo_toml_write.specs.WrittenPackages.{AreReadAgain, IsVersionAgain, MetadataAgain, TemplateAgain, VersionAgain, package_rows, package_way, template_rows, template_way, workspace_rows, workspace_way}
-use Rattle.cargo_toml_write.specs.WrittenTables.{debug_tree, debug_way, edition_way, file_way, is_unrestricted, is_usual, level_text, level_way, lto_tree, lto_way, publish_way, resolver_way, status_text, status_way, strip_tree, strip_way}
-use Rattle.cargo_toml_write.specs.WrittenTables.{AreApart, IsApart, badge_rows, badge_way, badges_rows, badges_way, has_no_badge, has_no_profile, is_level_alone, known_profiles, lint_groups_way, lint_part, lint_rows, lint_way}
-use Rattle.cargo_toml_write.specs.WrittenTables.{maintenance_rows, maintenance_way, product_rows, product_way, profile_rows, profile_way, profiles_way}
-use Rattle.cargo_toml_write.specs.{Asked.EachValue, Asked.IfSet, Asked.TargetMeets, Asked.WorkspaceMeets, Requirements.CanBeRead, Writes.AreWritten, Writes.IsHeld, Writes.IsWriting, Writes.Way}
-use Rattle.cargo_toml_write.specs.WrittenManifests.{all_features, manifest_rows, manifest_way}
-use Rattle.semver.specs.{Parse.Held, Identifiers.parts_of}
-use Rattle.cargo_toml_package.specs.Dependencies.{InheritedMeaning, DetailMeaning, DependencyMeaning, simple, inherited, detailed, inherited_of, strict_of, inherited_or, detail_keys, detail_of_table, dependency_of, no_detail}
-use Rattle.cargo_toml_package.specs.Features.{FeaturesMeaning, apart, details_of, feature_of, features_of, lists_of, no_features, table_feature}
-use Rattle.cargo_toml_package.specs.{Details.Detail, Details.is_plain, Details.plain_detail, Targets.TargetMeaning, Targets.target_of, declared.package.Package.Package, Templates.TemplateMeaning, Templates.template_of}
-use Rattle.cargo_toml_package.specs.{Templates.template_reads, Packages.PackageMeaning, Packages.package_meaning, Packages.package_of_table, Packages.package_reads, declared.workspace.Workspace.Workspace, Workspaces.WorkspaceMeaning}
-use Rattle.cargo_toml_package.specs.Workspaces.{workspace_meaning, workspace_of, workspace_reads}
-use Rattle.cargo_toml_parts.proofs.Steps.{stops}
+use Rattle.cargo_toml_write.proofs.Cited.{AllByRecursion, Allow, AreApart, AreReadAgain, AreTold, AreWritten, Ascend, BadgeMeaning, BadgesMeaning, Bool, CanBeRead, Data, Decides-int_eq, Deny, DependencyAgain, DependencyMeaning, Detail, DetailAgain, DetailMeaning, E2015, E2018, E2021, E2024, EachValue, Err, Error, FeaturesMeaning, File, Forbid, ForceWarn, Held, IfSet, IfSome, Inheritable, InheritedMeaning, IsApart, IsHeld, IsMap, IsStrictlySortedBy, IsTold, IsTrue}
+use Rattle.cargo_toml_write.proofs.Cited.{IsVersionAgain, IsWriting, Items, Less, LintLevel, LintMeaning, List, MaintenanceStatus, Manifest, ManifestMeaning, Members, MetadataAgain, None, Ok, Option, Package, PackageMeaning, Parts, ProductMeaning, ProfilesMeaning, Registries, Result, Some, TargetMeaning, TargetMeets, TemplateAgain, TemplateMeaning, V1, V2, V3, Value, VersionAgain, Warn, Way, Workspace, WorkspaceMeaning, WorkspaceMeets}
+use Rattle.cargo_toml_write.proofs.Cited.{[], all_features, all_of, among, and_parts, ap, apart, arith, array, array_of, as_bool, as_str, as_table, badge_of, badge_reads, badge_rows, badge_way, badges_of, badges_reads, badges_rows, badges_way, bytes_eq, bytes_eq-Decides, codes, cond, debug_of, debug_tree, debug_way, dependencies_way, dependency_of, dependency_way, detail_keys, detail_of_table, detail_reads, detail_under, detail_way}
+use Rattle.cargo_toml_write.proofs.Cited.{detailed, details_of, each_value, edition_reads, edition_text, edition_way, either_flag, everywhere, false, false≢true, feature_of, feature_way, features_in, features_of, features_way, file_of, file_way, flag, free_way, get_member, given_of, has_no_badge, has_no_profile, i8_of, inheritable_map, inheritable_of, inheritable_way, inherited, inherited_of, inherited_or, inherited_reads}
+use Rattle.cargo_toml_write.proofs.Cited.{inherited_rows, inherited_way, inl, inr, is_among, is_eq, is_eq-slice_cmp, is_level_alone, is_nil, is_plain, is_unrestricted, is_usual, keys_of, known_profiles, known_rows, level_alone, level_of, level_text, level_way, lint_groups_way, lint_keys, lint_of, lint_part, lint_rows, lint_way, list_of, list_way, lists_of, lto_of, lto_tree, lto_way, maintenance_of, maintenance_reads, maintenance_rows}
+use Rattle.cargo_toml_write.proofs.Cited.{maintenance_way, manifest_meaning, manifest_of, manifest_reads, manifest_rows, manifest_way, map, map_of, map_way, members_of, nat_cmp, nat_list_cmp_total, no_badges, no_detail, no_features, no_members, no_profiles, not, number_way, option_and_then, option_map, optional_of, or_none, ordering_reverse, others_read, package_meaning, package_of_table, package_reads, package_rows, package_way}
+use Rattle.cargo_toml_write.proofs.Cited.{parts_of, path, plain_detail, product_of, product_reads, product_rows, product_way, profile_keys, profile_of, profile_reads, profile_rows, profile_way, profiles_of, profiles_reads, profiles_way, publish_of, publish_way, recursion_from_All, refl, required_at, required_of, requirement_of, requirement_way, reread, reread_dependency, reread_target, reread_workspace, resolver_reads, resolver_text}
+use Rattle.cargo_toml_write.proofs.Cited.{resolver_way, result_ok, simple, slice_cmp, small_way, status_of, status_text, status_way, stops, strict_of, string, strip_of, strip_tree, strip_way, subst, sym, table, table_feature, table_lint, target_of, target_reads, target_rows, target_way, template_of, template_reads, template_rows, template_way, text_way, texts_way, told, told_features, told_rows, told_way, true, truth_way, u16_of}
+use Rattle.cargo_toml_write.proofs.Cited.{unless_missing, version_of, version_way, view, workspace_meaning, workspace_of, workspace_reads, workspace_rows, workspace_way, ℕ, ◌∙◌, ◌∷◌, ◌≡◌}
+use Rattle.cargo_toml_write.proofs.ReadAgain.{Again, AgainAs, AllHeld, Any, FirstHeld, ReadsAs, StandsAt, StandsFor, again, alone, collected, first_held, flagged, free_again, free_maps, given, inheritable_again, list_again, map_as, map_same, nil, nil_left, nil_map, other_member, read_back, required, same_tree, set_stands, step, table_again, text_again, texts_again, truth_again, untouched, version_again, whole}
+use Rattle.cargo_toml_write.proofs.ReadParts.{AreNamed, AreSaid, Gives, bind, gives_some, skip}
+use Rattle.cargo_toml_write.proofs.Spelled.{spelled_again}
 use Rattle.cargo_toml_parts.specs.declared.profile_settings.DebugSetting.TheVariants as debug
 use Rattle.cargo_toml_parts.specs.declared.profile_settings.LtoSetting.TheVariants as lto
 use Rattle.cargo_toml_parts.specs.declared.profile_settings.StripSetting.TheVariants as strip

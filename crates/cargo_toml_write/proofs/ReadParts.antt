@@ -1,32 +1,16 @@
 -- What was read of a tree that holds no float is such as is asked, where each part that was read is: it is as asked of what is
 -- written, it is told so that it is read again, and then it stays.
-use Prim.Native.String.{String as Words}
-use Rattle.std.proofs.Common.{◌≡◌, refl, ap, subst, ℕ, List, [], ◌∷◌, codes, Bool, true, false, IsTrue, Option, Some, None, IfSome, option_map, option_and_then, Ordering, nat_cmp, if◌then◌else◌, sym, arith, ◌∙◌, cond, not, lit<, Result, Ok}
-use Rattle.std.proofs.Common.{◌&&◌}
-use Rattle.std.proofs.{lemmas.Bool.and_parts, lemmas.Bool.false≢true, lemmas.List.Elements.All-from_recursion, lemmas.List.Elements.recursion_from_All, lemmas.Slice.Eq.bytes_eq-Decides}
-use Rattle.std.specs.{Cmp.Lexicographic.slice_cmp, Ordering.match_ordering, List.AllByRecursion, List.All, Map.keys_of, Result.result_ok, Str.bytes_eq}
-use Rattle.toml.specs.Data.{Data, table, Members, no_members, member, get_member, as_table, string, as_bool}
-use Rattle.cargo_toml_package.specs.Dependencies.{DependencyMeaning, dependency_of, InheritedMeaning, DetailMeaning, simple, inherited, detailed, no_detail, strict_of, inherited_or, detail_keys, detail_of_table}
-use Rattle.cargo_toml_package.specs.{Features.features_of, Features.no_features, Features.apart, Features.details_of, Features.feature_of, Features.lists_of, Targets.target_of, Targets.TargetMeaning, Packages.PackageMeaning}
-use Rattle.cargo_toml_package.specs.{Packages.package_reads, Packages.package_of_table, Templates.template_reads, Templates.template_of, Workspaces.WorkspaceMeaning, Workspaces.workspace_of, Workspaces.workspace_reads, Details.Detail}
-use Rattle.cargo_toml_package.specs.{Details.is_plain, Sharing.LintsByTool}
-use Rattle.cargo_toml_manifest.specs.Manifests.{ManifestMeaning, by_zero_rule, target_reads, product_reads, badges_reads, no_badges, profiles_reads, no_profiles, manifest_of, manifest_reads, zero_rule_applies}
-use Rattle.cargo_toml_manifest.specs.Texts.{any_tree, document_reads}
-use Rattle.cargo_toml_parts.specs.Reads.{optional_of, optional_at, given_of, given_at, is_among, others_read, map_of, map_at, array_of, flag_at, list_at, required_at, required_of}
-use Rattle.cargo_toml_parts.specs.{declared.inheritable.Inheritable.TheVariants.Set, declared.inheritable.Inheritable.TheVariants.Inherited, Floats.has_no_float, Floats.without_floats, Inherits.by_flag}
-use Rattle.cargo_toml_parts.specs.{Inherits.set_or, Inherits.inheritable_of, Inherits.workspace_flag, Keys.inherited_at, Lints.LintMeaning, Lints.lint_of, Lints.level_alone, Lints.level_of, Lints.lint_keys, Lints.table_lint, Versions.Parts}
-use Rattle.cargo_toml_parts.specs.{Versions.requirement_of, Versions.version_of, Settings.everywhere, Profiles.ProfileMeaning, Profiles.profile_keys, Profiles.profile_of, Profiles.profile_reads, Profiles.profiles_of}
-use Rattle.cargo_toml_parts.specs.declared.inheritable.Inheritable.{Inheritable}
+use Rattle.cargo_toml_write.proofs.Cited.{All, All-from_recursion, AllByRecursion, AreApart, AreTold, Asked, AsksOf, Bool, CanBeRead, Data, DependencyAgain, DependencyMeaning, Detail, DetailAgain, DetailMeaning, EachValue, Held, IfSet, IfSome, Inheritable, Inherited, InheritedMeaning, IsApart, IsTold, IsTrue, IsVersionAgain, LintMeaning, LintsByTool, List, ManifestMeaning, ManifestMeets, Members, None, Ok, Option, Ordering, PackageMeaning, Parts, ProfileMeaning, Result, SaysTrue, Set, Some}
+use Rattle.cargo_toml_write.proofs.Cited.{TargetMeaning, TargetMeets, TemplateAgain, VersionAgain, WorkspaceMeaning, WorkspaceMeets, [], and_parts, any_tree, ap, apart, arith, array_of, as_bool, as_table, badges_reads, by_flag, by_zero_rule, bytes_eq, bytes_eq-Decides, codes, cond, dependencies_way, dependency_of, dependency_way, detail_keys, detail_of_table, detail_way, detailed, details_of, document_reads, each_value, everywhere, false, false≢true}
+use Rattle.cargo_toml_write.proofs.Cited.{feature_of, features_of, flag_at, free_way, get_member, given_at, given_of, has_no_float, has_no_profile, if◌then◌else◌, inheritable_of, inheritable_way, inherited, inherited_at, inherited_or, is_among, is_level_alone, is_nil, is_plain, is_set_and, keys_of, level_alone, level_of, lint_groups_way, lint_keys, lint_of, lint_part, lint_way, list_at, lists_of, lit<, manifest_of, manifest_reads, manifest_way, map_at}
+use Rattle.cargo_toml_write.proofs.Cited.{map_of, map_way, match_ordering, member, members_of, nat_cmp, no_badges, no_detail, no_features, no_members, no_profiles, not, nothing_asked, option_and_then, option_map, optional_at, optional_of, others_read, package_of_table, package_reads, package_way, product_reads, profile_keys, profile_of, profile_reads, profile_way, profiles_of, profiles_reads, profiles_way, recursion_from_All, refl, req_of, required_at}
+use Rattle.cargo_toml_write.proofs.Cited.{required_of, requirement_of, reread, reread_dependency, reread_target, reread_workspace, result_ok, says_true, set_or, simple, slice_cmp, strict_of, string, subst, sym, table, table_lint, target_of, target_reads, target_way, template_of, template_reads, told, true, unless, version_of, version_parts, version_parts-complete, version_parts-sound, without_floats, workspace_flag, workspace_of, workspace_reads}
+use Rattle.cargo_toml_write.proofs.Cited.{workspace_way, zero_rule_applies, ℕ, ◌&&◌, ◌∙◌, ◌∷◌, ◌≡◌}
 use Rattle.cargo_toml_write.proofs.ReadAgain.{AreOthers, other_member}
-use Rattle.cargo_toml_write.specs.Reread.{IsTold, SaysTrue, each_value, reread, reread_dependency, reread_target, reread_workspace, says_true, told}
-use Rattle.cargo_toml_write.specs.Ways.{AsksOf, free_way, inheritable_way, is_nil, is_set_and, map_way, members_of}
-use Rattle.cargo_toml_write.specs.WrittenDependencies.{AreTold, DependencyAgain, DetailAgain, dependencies_way, dependency_way, detail_way, target_way}
-use Rattle.cargo_toml_write.specs.WrittenTables.{AreApart, IsApart, has_no_profile, is_level_alone, lint_groups_way, lint_part, lint_way, profile_way, profiles_way}
-use Rattle.cargo_toml_write.specs.{Asked.Asked, Asked.EachValue, Asked.IfSet, Asked.ManifestMeets, Asked.TargetMeets, Asked.WorkspaceMeets, Asked.nothing_asked, Requirements.CanBeRead, Writes.unless, WrittenManifests.manifest_way}
-use Rattle.cargo_toml_write.specs.WrittenPackages.{IsVersionAgain, TemplateAgain, VersionAgain, package_way, workspace_way}
-use Rattle.cargo_toml_write.specs.{Lawful.AllFloatless as MembersFloatless, Ways.HoldsNoFloat as Floatless}
-use Rattle.semver.specs.{Parse.Held, Parse.req_of, Parse.version_parts, declared.error.Error.Error}
-use Rattle.semver.proofs.Grammar.{version_parts-complete, version_parts-sound}
+use Prim.Native.String.{String as Words}
+use Rattle.cargo_toml_write.specs.Lawful.{AllFloatless as MembersFloatless}
+use Rattle.cargo_toml_write.specs.Ways.{HoldsNoFloat as Floatless}
+use Rattle.semver.specs.declared.error.Error.{Error}
 
 -- what is given, if anything, is such
 pub record Gives {A : Type 0} (P : A → Type 0) (o : Option A) : Type 0 where

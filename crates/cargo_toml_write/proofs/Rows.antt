@@ -1,17 +1,6 @@
 -- Rows, lists and maps that are written one after the other, and features each with what is said of it.
-use Rattle.std.proofs.Common.{arith, ◌≡◌, ◌⊎◌, inl, inr, sym, ◌∙◌, refl, subst, false, is_some, option_map, ℕ, List, [], ◌∷◌, ◌++◌, Result, Err, Option, Some, None, ◌+◌, ◌<◌, map, length, get_or, drop, ap, append-nil, append_assoc, String}
-use Rattle.std.proofs.Common.{Global, string_bytes, Bool, cond, Vec, nat_cmp}
-use Rattle.std.proofs.{lemmas.Iterator.Adapters.option_map_id, lemmas.List.drop_more, lemmas.Map.Text.is_eq-slice_cmp}
-use Rattle.toml.specs.Data.{Data, Members, no_members, array, member}
-use Rattle.toml.specs.{declared.value.Value.Value, View.view, View.items_view, View.members_view, View.table_view}
-use Rattle.cargo_toml_parts.specs.{declared.error.Error.Error, declared.error.Error.Memory, Reads.map_meaning, Reads.pairs_meaning}
-use Rattle.cargo_toml_write.specs.Ways.{Ascend, IsMap, list_way, over_way, table_way}
-use Rattle.cargo_toml_write.specs.Writes.{AreEntries, AreItems, AreWritten, EntriesRefused, IsWriting, ItemsRefused, Row, Way, WritesFrom, WritingEnds, optional_row, put_member, put_some, required_row}
-use Rattle.cargo_toml_write.specs.{Ways.Begins, WrittenDependencies.detail_under, WrittenDependencies.told_features}
-use Rattle.std.specs.{List.Sorted.IsStrictlySortedBy, Map.keys_of, Map.lookup, String.string_cmp, BTreeMap.BTreeMap, BTreeMap.get_by, BTreeMap.is_at, Cmp.Lexicographic.slice_cmp, Str.bytes_eq}
-use Rattle.toml.proofs.Views.{Entry}
-use Rattle.cargo_toml_package.proofs.Apart.{ascend-keys}
-use Rattle.cargo_toml_package.specs.{declared.target.FeatureDetail.FeatureDetail, Details.Detail, Details.detail_of}
+use Rattle.cargo_toml_write.proofs.Cited.{AreEntries, AreItems, AreWritten, Ascend, BTreeMap, Begins, Bool, Data, Detail, EntriesRefused, Entry, Err, Error, FeatureDetail, Global, IsMap, IsStrictlySortedBy, IsWriting, ItemsRefused, List, Members, Memory, None, Option, Result, Row, Some, String, Value, Vec, Way, WritesFrom, WritingEnds, [], ap, append-nil, append_assoc, arith, array, ascend-keys, bytes_eq, cond, detail_of, detail_under, drop, drop_more, false, get_by, get_or, inl, inr, is_at}
+use Rattle.cargo_toml_write.proofs.Cited.{is_eq-slice_cmp, is_some, items_view, keys_of, length, list_way, lookup, map, map_meaning, member, members_view, nat_cmp, no_members, option_map, option_map_id, optional_row, over_way, pairs_meaning, put_member, put_some, refl, required_row, slice_cmp, string_bytes, string_cmp, subst, sym, table_view, table_way, told_features, view, ℕ, ◌++◌, ◌+◌, ◌<◌, ◌∙◌, ◌∷◌, ◌≡◌, ◌⊎◌}
 
 -- a row and then others
 row_then : (row : Row) (rows : List Row) (a b c : Option Error) (old mid new : Members) → WritesFrom (row ∷ []) a old b mid → WritesFrom rows b mid c new → WritesFrom (row ∷ rows) a old c new

@@ -1,15 +1,13 @@
 -- What the reader of `semver` reads as a requirement is read again from its own text.
-use Rattle.std.proofs.Common.{◌≡◌, ◌<◌, ◌≤◌, ◌^◌, ◌==◌, ℕ, zero, suc, List, [], ◌∷◌, length, Option, Some, None, Result, Ok, Bool, true, false, not, refl, sym, ◌∙◌, subst, arith, inl, inr, ◌&&◌, ◌||◌, ◌++◌, ◌+◌, ap, append_assoc}
-use Rattle.std.proofs.Common.{append-nil}
-use Rattle.std.proofs.{lemmas.Bool.cases_Bool, lemmas.Bool.eq-eqb, lemmas.List.drop_at, lemmas.List.take_at}
-use Rattle.std.specs.{Prelude.◌⊎◌, Prelude.if◌then◌else◌, List.list_all, Char.is_ascii_digit, Fmt.decimal}
-use Rattle.semver.specs.Parse.{◌>>=◌, Held, Minor, Parsed, Patch, comparator_in, comparator_of, comparator_or, first_or_equal, build_part, has, minor_of, minor_part, next_text, numeric, op_of, patch_number, patch_of, patch_part, pre_part}
-use Rattle.semver.specs.Parse.{req_after, req_from, req_next, req_of, strip_spaces, wild_req, wildcard_of, identifier_of, digits_from, identifier_len, prepend, scan}
-use Rattle.semver.specs.{Grammar.is_pre_identifier, Grammar.is_pre_release, Order.parts, declared.error.Error.Error, declared.error.Position.Position, declared.Op.Op, declared.Op.TheVariants.Wildcard, declared.Op.TheVariants.Caret}
-use Rattle.semver.specs.{Identifiers.marked, OrderLaws.join-parts, OrderLaws.join_dots, OrderLaws.parts-shape}
-use Rattle.semver.proofs.{Grammar.bind-ok, Grammar.identifier-ok, Numerals.numeric-text, Numerals.ok-value, Numerals.numeric-of_text, Numerals.starts_digit, Requirements.held, Requirements.req-end, Requirements.req-more}
-use Rattle.semver.proofs.Segments.{good, not_zero, scan-all, stops}
-use Rattle.cargo_toml_write.specs.Requirements.{after_major, comparator_text, requirement_text, sign_of, star_of}
+use Rattle.cargo_toml_write.proofs.Cited.{Bool, Caret, Held, List, Minor, None, Ok, Op, Option, Parsed, Patch, Position, Result, Some, Wildcard, [], after_major, ap, append-nil, append_assoc, arith, bind-ok, build_part, cases_Bool, comparator_in, comparator_of, comparator_or, comparator_text, decimal, digits_from, drop_at, eq-eqb, false, first_or_equal, good, has, held}
+use Rattle.cargo_toml_write.proofs.Cited.{identifier-ok, identifier_len, identifier_of, inl, inr, is_ascii_digit, is_pre_identifier, is_pre_release, join-parts, join_dots, length, list_all, marked, minor_of, minor_part, next_text, not, not_zero, numeric, numeric-of_text, numeric-text, ok-value, op_of, parts, parts-shape, patch_number}
+use Rattle.cargo_toml_write.proofs.Cited.{patch_of, patch_part, pre_part, prepend, refl, req-end, req-more, req_after, req_from, req_next, req_of, requirement_text, scan, scan-all, sign_of, star_of, starts_digit, strip_spaces, subst, suc, sym, take_at, true, wild_req, wildcard_of, zero, ℕ, ◌&&◌, ◌++◌, ◌+◌, ◌<◌, ◌==◌, ◌^◌, ◌||◌, ◌∙◌, ◌∷◌, ◌≡◌}
+use Rattle.cargo_toml_write.proofs.Cited.{◌≤◌}
+use Rattle.std.specs.Prelude.{◌⊎◌}
+use Rattle.std.specs.Prelude.{if◌then◌else◌}
+use Rattle.semver.specs.Parse.{◌>>=◌}
+use Rattle.semver.specs.declared.error.Error.{Error}
+use Rattle.semver.proofs.Segments.{stops}
 use Rattle.semver.specs.declared.error.Position.TheVariants as place
 
 -- what is read are comparators that a text can say

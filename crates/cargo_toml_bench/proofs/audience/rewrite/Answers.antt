@@ -1,8 +1,5 @@
-use Rattle.{std.specs.Prelude.IfErr, std.specs.Prelude.IfOk, toml.specs.View.view, toml.specs.declared.value.Value.Value, cargo_toml.specs.Error.Error}
-use Rattle.std.proofs.Common.{Err, Result, arith, inl, inr}
-use Rattle.std.proofs.lemmas.Result.{IfErr-weaker, IfOk-weaker, err_from_is_err_and}
-use Rattle.cargo_toml_bench.specs.Audiences.{IsRewrittenOwn, RefusesRewriting, audience_way}
-use Rattle.{cargo_toml.specs.Manifests.held, cargo_toml.specs.Writes.IsWriting, cargo_toml.specs.Writes.Way, cargo_toml.specs.WrittenManifests.manifest_way}
+use Rattle.cargo_toml_bench.proofs.Cited.{Err, Error, IfErr, IfErr-weaker, IfOk-weaker, IsRewrittenOwn, IsWriting, RefusesRewriting, Result, Value, Way, arith, audience_way, err_from_is_err_and, held, inl, inr, manifest_way, view}
+use Rattle.std.specs.Prelude.{IfOk}
 use Rattle.cargo_toml_bench.proofs.audience.rewrite.Goals as goal
 
 -- What a writer answers.

@@ -1,9 +1,4 @@
-use Rattle.std.proofs.Common.{Bool, IsTrue, rules, ℕ}
-use Rattle.cargo_toml.specs.Manifests.{ManifestMeaning, manifest_meaning}
-use Rattle.cargo_toml.specs.Parsed.{IsParsed, parsed_entries, parsed_table, requirements}
-use Rattle.{cargo_toml.specs.Action.Text, cargo_toml.specs.Admitted.admitted, cargo_toml.specs.Limits.MAX_ITEMS, cargo_toml.specs.OwnBins.own_of}
-use Rattle.{cargo_toml.specs.Removal.is_removed, cargo_toml.specs.Resolved.Answer, cargo_toml.specs.Views.answer_of, cargo_toml_bench.specs.Alike.AreAlike}
-use Rattle.{cargo_toml_features.proofs.Agreement.settled, cargo_toml_graph.proofs.InByteOrder.passed_once}
+use Rattle.cargo_toml_bench.proofs.Cited.{Answer, AreAlike, Bool, IsParsed, IsTrue, MAX_ITEMS, ManifestMeaning, Text, admitted, answer_of, is_removed, manifest_meaning, own_of, parsed_entries, parsed_table, passed_once, requirements, rules, settled, ℕ}
 use Rattle.cargo_toml_bench.proofs.bodies.resolve_by_both.Goals as goal
 
 -- Two answers to one manifest.

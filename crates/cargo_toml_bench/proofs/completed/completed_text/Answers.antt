@@ -1,9 +1,4 @@
-use Rattle.{std.proofs.lemmas.Result.IfOk-weaker, toml.specs.Parse.parse_document, toml.specs.View.view, toml.specs.declared.value.Value.Value}
-use Rattle.std.proofs.Common.{IfSome, Option, Some, arith, option_map, string_bytes, subst, sym}
-use Rattle.{cargo_toml.specs.Asked.WorkspaceMeets, cargo_toml.specs.Choosing.from, cargo_toml.specs.Manifest.Manifest, cargo_toml.specs.Manifests.held}
-use Rattle.{cargo_toml.specs.Manifests.manifest_meaning, cargo_toml.specs.Reread.IsTold, cargo_toml.specs.Reread.SharedIsTold, cargo_toml.specs.Reread.told}
-use Rattle.{cargo_toml.specs.Sharing.shared_of, cargo_toml_bench.specs.Spelled.Spells, cargo_toml_bench.specs.Versioned.IsPrinted}
-use Rattle.{cargo_toml_package.specs.Workspaces.workspace_meaning, cargo_toml_package.specs.declared.workspace.Workspace.Workspace}
+use Rattle.cargo_toml_bench.proofs.Cited.{IfOk-weaker, IfSome, IsPrinted, IsTold, Manifest, Option, SharedIsTold, Some, Spells, Value, Workspace, WorkspaceMeets, arith, from, held, manifest_meaning, option_map, parse_document, shared_of, string_bytes, subst, sym, told, view, workspace_meaning}
 use Rattle.cargo_toml_bench.proofs.completed.completed_text.Goals as goal
 
 -- what a workspace that is told gives is told

@@ -1,9 +1,4 @@
-use Rattle.std.proofs.Common.{arith, ◌≡◌, ◌∙◌, ap, subst, sym, List, ℕ, Option, Some, None, Result, Ok, Err, IsErrAnd, String, Vec, is_some, refl, string_bytes}
-use Rattle.std.proofs.lemmas.Bool.{cases_Bool, false≢true}
-use Rattle.std.specs.{Prelude.IsUtf8, declared.alloc.Global.Global}
-use Rattle.toml.specs.{Data.Data, Parse.parse_document}
-use Rattle.cargo_toml.specs.{Error.Error, Error.Memory, Manifests.ManifestMeaning, Manifests.manifest_reads, Texts.any_tree, Texts.document_reads, Told.ReadsRoot}
-use Rattle.cargo_toml_bench.specs.InMemory.{told_manifest, told_bytes}
+use Rattle.cargo_toml_bench.proofs.Cited.{Data, Err, Error, Global, IsErrAnd, IsUtf8, List, ManifestMeaning, Memory, None, Ok, Option, ReadsRoot, Result, Some, String, Vec, any_tree, ap, arith, cases_Bool, document_reads, false≢true, is_some, manifest_reads, parse_document, refl, string_bytes, subst, sym, told_bytes, told_manifest, ℕ, ◌∙◌, ◌≡◌}
 use Rattle.cargo_toml_bench.proofs.in_memory.read_text.Goals as goal
 
 -- What is read for a root whose text is stated.

@@ -1,6 +1,5 @@
-use Rattle.{std.proofs.Math.Bool.or-false, std.proofs.Math.Bool.or_assoc, std.proofs.lemmas.List.map_push, std.proofs.lemmas.List.take_more}
-use Rattle.{std.proofs.lemmas.Map.Text.hash_set_updates_text, std.specs.List.list_any, std.specs.Str.bytes_eq, cargo_toml_graph.proofs.Texts.bytes_eq_sym}
-use Rattle.std.proofs.Common.{[], ◌++◌, ◌+◌, ◌<◌, ◌||◌, ◌∷◌, ◌≡◌, Bool, List, arith, cond, get_or, length, map, string_bytes, sym, take, true, ℕ}
+use Rattle.cargo_toml_bench.proofs.Cited.{Bool, List, [], arith, bytes_eq_sym, cond, get_or, hash_set_updates_text, length, list_any, map, map_push, or-false, or_assoc, string_bytes, sym, take, take_more, true, ℕ, ◌++◌, ◌+◌, ◌<◌, ◌||◌, ◌∷◌, ◌≡◌}
+use Rattle.std.specs.Str.{bytes_eq}
 use Rattle.cargo_toml_bench.proofs.in_memory.set_of.Goals as goal
 
 -- A set of texts that takes one more.

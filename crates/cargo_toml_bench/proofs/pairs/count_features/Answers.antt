@@ -1,14 +1,8 @@
-use Rattle.std.proofs.Common.{arith, ◌≡◌, ℕ, false, Option, Some, None, Result, Ok, IsSome, IfSome, Bor, sym, subst, ◌||◌, List, [], ◌∷◌, map, bytes_eq, is_some, refl, ap, inl, inr, ◌∙◌}
-use Rattle.std.proofs.lemmas.{Bool.false≢true, List.length-map, Map.Made.is_some-lookup, Slice.Eq.bytes_eq-Decides}
-use Rattle.std.specs.{HashMap.HashMap, HashMap.IsUnique, HashMap.hash_map_len, List.AllByRecursion, List.IsDistinct, List.list_any}
-use Rattle.cargo_toml.specs.{Error.Error, Filter.Asked, Completing.Outcome, Lent.IsLeft, Lent.IsResolvedAfter, Lent.with_lent, Limits.MAX_ITEMS}
-use Rattle.cargo_toml.specs.{Manifest.Manifest, Manifests.ManifestMeaning, Manifests.held, Parsed.IsParsed, Parsed.IsParsedBy, Parsed.parsed_table}
-use Rattle.cargo_toml.specs.{Views.answer_of, Views.resolution_of, Views.value_at, Action.Text, Feature.Feature, Graph.IsResolved, Reach.Among, Reach.IsOnce}
-use Rattle.cargo_toml_features.specs.declared.features.Features.{Features}
+use Rattle.cargo_toml_bench.proofs.Cited.{AllByRecursion, Asked, Bor, Error, Feature, Features, HashMap, IfSome, IsDistinct, IsFeatureCount, IsHidden, IsLeft, IsParsed, IsParsedBy, IsResolved, IsResolvedAfter, IsSome, IsUnique, List, MAX_ITEMS, Manifest, ManifestMeaning, None, Ok, Option, Outcome, Result, Some, Text, [], among-true, answer_of, ap, arith, bytes_eq}
+use Rattle.cargo_toml_bench.proofs.Cited.{bytes_eq-Decides, false, false≢true, hash_map_len, held, inl, inr, is_among-true, is_some, is_some-lookup, length-map, list_any, lists_text, map, parsed_table, refl, resolution_of, subst, sym, texts_now, value_at, with_lent, ℕ, ◌||◌, ◌∙◌, ◌∷◌, ◌≡◌}
 use Rattle.cargo_toml_bench.proofs.Asked.{parsed_at, tells_none}
-use Rattle.cargo_toml_graph.{specs.Removal.lists_text, proofs.BinLists.among-true, proofs.BinLists.is_among-true}
-use Rattle.cargo_toml_resolve.specs.Texts.{texts_now}
-use Rattle.cargo_toml_bench.specs.Pairs.{IsFeatureCount, IsHidden}
+use Rattle.cargo_toml.specs.Reach.{Among}
+use Rattle.cargo_toml.specs.Reach.{IsOnce}
 use Rattle.cargo_toml_bench.proofs.pairs.count_features.Goals as goal
 
 -- What is resolved of a manifest that was lent is resolved of the manifest that is left.

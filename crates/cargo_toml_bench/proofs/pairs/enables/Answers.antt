@@ -1,9 +1,6 @@
-use Rattle.std.proofs.Common.{arith, ◌≡◌, ◌↔◌, Bool, false, Bor, IsTrue, Some, None, is_some, sym, ap, ◌∙◌, true}
-use Rattle.std.specs.{HashMap.HashMap, Option.option_copied}
-use Rattle.cargo_toml.specs.{Action.Text, Feature.Feature, Graph.Table, Graph.IsResolved, Reached.AreEnabled, Reached.Found, Reached.IsKeyed}
-use Rattle.cargo_toml.specs.{Views.resolution_of, Views.value_at, Limits.MAX_ITEMS, Manifests.manifest_meaning, Parsed.parsed_table, Removal.is_removed}
-use Rattle.cargo_toml_features.proofs.{Pending.key_of, NoneRemoved.enables_in, NoneRemoved.enables_out, NoneRemoved.held}
-use Rattle.cargo_toml_bench.{specs.Pairs.HasEnabling, proofs.Unreferenced.nothing_removed}
+use Rattle.cargo_toml_bench.proofs.Cited.{AreEnabled, Bool, Bor, Feature, Found, HasEnabling, HashMap, IsKeyed, IsResolved, IsTrue, MAX_ITEMS, None, Some, Table, Text, ap, arith, enables_in, enables_out, false, is_removed, is_some, key_of, manifest_meaning, option_copied, parsed_table, resolution_of, sym, true, value_at, ◌↔◌, ◌∙◌, ◌≡◌}
+use Rattle.cargo_toml_bench.proofs.Unreferenced.{nothing_removed}
+use Rattle.cargo_toml_features.proofs.NoneRemoved.{held}
 use Rattle.cargo_toml_bench.proofs.pairs.enables.Goals as goal
 
 -- What the walk over a map of features tells, where none is removed, is what the table tells.

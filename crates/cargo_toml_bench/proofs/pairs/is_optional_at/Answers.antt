@@ -1,7 +1,5 @@
-use Rattle.std.proofs.Common.{◌≡◌, List, [], ◌∷◌, option_map, Some, None, refl, sym, ap, subst, ◌∙◌}
-use Rattle.std.specs.Option.{option_copied}
-use Rattle.cargo_toml.specs.{Admitted.admitted, Dependencies.is_optional, Limits.MAX_ITEMS, Manifests.held, Parsed.parsed_entries, Recorded.Entry}
-use Rattle.cargo_toml.specs.{Recorded.entries_at, Recorded.first_target, Recorded.recorded_of, Resolved.SameRecorded, Views.recorded_in, Views.value_at}
+use Rattle.cargo_toml_bench.proofs.Cited.{List, MAX_ITEMS, None, SameRecorded, Some, [], admitted, ap, entries_at, first_target, held, is_optional, option_copied, option_map, parsed_entries, recorded_in, recorded_of, refl, subst, sym, value_at, ◌∙◌, ◌∷◌, ◌≡◌}
+use Rattle.cargo_toml.specs.Recorded.{Entry}
 use Rattle.cargo_toml_bench.proofs.pairs.is_optional_at.Goals as goal
 
 -- where nothing is recorded of entries, there is no first

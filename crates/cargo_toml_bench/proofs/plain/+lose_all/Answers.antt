@@ -1,6 +1,5 @@
-use Rattle.{std.proofs.Common.subst, std.proofs.Common.sym, std.proofs.lemmas.List.nil_from_length, std.proofs.lemmas.Option.MatchOption-at_none}
-use Rattle.{cargo_toml_bench.proofs.Taken.nothing_changes, cargo_toml_bench.proofs.Taken.turn, cargo_toml_bench.specs.Removing.ChangesAll}
-use Rattle.{cargo_toml_bench.specs.Removing.Loses, cargo_toml_graph.specs.Reach.IsOnce, cargo_toml_resolve.specs.Texts.texts_now}
+use Rattle.cargo_toml_bench.proofs.Cited.{ChangesAll, IsOnce, Loses, MatchOption-at_none, nil_from_length, subst, sym, texts_now}
+use Rattle.cargo_toml_bench.proofs.Taken.{nothing_changes, turn}
 use Rattle.cargo_toml_bench.proofs.plain.+lose_all.Goals as goal
 
 pub returns-in_default : goal.returns-in_default

@@ -1,9 +1,5 @@
-use Rattle.{std.proofs.lemmas.Bool.and_from, std.proofs.lemmas.Bool.and_parts, std.proofs.lemmas.List.nil_from_length}
-use Rattle.{std.proofs.lemmas.Option.MatchOption-at_none, cargo_toml_bench.specs.Removing.AreTakenOut, cargo_toml_graph.proofs.Texts.apart_false}
-use Rattle.std.proofs.Common.{◌∙◌, inl, inr, refl, subst, sym}
+use Rattle.cargo_toml_bench.proofs.Cited.{Among, AreTakenOut, IsOnce, MatchOption-at_none, and_from, and_parts, apart_false, inl, inr, nil_from_length, pass_bins, refl, subst, sym, texts_now, without_one, ◌∙◌}
 use Rattle.cargo_toml_bench.proofs.Taken.{bins_then, first_out, none_out, start_then}
-use Rattle.cargo_toml_graph.specs.Removal.{pass_bins, without_one}
-use Rattle.{cargo_toml_graph.specs.Reach.Among, cargo_toml_graph.specs.Reach.IsOnce, cargo_toml_resolve.specs.Texts.texts_now}
 use Rattle.cargo_toml_bench.proofs.plain.+remove_all.Goals as goal
 
 pub returns-in_default : goal.returns-in_default

@@ -1,5 +1,4 @@
-use Rattle.std.proofs.Common.{◌&&◌, not, bytes_eq, ap, ◌∙◌}
-use Rattle.cargo_toml_resolve.proofs.Sets.{removed_text}
+use Rattle.cargo_toml_bench.proofs.Cited.{ap, bytes_eq, not, removed_text, ◌&&◌, ◌∙◌}
 use Rattle.cargo_toml_bench.proofs.plain.pass_on.Goals as goal
 
 pub returns-in_ok-add_all : goal.returns-in_ok-add_all

@@ -1,7 +1,5 @@
-use Rattle.{std.proofs.lemmas.List.map_push, std.specs.List.list_any, cargo_toml_graph.proofs.Texts.bytes_eq_sym, cargo_toml_graph.specs.Action.Text}
-use Rattle.std.proofs.Common.{[], ◌||◌, ◌∙◌, ◌∷◌, ◌≡◌, Bor, List, ap, ap₂, bytes_eq, false, refl, rules, sym, true}
-use Rattle.std.proofs.lemmas.Bool.{cond-false, cond-true}
-use Rattle.{cargo_toml_graph.specs.Removal.lists_text, cargo_toml_resolve.specs.Texts.texts_now}
+use Rattle.cargo_toml_bench.proofs.Cited.{Bor, List, [], ap, ap₂, bytes_eq, bytes_eq_sym, cond-false, cond-true, false, list_any, lists_text, map_push, refl, rules, sym, texts_now, true, ◌||◌, ◌∙◌, ◌∷◌, ◌≡◌}
+use Rattle.cargo_toml_graph.specs.Action.{Text}
 use Rattle.cargo_toml_bench.proofs.plain.put_bin.Goals as goal
 
 -- What stands in a list of texts.

@@ -1,5 +1,4 @@
-use Rattle.{std.specs.Prelude.filter, cargo_toml_bench.specs.Alone.is_alone_at, cargo_toml_bench.specs.Reports.texts, cargo_toml_resolve.specs.Texts.texts_now}
-use Rattle.std.proofs.Common.{◌≡◌, take}
+use Rattle.cargo_toml_bench.proofs.Cited.{filter, is_alone_at, take, texts, texts_now, ◌≡◌}
 use Rattle.cargo_toml_bench.proofs.report.alone_among.Given as goal
 
 abbrev pub invariant-loop-name : goal.invariant-loop-name

@@ -1,6 +1,5 @@
-use Rattle.std.proofs.Common.{◌≡◌, ◌++◌, map, String, string_bytes, Global}
-use Rattle.cargo_toml.specs.{Action.Text, Dependency.Dependency, Dependencies.DependencyMeaning, Dependencies.dependency_meaning}
-use Rattle.cargo_toml_bench.specs.Reports.{texts, optional_keys}
+use Rattle.cargo_toml_bench.proofs.Cited.{Dependency, DependencyMeaning, String, Text, dependency_meaning, map, optional_keys, string_bytes, texts, ◌++◌, ◌≡◌}
+use Rattle.std.proofs.Common.{Global}
 use Rattle.cargo_toml_bench.proofs.report.optional_dependencies.Given as goal
 
 -- what an entry of a table of dependencies holds

@@ -1,7 +1,5 @@
-use Rattle.{std.specs.Prelude.filter, cargo_toml.specs.Limits.MAX_ITEMS, cargo_toml.specs.Manifests.manifest_meaning, cargo_toml.specs.Parsed.parsed_table}
-use Rattle.std.proofs.Common.{◌∙◌, IsTrue, ap, true}
+use Rattle.cargo_toml_bench.proofs.Cited.{IsTrue, MAX_ITEMS, ap, filter, is_alone_at, is_removed, manifest_meaning, parsed_table, texts_now, true, ◌∙◌}
 use Rattle.cargo_toml_bench.proofs.Unreferenced.{all_alone, nothing_removed}
-use Rattle.{cargo_toml.specs.Removal.is_removed, cargo_toml_bench.specs.Alone.is_alone_at, cargo_toml_resolve.specs.Texts.texts_now}
 use Rattle.cargo_toml_bench.proofs.report.unreferenced_features.Goals as goal
 
 pub returns-clause-names : goal.returns-clause-names

@@ -1,7 +1,4 @@
-use Rattle.{std.proofs.Common.◌∙◌, std.proofs.Common.◌≡◌, std.proofs.Common.IfOk, std.proofs.Common.sym, std.proofs.lemmas.Bool.Decides.same_from_decides}
-use Rattle.{std.proofs.lemmas.Iterator.items_from_collect, std.proofs.lemmas.Result.IfOk-weaker, cargo_toml_graph.proofs.BinLists.among-true}
-use Rattle.std.proofs.lemmas.Iterator.Consumers.{YieldsList-from_copied, YieldsList-from_rest}
-use Rattle.{cargo_toml_graph.proofs.BinLists.is_among-true, cargo_toml_resolve.proofs.InOrder.all_taken, cargo_toml_resolve.proofs.InOrder.taken_in_order}
+use Rattle.cargo_toml_bench.proofs.Cited.{IfOk, IfOk-weaker, YieldsList-from_copied, YieldsList-from_rest, all_taken, among-true, is_among-true, items_from_collect, same_from_decides, sym, taken_in_order, ◌∙◌, ◌≡◌}
 use Rattle.cargo_toml_bench.proofs.sets.names_in_order.Goals as goal
 
 pub returns-clause-all : goal.returns-clause-all

@@ -1,8 +1,4 @@
-use Rattle.std.proofs.Common.{◌≡◌, ◌∙◌, Some, ap, subst}
-use Rattle.toml.specs.{Data.Data, Data.table, View.view, View.table_view}
-use Rattle.toml.proofs.Views.{view-Table}
-use Rattle.cargo_toml.specs.{Floats.without_floats, Manifests.manifest_meaning, Manifests.manifest_reads, Reread.reread, Texts.any_tree, Texts.document_reads}
-use Rattle.cargo_toml.specs.{Ways.free_way, WrittenManifests.manifest_way}
+use Rattle.cargo_toml_bench.proofs.Cited.{Data, Some, any_tree, ap, document_reads, free_way, manifest_meaning, manifest_reads, manifest_way, reread, subst, table, table_view, view, view-Table, without_floats, ◌∙◌, ◌≡◌}
 use Rattle.cargo_toml_bench.proofs.versioned.manifest_text.Goals as goal
 
 pub returns-in-Ok : goal.returns-in-Ok

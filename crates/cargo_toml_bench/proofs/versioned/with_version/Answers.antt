@@ -1,11 +1,4 @@
-use Rattle.std.proofs.Common.{arith, ◌≡◌, ◌∙◌, ap, false, Option, IfSome, option_map, subst, sym, string_bytes}
-use Rattle.std.proofs.lemmas.Result.{IfOk-weaker}
-use Rattle.semver.specs.{Identifiers.parts_of, declared.Version.Version}
-use Rattle.toml.specs.{Data.Data, View.view, declared.value.Value.Value, Parse.parse_document}
-use Rattle.cargo_toml.specs.Manifests.{ManifestMeaning, by_zero_rule, is_zero, manifest_meaning}
-use Rattle.cargo_toml.specs.{Inheritable.TheVariants.Set, Manifest.Manifest, Package.Package, Packages.PackageMeaning, Packages.package_meaning, Reread.IsTold}
-use Rattle.cargo_toml.specs.{Reread.reread, Versions.Parts, WrittenPackages.IsVersionAgain, WrittenPackages.VersionAgain}
-use Rattle.cargo_toml_bench.specs.{Versioned.with_version, Versioned.IsPrinted, Versioned.IsVersioned, Spelled.Spells}
+use Rattle.cargo_toml_bench.proofs.Cited.{Data, IfOk-weaker, IfSome, IsPrinted, IsTold, IsVersionAgain, IsVersioned, Manifest, ManifestMeaning, Option, Package, PackageMeaning, Parts, Set, Spells, Value, Version, VersionAgain, ap, arith, by_zero_rule, false, is_zero, manifest_meaning, option_map, package_meaning, parse_document, parts_of, reread, string_bytes, subst, sym, view, with_version, ◌∙◌, ◌≡◌}
 use Rattle.cargo_toml_bench.proofs.versioned.with_version.Goals as goal
 
 -- A manifest with another version of its package: it is still told, and read again as it is.

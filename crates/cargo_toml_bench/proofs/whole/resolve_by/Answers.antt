@@ -1,7 +1,4 @@
-use Rattle.std.proofs.Common.{Bool, Result, Ok, Err, IfOk, sym, subst, ◌∙◌}
-use Rattle.std.proofs.lemmas.Result.{IfOk-weaker}
-use Rattle.cargo_toml.specs.Parsed.{AreBinsComplete, IsParsed, parsed_table}
-use Rattle.cargo_toml.specs.{Action.Text, Filter.FilterTells, Filter.HasNameFilter, Manifests.manifest_meaning, Removal.is_removed, Views.answer_of}
+use Rattle.cargo_toml_bench.proofs.Cited.{AreBinsComplete, Bool, Err, FilterTells, HasNameFilter, IfOk, IfOk-weaker, IsParsed, Ok, Result, Text, answer_of, is_removed, manifest_meaning, parsed_table, subst, sym, ◌∙◌}
 use Rattle.cargo_toml_bench.proofs.Asked.{complete_at, parsed_at, tells_none}
 use Rattle.cargo_toml_bench.proofs.whole.resolve_by.Goals as goal
 

@@ -1,5 +1,4 @@
-use Rattle.std.{proofs.Common.true, proofs.lemmas.Result.IfOk-weaker}
-use Rattle.cargo_toml.specs.{Limits.MAX_ITEMS, Manifests.manifest_meaning, Parsed.IsParsed, Views.answer_of}
+use Rattle.cargo_toml_bench.proofs.Cited.{IfOk-weaker, IsParsed, MAX_ITEMS, answer_of, manifest_meaning, true}
 use Rattle.cargo_toml_bench.proofs.whole.resolve_whole.Goals as goal
 
 pub returns-clause-resolved : goal.returns-clause-resolved

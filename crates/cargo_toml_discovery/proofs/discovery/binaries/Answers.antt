@@ -1,10 +1,4 @@
-use Rattle.std.proofs.Common.{◌≡◌, ◌∙◌, refl, ap, List, Bool, true, false, codes, rules}
-use Rattle.cargo_toml_parts.specs.declared.settings.Edition.{Edition}
-use Rattle.cargo_toml_parts.specs.Products.{ProductMeaning}
-use Rattle.cargo_toml_discovery.specs.Answers.{answers_of, around_in}
-use Rattle.cargo_toml_discovery.specs.Discovering.{listed_products, main_offer}
-use Rattle.cargo_toml_discovery.specs.Found.{Named}
-use Rattle.cargo_toml_discovery.specs.Names.{Name, has_text}
+use Rattle.cargo_toml_discovery.proofs.Cited.{Bool, Edition, List, Name, Named, ProductMeaning, answers_of, ap, around_in, codes, false, has_text, listed_products, main_offer, refl, rules, true, ◌∙◌, ◌≡◌}
 use Rattle.cargo_toml_discovery.proofs.discovery.binaries.Goals as goal
 
 -- whether `src/main.rs` is there counts only where binaries are wanted

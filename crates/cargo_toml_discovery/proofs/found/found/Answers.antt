@@ -1,10 +1,5 @@
-use Rattle.std.proofs.Common.{◌≡◌, ◌++◌, map, sym, ap, ◌∙◌, List, [], Option, Some, None, refl, filter, append-nil, option_to_list}
-use Rattle.std.specs.List.{cons_option}
+use Rattle.cargo_toml_discovery.proofs.Cited.{List, None, Offered, Option, ProductMeaning, Some, [], ap, append-nil, cons_option, filter, has_path, in_order, is_path_in, is_path_of, last_waiting, map, named_of, offers, option_to_list, product_meaning, refl, sym, waiting_in, walk, walked, with_extra, ◌++◌, ◌∙◌, ◌≡◌}
 use Rattle.cargo_toml_discovery.proofs.{Ascend.offers-same, Ascend.walk-found, Placed.walk-same}
-use Rattle.cargo_toml_discovery.specs.Found.{has_path, is_path_of, last_waiting, offers, Offered}
-use Rattle.cargo_toml_discovery.specs.Sorting.{in_order}
-use Rattle.cargo_toml_discovery.specs.Walk.{with_extra, walk, walked, waiting_in, is_path_in, named_of}
-use Rattle.cargo_toml_parts.specs.Products.{product_meaning, ProductMeaning}
 use Rattle.cargo_toml_discovery.specs.declared.found.Placing as code
 use Rattle.cargo_toml_discovery.proofs.found.found.Goals as goal
 

@@ -1,6 +1,5 @@
-use Rattle.std.proofs.Common.{Bool, ◌||◌, arith, ap, sym, ◌∙◌}
-use Rattle.cargo_toml_discovery.{proofs.Placed.is_path_of-more, specs.Found.is_text}
-use Rattle.cargo_toml_parts.specs.Products.{product_meaning}
+use Rattle.cargo_toml_discovery.proofs.Cited.{Bool, ap, arith, is_text, product_meaning, sym, ◌||◌, ◌∙◌}
+use Rattle.cargo_toml_discovery.proofs.Placed.{is_path_of-more}
 use Rattle.cargo_toml_discovery.proofs.found.paths_of.Goals as goal
 
 pub loop-product-preserved : goal.loop-product-preserved

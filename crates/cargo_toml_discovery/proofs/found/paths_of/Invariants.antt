@@ -1,6 +1,4 @@
-use Rattle.std.proofs.Common.{◌≡◌, map, take}
-use Rattle.cargo_toml_discovery.specs.{Found.is_path_of, Names.Name, Walk.is_path_in}
-use Rattle.cargo_toml_parts.specs.Products.{product_meaning}
+use Rattle.cargo_toml_discovery.proofs.Cited.{Name, is_path_in, is_path_of, map, product_meaning, take, ◌≡◌}
 use Rattle.cargo_toml_discovery.proofs.found.paths_of.Given as goal
 
 abbrev pub invariant-loop-product : goal.invariant-loop-product

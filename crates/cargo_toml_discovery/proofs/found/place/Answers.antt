@@ -1,9 +1,6 @@
-use Rattle.std.proofs.Common.{◌≡◌, ◌++◌, List, map, sym, ap, ◌∙◌, refl, string_bytes, None, Some, Option, cond, append_assoc}
-use Rattle.std.specs.{Option.option_map, Option.option_copied, Str.bytes_eq}
-use Rattle.std.proofs.lemmas.{List.map_push, Map.Text.btree_map_updates_str}
-use Rattle.cargo_toml_discovery.proofs.{Lookups.map-cond, Placed.Lent, Placed.seen_twice, Placed.shown, Placed.walk-step}
-use Rattle.cargo_toml_discovery.specs.{Found.Offered, Names.Name, Walk.offer_parts, Walk.waiting_in}
-use Rattle.cargo_toml_parts.specs.Products.{product_meaning, ProductMeaning}
+use Rattle.cargo_toml_discovery.proofs.Cited.{List, Name, None, Offered, Option, ProductMeaning, Some, ap, append_assoc, btree_map_updates_str, bytes_eq, cond, map, map_push, offer_parts, option_copied, option_map, product_meaning, refl, string_bytes, sym, waiting_in, ◌++◌, ◌∙◌, ◌≡◌}
+use Rattle.cargo_toml_discovery.proofs.Placed.{Lent, seen_twice, shown, walk-step}
+use Rattle.cargo_toml_discovery.proofs.Lookups.{map-cond}
 use Rattle.cargo_toml_discovery.proofs.found.place.Goals as goal
 
 there : (o : Option Offered) (p : Name × Name) → option_map offer_parts o ≡ Some p → (q : Offered) × (o ≡ Some q) × (offer_parts q ≡ p)

@@ -1,7 +1,4 @@
-use Rattle.std.proofs.Common.{◌≡◌, ◌++◌, ◌<◌, ◌+◌, ◌∙◌, ℕ, List, Option, Some, None, add-one, ap, drop, drop-cons, get_or, length, map, refl, sym}
-use Rattle.std.specs.List.{cons_option, filter_map}
-use Rattle.cargo_toml_discovery.specs.Found.{Named, Offered, offers}
-use Rattle.cargo_toml_discovery.specs.Walk.{is_path_in, named_of, walked}
+use Rattle.cargo_toml_discovery.proofs.Cited.{List, Named, None, Offered, Option, Some, add-one, ap, cons_option, drop, drop-cons, filter_map, get_or, is_path_in, length, map, named_of, offers, refl, sym, walked, ℕ, ◌++◌, ◌+◌, ◌<◌, ◌∙◌, ◌≡◌}
 use Rattle.cargo_toml_discovery.specs.declared.listings.Entry as code
 use Rattle.cargo_toml_discovery.proofs.found.place_all.Goals as goal
 

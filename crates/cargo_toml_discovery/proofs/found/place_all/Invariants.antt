@@ -1,6 +1,4 @@
-use Rattle.std.proofs.Common.{◌≡◌, ◌++◌, map, drop, List}
-use Rattle.cargo_toml_discovery.specs.Found.{offers, Offered}
-use Rattle.cargo_toml_discovery.specs.Walk.{walked, is_path_in, named_of}
+use Rattle.cargo_toml_discovery.proofs.Cited.{List, Offered, drop, is_path_in, map, named_of, offers, walked, ◌++◌, ◌≡◌}
 use Rattle.cargo_toml_discovery.proofs.found.place_all.Given as goal
 
 abbrev pub invariant-loop-entry : goal.invariant-loop-entry

@@ -1,5 +1,4 @@
-use Rattle.std.proofs.Common.{ap, not, ◌∙◌, Some}
-use Rattle.std.proofs.lemmas.Map.Text.{btree_map_updates_str}
+use Rattle.cargo_toml_discovery.proofs.Cited.{Some, ap, btree_map_updates_str, not, ◌∙◌}
 use Rattle.cargo_toml_discovery.proofs.Placed.{waits-step}
 use Rattle.cargo_toml_discovery.proofs.found.wait.Goals as goal
 

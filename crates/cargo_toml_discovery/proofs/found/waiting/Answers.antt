@@ -1,6 +1,5 @@
-use Rattle.std.proofs.Common.{arith, ap, sym, ◌∙◌}
-use Rattle.cargo_toml_discovery.{proofs.Placed.last_waiting-more, specs.Found.waits_or}
-use Rattle.cargo_toml_parts.specs.Products.{product_meaning}
+use Rattle.cargo_toml_discovery.proofs.Cited.{ap, arith, product_meaning, sym, waits_or, ◌∙◌}
+use Rattle.cargo_toml_discovery.proofs.Placed.{last_waiting-more}
 use Rattle.cargo_toml_discovery.proofs.found.waiting.Goals as goal
 
 pub loop-product-preserved : goal.loop-product-preserved

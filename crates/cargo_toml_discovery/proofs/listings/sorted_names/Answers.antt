@@ -1,10 +1,6 @@
-use Rattle.std.proofs.Common.{◌≡◌, Bool, true, false, ◌||◌, List, [], ◌∷◌, refl, ◌∙◌, sym, subst, String, string_bytes, map-id}
-use Rattle.std.specs.{List.list_any, Str.bytes_eq, String.string_cmp, declared.alloc.Global.Global}
-use Rattle.std.specs.BTreeSet.{BTreeSet, IsFromIterResult, contains_text}
-use Rattle.std.specs.HashSet.{HashSet, contains_text as has_in}
-use Rattle.std.proofs.lemmas.{Slice.Eq.bytes_eq-Decides, Result.IfOk-weaker}
-use Rattle.std.proofs.lemmas.Iterator.{items_from_drains, Consumers.YieldsList-from_rest}
-use Rattle.cargo_toml_discovery.{proofs.Unique.any_equal, specs.Names.Name}
+use Rattle.cargo_toml_discovery.proofs.Cited.{BTreeSet, Bool, Global, HashSet, IfOk-weaker, IsFromIterResult, List, Name, String, YieldsList-from_rest, [], bytes_eq, bytes_eq-Decides, contains_text, false, items_from_drains, list_any, map-id, refl, string_bytes, string_cmp, subst, sym, true, ◌||◌, ◌∙◌, ◌∷◌, ◌≡◌}
+use Rattle.cargo_toml_discovery.proofs.Unique.{any_equal}
+use Rattle.std.specs.HashSet.{contains_text as has_in}
 use Rattle.cargo_toml_discovery.proofs.listings.sorted_names.Goals as goal
 
 abbrev has : Name → List (String Global) → Bool

@@ -1,9 +1,4 @@
-use Rattle.std.proofs.Common.{◌≡◌, ℕ, Bool, cond, zero, suc, List, [], ◌∷◌, ◌++◌, refl, ap, ◌∙◌, sym, subst, length, get_or, ◌<◌, take, drop, Option, Some, None, inl, inr, arith, take-append-drop, nat_eq}
-use Rattle.std.{proofs.lemmas.List.map-append, specs.Str.NoCharPasses, specs.Str.Iter.IsCharPattern}
-use Rattle.std.specs.Str.{Replace.ReplacesMatches, Pattern.HasCharAt, Pattern.FindsChar}
-use Rattle.std.proofs.lemmas.Str.{Pattern.NoCharPasses-char, Pattern.drop_at_char, len_utf8_ascii}
-use Rattle.std.proofs.lemmas.{Bool.ne_eqb, Result.IfOk-weaker}
-use Rattle.cargo_toml_discovery.specs.Names.{Name, underscored}
+use Rattle.cargo_toml_discovery.proofs.Cited.{Bool, FindsChar, HasCharAt, IfOk-weaker, IsCharPattern, List, Name, NoCharPasses, NoCharPasses-char, None, Option, ReplacesMatches, Some, [], ap, arith, cond, drop, drop_at_char, get_or, inl, inr, len_utf8_ascii, length, map-append, nat_eq, ne_eqb, refl, subst, suc, sym, take, take-append-drop, underscored, zero, ℕ, ◌++◌, ◌<◌, ◌∙◌, ◌∷◌, ◌≡◌}
 use Rattle.cargo_toml_discovery.proofs.names.underscored.Goals as goal
 
 kept : (s : Name) → ((i : ℕ) → i < length s → get_or s i 0 ≡ 45 → ⊥) → underscored s ≡ s

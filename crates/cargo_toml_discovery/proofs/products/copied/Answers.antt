@@ -1,7 +1,4 @@
-use Rattle.std.proofs.Common.{◌≡◌, string_bytes, Option, Some, None, refl, ap}
-use Rattle.std.proofs.lemmas.Result.{MatchResult-weaker}
-use Rattle.cargo_toml_parts.proofs.SameCopies.{IsOptionCopy, option_same, zip_same}
-use Rattle.cargo_toml_parts.specs.Products.{product_meaning}
+use Rattle.cargo_toml_discovery.proofs.Cited.{IsOptionCopy, MatchResult-weaker, None, Option, Some, ap, option_same, product_meaning, refl, string_bytes, zip_same, ◌≡◌}
 use Rattle.cargo_toml_parts.specs.contracts.product.ProductClone.TheImpl as clone
 use Rattle.cargo_toml_parts.specs.declared.product.Product as code
 use Rattle.cargo_toml_discovery.proofs.products.copied.Goals as goal

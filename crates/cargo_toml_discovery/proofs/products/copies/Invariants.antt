@@ -1,5 +1,4 @@
-use Rattle.std.proofs.Common.{◌≡◌, map, take}
-use Rattle.cargo_toml_parts.specs.Products.{product_meaning}
+use Rattle.cargo_toml_discovery.proofs.Cited.{map, product_meaning, take, ◌≡◌}
 use Rattle.cargo_toml_discovery.proofs.products.copies.Given as goal
 
 abbrev pub invariant-loop-product : goal.invariant-loop-product

@@ -1,6 +1,4 @@
-use Rattle.std.proofs.Common.{◌≡◌, map, drop}
-use Rattle.cargo_toml_discovery.specs.Found.{is_path_of}
-use Rattle.cargo_toml_parts.specs.Products.{product_meaning}
+use Rattle.cargo_toml_discovery.proofs.Cited.{drop, is_path_of, map, product_meaning, ◌≡◌}
 use Rattle.cargo_toml_discovery.proofs.products.is_path_of.Given as goal
 
 abbrev pub invariant-loop-product : goal.invariant-loop-product

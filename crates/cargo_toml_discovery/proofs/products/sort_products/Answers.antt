@@ -1,8 +1,5 @@
-use Rattle.std.proofs.{Common.map, Common.ap, Common.◌∙◌, Common.rules, lemmas.Result.on_ok_weaker}
-use Rattle.std.proofs.lemmas.List.Sorted.{answers_always}
+use Rattle.cargo_toml_discovery.proofs.Cited.{answers_always, ap, map, on_ok_weaker, product_lt, product_meaning, rules, ◌∙◌}
 use Rattle.cargo_toml_discovery.proofs.Stable.{products_rank, sort_gives, map-sorted_by}
-use Rattle.cargo_toml_discovery.specs.Sorting.{product_lt}
-use Rattle.cargo_toml_parts.specs.Products.{product_meaning}
 use Rattle.cargo_toml_discovery.proofs.products.sort_products.Goals as goal
 
 pub returns : goal.returns

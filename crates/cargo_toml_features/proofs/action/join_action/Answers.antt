@@ -1,6 +1,5 @@
-use Rattle.std.proofs.Common.{ap, arith, unwrap_or, ◌∙◌}
-use Rattle.std.proofs.lemmas.Map.Text.{text_keys}
-use Rattle.cargo_toml_features.{specs.ActionText.action_in, proofs.ActionTexts.joined_at}
+use Rattle.cargo_toml_features.proofs.Cited.{action_in, ap, arith, text_keys, unwrap_or, ◌∙◌}
+use Rattle.cargo_toml_features.proofs.ActionTexts.{joined_at}
 use Rattle.cargo_toml_features.proofs.action.join_action.Goals as goal
 
 pub returns : goal.returns

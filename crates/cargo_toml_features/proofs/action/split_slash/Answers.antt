@@ -1,5 +1,4 @@
-use Rattle.std.proofs.Common.{sym, lit<, nat_eq, None}
-use Rattle.std.proofs.lemmas.Str.Pattern.{split_once_first}
+use Rattle.cargo_toml_features.proofs.Cited.{None, lit<, nat_eq, split_once_first, sym}
 use Rattle.cargo_toml_features.proofs.ActionTexts.{none_found}
 use Rattle.cargo_toml_features.proofs.action.split_slash.Goals as goal
 

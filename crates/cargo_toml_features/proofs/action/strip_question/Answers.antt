@@ -1,5 +1,4 @@
-use Rattle.std.proofs.Common.{◌≡◌, codes, false, nat_eq}
-use Rattle.std.{specs.List.ends_with, proofs.lemmas.Str.Pattern.ends_text}
+use Rattle.cargo_toml_features.proofs.Cited.{codes, ends_text, ends_with, false, nat_eq, ◌≡◌}
 use Rattle.cargo_toml_features.proofs.action.strip_question.Goals as goal
 
 pub returns-in-None-clause-found : goal.returns-in-None-clause-found

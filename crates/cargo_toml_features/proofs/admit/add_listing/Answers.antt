@@ -1,5 +1,4 @@
-use Rattle.std.proofs.Common.{string_bytes, rules}
-use Rattle.std.proofs.lemmas.List.{map_push, take-map}
+use Rattle.cargo_toml_features.proofs.Cited.{map_push, rules, string_bytes, take-map}
 use Rattle.cargo_toml_features.proofs.{Listings.detail_of_one, Listings.listed_one, admit.add_listing.Goals.then-len-limit-via-then-len-limit}
 use Rattle.cargo_toml_features.proofs.admit.add_listing.Goals as goal
 

@@ -1,6 +1,5 @@
-use Rattle.std.proofs.Common.{◌≡◌, [], map, sym, ap, rules, ◌∙◌}
-use Rattle.cargo_toml_graph.{specs.Admitted.Listed, specs.Admitted.admitted, proofs.Cut.admitted_once, proofs.Cut.cut, proofs.Cut.cut_is_admitted}
-use Rattle.cargo_toml_features.{specs.Views.listed_of, proofs.Listings.looked_up, proofs.Listings.sorted_ascends, proofs.Listings.sorted_entry, proofs.Listings.names_listed, proofs.Listings.one_listing}
+use Rattle.cargo_toml_features.proofs.Cited.{Listed, [], admitted, admitted_once, ap, cut, cut_is_admitted, listed_of, map, rules, sym, ◌∙◌, ◌≡◌}
+use Rattle.cargo_toml_features.proofs.Listings.{looked_up, sorted_ascends, sorted_entry, names_listed, one_listing}
 use Rattle.cargo_toml_features.proofs.admit.hashed_listings.Goals as goal
 
 pub returns-clause-listed : goal.returns-clause-listed

@@ -1,6 +1,5 @@
-use Rattle.std.proofs.Common.{◌≡◌, [], map}
-use Rattle.cargo_toml_graph.proofs.Cut.{cut}
-use Rattle.cargo_toml_features.{specs.Marks.details_listed, specs.Marks.named_details, specs.Views.listed_of, proofs.Listings.sorted_entry}
+use Rattle.cargo_toml_features.proofs.Cited.{[], cut, details_listed, listed_of, map, named_details, ◌≡◌}
+use Rattle.cargo_toml_features.proofs.Listings.{sorted_entry}
 use Rattle.cargo_toml_features.proofs.admit.hashed_listings.Given as goal
 
 abbrev pub invariant-loop-name : goal.invariant-loop-name

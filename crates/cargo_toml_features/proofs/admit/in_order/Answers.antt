@@ -1,6 +1,5 @@
-use Rattle.std.proofs.Common.{rules, ◌≡◌, Some, ap, map, option_map, string_bytes}
-use Rattle.std.{proofs.lemmas.Map.Iter.hash_map_turn, proofs.lemmas.Map.Iter.iter_end, specs.Cmp.Lexicographic.on_texts_equal, specs.Map.Iter.deref_pair}
-use Rattle.cargo_toml_features.{specs.Hashed.actions_at, proofs.Listings.all_put, proofs.Listings.one_put}
+use Rattle.cargo_toml_features.proofs.Cited.{Some, actions_at, ap, deref_pair, hash_map_turn, iter_end, map, on_texts_equal, option_map, rules, string_bytes, ◌≡◌}
+use Rattle.cargo_toml_features.proofs.Listings.{all_put, one_put}
 use Rattle.cargo_toml_features.proofs.admit.in_order.Goals as goal
 
 pub loop-name-preserved : goal.loop-name-preserved

@@ -1,5 +1,4 @@
-use Rattle.std.proofs.Common.{rules}
-use Rattle.cargo_toml_graph.proofs.Cut.{admitted_once, cut, cut_is_admitted}
+use Rattle.cargo_toml_features.proofs.Cited.{admitted_once, cut, cut_is_admitted, rules}
 use Rattle.cargo_toml_features.proofs.Listings.{ascending, names_listed}
 use Rattle.cargo_toml_features.proofs.admit.listings.Goals as goal
 

@@ -1,8 +1,5 @@
-use Rattle.std.proofs.Common.{◌≡◌, [], map}
-use Rattle.cargo_toml_package.specs.Details.{detail_of}
-use Rattle.cargo_toml_parts.specs.Reads.{map_meaning}
-use Rattle.cargo_toml_features.{specs.Marks.details_listed, specs.Marks.named_details, specs.Views.listed_of, specs.Views.listed_in, proofs.Listings.listed_entry}
-use Rattle.cargo_toml_graph.proofs.Cut.{cut}
+use Rattle.cargo_toml_features.proofs.Cited.{[], cut, detail_of, details_listed, listed_in, listed_of, map, map_meaning, named_details, ◌≡◌}
+use Rattle.cargo_toml_features.proofs.Listings.{listed_entry}
 use Rattle.cargo_toml_features.proofs.admit.listings.Given as goal
 
 abbrev pub invariant-loop-name : goal.invariant-loop-name

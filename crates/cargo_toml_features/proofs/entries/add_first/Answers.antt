@@ -1,9 +1,5 @@
 -- The first entries of a table, one after another.
-use Rattle.std.proofs.Common.{arith, ◌≡◌, ◌+◌, ℕ, ◌∷◌, Option}
-use Rattle.std.proofs.lemmas.Grind.{common_steps}
-use Rattle.cargo_toml_package.specs.{Dependencies.DependencyMeaning, InheritedDependencies.Entries}
-use Rattle.cargo_toml_features.specs.{declared.features.Kind.Kind, Entries.first_entries}
-use Rattle.cargo_toml_graph.specs.Action.{Text}
+use Rattle.cargo_toml_features.proofs.Cited.{DependencyMeaning, Entries, Kind, Option, Text, arith, common_steps, first_entries, ℕ, ◌+◌, ◌∷◌, ◌≡◌}
 use Rattle.cargo_toml_features.proofs.entries.add_first.Goals as goal
 
 one_more : (kind : Kind) (target : Option Text) (key : Text) (d : DependencyMeaning) (es : Entries) (n m : ℕ) → n + 1 ≡ m →

@@ -1,8 +1,4 @@
-use Rattle.std.proofs.Common.{◌≡◌, ◌++◌, map, string_bytes}
-use Rattle.std.specs.Option.{option_copied}
-use Rattle.cargo_toml_parts.specs.Reads.{map_meaning}
-use Rattle.cargo_toml_package.specs.Dependencies.{dependency_meaning}
-use Rattle.cargo_toml_features.specs.{Entries.first_entries, Views.entry_of}
+use Rattle.cargo_toml_features.proofs.Cited.{dependency_meaning, entry_of, first_entries, map, map_meaning, option_copied, string_bytes, ◌++◌, ◌≡◌}
 use Rattle.cargo_toml_features.proofs.entries.add_first.Given as goal
 
 abbrev pub invariant-loop-key : goal.invariant-loop-key

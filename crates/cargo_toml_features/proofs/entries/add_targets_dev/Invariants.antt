@@ -1,9 +1,4 @@
-use Rattle.std.proofs.Common.{◌≡◌, ◌++◌, map, string_bytes, Some}
-use Rattle.std.specs.List.{flat_map}
-use Rattle.cargo_toml_parts.specs.Reads.{map_meaning}
-use Rattle.cargo_toml_package.specs.Targets.{TargetMeaning, target_meaning}
-use Rattle.cargo_toml_graph.specs.Action.{Text}
-use Rattle.cargo_toml_features.specs.{Entries.dev_entries, Views.entry_of}
+use Rattle.cargo_toml_features.proofs.Cited.{Some, TargetMeaning, Text, dev_entries, entry_of, flat_map, map, map_meaning, string_bytes, target_meaning, ◌++◌, ◌≡◌}
 use Rattle.cargo_toml_features.proofs.entries.add_targets_dev.Given as goal
 
 abbrev pub invariant-loop-name : goal.invariant-loop-name

@@ -1,8 +1,5 @@
 -- Worked examples with dependencies.
-use Rattle.std.proofs.Common.{◌≡◌, ◌⊎◌, ◌↔◌, IsTrue, codes, refl, inl, arith}
-use Rattle.std.proofs.lemmas.{Bool.false≢true, Grind.common_steps}
-use Rattle.cargo_toml_graph.{specs.Action.Text, specs.Recursive.Enables, specs.Recursive.Enables.itself, specs.Recursive.Enables.further, proofs.WorkedExamples.enables_two, proofs.WorkedExamples.one}
-use Rattle.cargo_toml_features.specs.Examples.{small}
+use Rattle.cargo_toml_features.proofs.Cited.{Enables, IsTrue, Text, arith, codes, common_steps, enables_two, false≢true, further, inl, itself, one, refl, small, ◌↔◌, ◌≡◌, ◌⊎◌}
 use Rattle.cargo_toml_features.proofs.examples.a_small_table.Goals as goal
 
 -- default = ["fast"], fast = ["log/std"], with an optional dependency log

@@ -1,5 +1,4 @@
-use Rattle.std.proofs.Common.{take_all, arith, rules}
-use Rattle.std.proofs.lemmas.Grind.{common_steps}
+use Rattle.cargo_toml_features.proofs.Cited.{arith, common_steps, rules, take_all}
 use Rattle.cargo_toml_features.proofs.{Implying.offered_more, ByPlace.taken_more, ByPlace.same_among}
 use Rattle.cargo_toml_features.proofs.imply.implied_keys.Goals as goal
 

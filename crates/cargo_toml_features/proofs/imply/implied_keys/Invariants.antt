@@ -1,6 +1,4 @@
-use Rattle.std.proofs.Common.{◌≡◌, None, map, take}
-use Rattle.cargo_toml_graph.specs.Action.{Text}
-use Rattle.cargo_toml_features.specs.{InOrder.feature_at, Views.entry_of, FullGraph.AreFree, FullGraph.is_offered, Searching.has_key}
+use Rattle.cargo_toml_features.proofs.Cited.{AreFree, None, Text, entry_of, feature_at, has_key, is_offered, map, take, ◌≡◌}
 use Rattle.cargo_toml_features.proofs.imply.implied_keys.Given as goal
 
 abbrev pub invariant-loop-entry : goal.invariant-loop-entry

@@ -1,5 +1,4 @@
-use Rattle.std.proofs.Common.{arith, rules}
-use Rattle.std.proofs.lemmas.Grind.{common_steps}
+use Rattle.cargo_toml_features.proofs.Cited.{arith, common_steps, rules}
 use Rattle.cargo_toml_features.proofs.{Implying.implied_next, Implying.offers_nothing, ByPlace.taken_more}
 use Rattle.cargo_toml_features.proofs.imply.imply_all.Goals as goal
 

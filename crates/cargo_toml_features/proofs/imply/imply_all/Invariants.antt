@@ -1,5 +1,4 @@
-use Rattle.std.proofs.Common.{map, take}
-use Rattle.cargo_toml_features.specs.{InOrder.AreInOrder, Views.entry_of, FullGraph.ImpliesAll, FullGraph.is_offered, Searching.has_key}
+use Rattle.cargo_toml_features.proofs.Cited.{AreInOrder, ImpliesAll, entry_of, has_key, is_offered, map, take}
 use Rattle.cargo_toml_features.proofs.imply.imply_all.Given as goal
 
 abbrev pub invariant-loop-entry : goal.invariant-loop-entry

@@ -1,5 +1,4 @@
-use Rattle.std.proofs.Common.{◌-◌, List, length, map, take}
-use Rattle.cargo_toml_features.specs.{InOrder.AreInOrder, declared.features.Feature.Feature, FullGraph.ImpliesAll, FullGraph.is_one_of}
+use Rattle.cargo_toml_features.proofs.Cited.{AreInOrder, Feature, ImpliesAll, List, is_one_of, length, map, take, ◌-◌}
 use Rattle.cargo_toml_features.proofs.imply.imply_below.Given as goal
 
 abbrev pub invariant-loop-next : goal.invariant-loop-next

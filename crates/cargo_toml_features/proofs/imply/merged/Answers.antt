@@ -1,7 +1,5 @@
-use Rattle.std.proofs.Common.{◌≡◌, ◌++◌, ◌∷◌, [], map, take, take_all, sym, ap, rules, ◌∙◌}
-use Rattle.std.proofs.lemmas.List.{append_assoc, append-nil, nil_from_length}
-use Rattle.cargo_toml_graph.proofs.SortedTexts.{none_ascend}
-use Rattle.cargo_toml_features.{specs.InOrder.feature_at, specs.FullGraph.is_one_of, proofs.Implying.implied_listed, proofs.Implying.listed_free}
+use Rattle.cargo_toml_features.proofs.Cited.{[], ap, append-nil, append_assoc, feature_at, is_one_of, map, nil_from_length, none_ascend, rules, sym, take, take_all, ◌++◌, ◌∙◌, ◌∷◌, ◌≡◌}
+use Rattle.cargo_toml_features.proofs.Implying.{implied_listed, listed_free}
 use Rattle.cargo_toml_features.proofs.imply.merged.Goals as goal
 
 pub loop-feature-init : goal.loop-feature-init

@@ -1,5 +1,4 @@
-use Rattle.std.proofs.Common.{◌≡◌, ◌++◌, List, map, take}
-use Rattle.cargo_toml_features.specs.{InOrder.AreInOrder, declared.features.Feature.Feature, FullGraph.ImpliesAll, FullGraph.is_one_of}
+use Rattle.cargo_toml_features.proofs.Cited.{AreInOrder, Feature, ImpliesAll, List, is_one_of, map, take, ◌++◌, ◌≡◌}
 use Rattle.cargo_toml_features.proofs.imply.merged.Given as goal
 
 abbrev pub invariant-loop-feature : goal.invariant-loop-feature

@@ -1,5 +1,4 @@
-use Rattle.std.proofs.Common.{bytes_eq, rules, tests, ◌∙◌}
-use Rattle.std.proofs.lemmas.{Iterator.YieldsList-from_slice, Iterator.Search.any_from_yields_List}
+use Rattle.cargo_toml_features.proofs.Cited.{YieldsList-from_slice, any_from_yields_List, bytes_eq, rules, tests, ◌∙◌}
 use Rattle.cargo_toml_features.proofs.Placed.{found_any}
 use Rattle.cargo_toml_features.proofs.ordered.is_there.Goals as goal
 

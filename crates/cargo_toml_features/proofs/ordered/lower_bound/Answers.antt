@@ -1,6 +1,4 @@
-use Rattle.std.proofs.{Common.rules, lemmas.Fn.always_returns_same}
-use Rattle.cargo_toml_features.specs.declared.features.Feature.{Feature}
-use Rattle.cargo_toml_graph.specs.Admitted.{is_below}
+use Rattle.cargo_toml_features.proofs.Cited.{Feature, always_returns_same, is_below, rules}
 use Rattle.cargo_toml_features.proofs.Placed.{below_through, bound_by_point}
 use Rattle.cargo_toml_features.proofs.ordered.lower_bound.Goals as goal
 

@@ -1,8 +1,5 @@
 -- The values of slots, in the order of their names.
-use Rattle.std.proofs.Common.{◌≡◌, ℕ, zero, suc, Bool, true, false, cond, List, [], ◌∷◌, replicate, Option, None, bytes_eq, refl, arith, rules}
-use Rattle.std.proofs.lemmas.{List.replicate-append-replicate, Grind.common_steps}
-use Rattle.cargo_toml_graph.specs.Action.{Text}
-use Rattle.cargo_toml_features.specs.Slots.{held_among}
+use Rattle.cargo_toml_features.proofs.Cited.{Bool, List, None, Option, Text, [], arith, bytes_eq, common_steps, cond, false, held_among, refl, replicate, replicate-append-replicate, rules, suc, true, zero, ℕ, ◌∷◌, ◌≡◌}
 use Rattle.cargo_toml_features.proofs.places.empty_slots.Goals as goal
 
 -- where no name has a value

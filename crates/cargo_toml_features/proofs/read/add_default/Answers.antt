@@ -1,9 +1,5 @@
 -- The feature `default` put where none is.
-use Rattle.std.proofs.Common.{◌≡◌, false, cond, [], Option, Some, None, MatchOption, bytes_eq, codes, ap, ◌∙◌, arith, rules}
-use Rattle.std.{proofs.lemmas.Slice.Eq.bytes_eq-Decides, proofs.lemmas.Grind.common_steps, specs.Option.IsSomeAnd, specs.Option.option_or}
-use Rattle.cargo_toml_package.specs.Details.{plain_detail}
-use Rattle.cargo_toml_features.specs.{declared.features.Feature.Feature, Reading.IsReadFeature}
-use Rattle.cargo_toml_graph.specs.Action.{Text}
+use Rattle.cargo_toml_features.proofs.Cited.{Feature, IsReadFeature, IsSomeAnd, MatchOption, None, Option, Some, Text, [], ap, arith, bytes_eq, bytes_eq-Decides, codes, common_steps, cond, false, option_or, plain_detail, rules, ◌∙◌, ◌≡◌}
 use Rattle.cargo_toml_features.proofs.read.add_default.Goals as goal
 
 none_or : (o : Option Feature) → option_or o None ≡ o

@@ -1,8 +1,7 @@
-use Rattle.std.proofs.Common.{◌≡◌, take, is_some, sym, subst, ap, ◌∙◌, arith, rules}
+use Rattle.cargo_toml_features.proofs.Cited.{IsOnce, ap, arith, has_key, is_some, listed_of, named_details, none_ascend, rules, subst, sym, take, ◌∙◌, ◌≡◌}
+use Rattle.cargo_toml_features.proofs.ReadAll.{HasRead, is_dep_only, none_read, read_more, told_in, told_next, all_fresh, all_read}
+use Rattle.cargo_toml_features.proofs.Listings.{names_listed}
 use Rattle.std.proofs.lemmas.List.{take_all}
-use Rattle.cargo_toml_graph.{specs.Reach.IsOnce, proofs.SortedTexts.none_ascend}
-use Rattle.cargo_toml_features.specs.{Marks.named_details, Views.listed_of, Searching.has_key}
-use Rattle.cargo_toml_features.proofs.{Listings.names_listed, ReadAll.HasRead, ReadAll.is_dep_only, ReadAll.none_read, ReadAll.read_more, ReadAll.told_in, ReadAll.told_next, ReadAll.all_fresh, ReadAll.all_read}
 use Rattle.cargo_toml_features.proofs.read.read_features.Goals as goal
 
 pub loop-listing-init : goal.loop-listing-init

@@ -1,6 +1,5 @@
-use Rattle.std.proofs.Common.{◌≡◌, take, is_some}
-use Rattle.cargo_toml_graph.specs.Action.{Text}
-use Rattle.cargo_toml_features.{specs.InOrder.AreInOrder, specs.Marks.named_details, specs.Views.listed_of, specs.Searching.has_key, proofs.ReadAll.HasRead, proofs.ReadAll.is_dep_only, proofs.ReadAll.told_in}
+use Rattle.cargo_toml_features.proofs.Cited.{AreInOrder, Text, has_key, is_some, listed_of, named_details, take, ◌≡◌}
+use Rattle.cargo_toml_features.proofs.ReadAll.{HasRead, is_dep_only, told_in}
 use Rattle.cargo_toml_features.proofs.read.read_features.Given as goal
 
 abbrev pub invariant-loop-listing : goal.invariant-loop-listing

@@ -1,7 +1,6 @@
-use Rattle.std.proofs.Common.{map, take, string_bytes, sym, subst, rules}
+use Rattle.cargo_toml_features.proofs.Cited.{IsReadFeature, Notes, detail_in, item_of, joined_in, map, rules, string_bytes, subst, sym, take}
+use Rattle.cargo_toml_features.proofs.ReadAll.{items_more, noted_more}
 use Rattle.std.proofs.lemmas.List.{take_all}
-use Rattle.cargo_toml_graph.specs.Action.{item_of}
-use Rattle.cargo_toml_features.{specs.Reading.joined_in, specs.Reading.IsReadFeature, specs.Reading.Notes, specs.Marks.detail_in, proofs.ReadAll.items_more, proofs.ReadAll.noted_more}
 use Rattle.cargo_toml_features.proofs.read.read_list.Goals as goal
 
 pub loop-text-preserved : goal.loop-text-preserved

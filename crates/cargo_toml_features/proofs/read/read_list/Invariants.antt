@@ -1,6 +1,4 @@
-use Rattle.std.proofs.Common.{map, take, string_bytes}
-use Rattle.cargo_toml_graph.specs.Action.{item_of}
-use Rattle.cargo_toml_features.specs.{Reading.Notes, Reading.joined_in, Reading.IsReadFeature, Marks.detail_in}
+use Rattle.cargo_toml_features.proofs.Cited.{IsReadFeature, Notes, detail_in, item_of, joined_in, map, string_bytes, take}
 use Rattle.cargo_toml_features.proofs.read.read_list.Given as goal
 
 abbrev pub invariant-loop-text : goal.invariant-loop-text

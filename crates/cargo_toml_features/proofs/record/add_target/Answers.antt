@@ -1,9 +1,5 @@
 -- The targets of a dependency once one more entry is recorded.
-use Rattle.std.proofs.Common.{◌≡◌, List, ap, ap₂, sym, refl, ◌∙◌, cond, Bor, Bool, Ordering, true, false, Option, Some, None, option_map, unwrap_or, rules, arith}
-use Rattle.std.{specs.Option.option_or, specs.Ordering.is_eq, specs.Ordering.ordering_reverse, specs.Map.lookup, specs.BTreeMap.BTreeMap, proofs.lemmas.Grind.common_steps}
-use Rattle.cargo_toml_package.specs.{Dependencies.dependency_meaning, declared.dependency.Dependency.Dependency}
-use Rattle.cargo_toml_graph.specs.Action.{Text}
-use Rattle.cargo_toml_features.specs.{declared.features.ParseDependency.ParseDependency, declared.features.TargetKey.TargetKey, Recorded.Target, Recorded.target_cmp, Views.entry_of, Views.target_in, FullGraph.recorded_next}
+use Rattle.cargo_toml_features.proofs.Cited.{BTreeMap, Bool, Bor, Dependency, List, None, Option, Ordering, ParseDependency, Some, Target, TargetKey, Text, ap, ap₂, arith, common_steps, cond, dependency_meaning, entry_of, false, is_eq, lookup, option_map, option_or, ordering_reverse, recorded_next, refl, rules, sym, target_cmp, target_in, true, unwrap_or, ◌∙◌, ◌≡◌}
 use Rattle.cargo_toml_features.proofs.Targets.{at, cmp_is, key_of, target_of-key_of, target_same}
 use Rattle.std.specs.BTreeMap as tree
 use Rattle.cargo_toml_features.specs.contracts.features.TargetKeyOrd.TheImpl as key_order

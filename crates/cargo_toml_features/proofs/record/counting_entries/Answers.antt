@@ -1,7 +1,6 @@
-use Rattle.std.proofs.Common.{◌||◌, map, take_all, subst, sym, ap, ◌∙◌, rules}
-use Rattle.cargo_toml_package.specs.Dependencies.{is_optional}
-use Rattle.cargo_toml_features.specs.{FullGraph.is_mentioned_in, Views.entry_of}
-use Rattle.cargo_toml_features.proofs.{GatheredKeys.Gathers, GatheredKeys.flag_put, GatheredKeys.key_put, GatheredKeys.key_left, record.counting_entries.Goals.then-is_counted+in_ok-push-2, record.counting_entries.Goals.else-is_counted}
+use Rattle.cargo_toml_features.proofs.Cited.{ap, entry_of, is_mentioned_in, is_optional, map, rules, subst, sym, take_all, ◌||◌, ◌∙◌}
+use Rattle.cargo_toml_features.proofs.GatheredKeys.{Gathers, flag_put, key_put, key_left}
+use Rattle.cargo_toml_features.proofs.{record.counting_entries.Goals.then-is_counted+in_ok-push-2, record.counting_entries.Goals.else-is_counted}
 use Rattle.cargo_toml_features.proofs.record.counting_entries.Goals as goal
 
 pub loop-entry-preserved : goal.loop-entry-preserved

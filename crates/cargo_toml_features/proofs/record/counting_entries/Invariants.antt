@@ -1,6 +1,5 @@
-use Rattle.std.proofs.Common.{◌≡◌, ◌||◌, map, take}
-use Rattle.cargo_toml_package.specs.Dependencies.{is_optional}
-use Rattle.cargo_toml_features.{specs.FullGraph.counts_alone, specs.FullGraph.is_mentioned_in, specs.Views.entry_of, proofs.GatheredKeys.Gathers}
+use Rattle.cargo_toml_features.proofs.Cited.{counts_alone, entry_of, is_mentioned_in, is_optional, map, take, ◌||◌, ◌≡◌}
+use Rattle.cargo_toml_features.proofs.GatheredKeys.{Gathers}
 use Rattle.cargo_toml_features.proofs.record.counting_entries.Given as goal
 
 abbrev pub invariant-loop-entry : goal.invariant-loop-entry

@@ -1,6 +1,4 @@
-use Rattle.std.proofs.Common.{ap, map, sym, subst, ◌<◌, ◌∙◌}
-use Rattle.std.proofs.lemmas.{List.get_or-map, List.length-map, List.Folds.list_any_at}
-use Rattle.cargo_toml_features.specs.{FullGraph.counts_alone, FullGraph.is_mentioned_in, Views.entry_of}
+use Rattle.cargo_toml_features.proofs.Cited.{ap, counts_alone, entry_of, get_or-map, is_mentioned_in, length-map, list_any_at, map, subst, sym, ◌<◌, ◌∙◌}
 use Rattle.cargo_toml_features.proofs.record.counts_any.Goals as goal
 
 pub returns-then-counts : goal.returns-then-counts

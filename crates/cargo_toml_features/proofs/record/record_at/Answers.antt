@@ -1,10 +1,6 @@
 -- Entries recorded one after another.
-use Rattle.std.proofs.Common.{◌≡◌, Bool, true, false, cond, Option, Some, None, option_map, unwrap_or, bytes_eq, refl, ap, subst, ◌∙◌, sym}
-use Rattle.std.proofs.lemmas.{Slice.Eq.bytes_eq-Decides}
-use Rattle.cargo_toml_features.specs.{declared.features.FeatureDependency.FeatureDependency, Recorded.Entry, Views.recorded_in, Views.entry_of, FullGraph.recorded_at, FullGraph.recorded_nowhere}
-use Rattle.cargo_toml_features.specs.{FullGraph.recorded_next, FullGraph.recorded_with, Slots.held_in, Slots.names_in, declared.slots.Slots.Slots, Places.nth_text}
+use Rattle.cargo_toml_features.proofs.Cited.{Bool, Entry, FeatureDependency, None, Option, Slots, Some, Text, ap, bytes_eq, bytes_eq-Decides, bytes_eq_sym, cond, entry_of, false, held_in, names_in, nth_text, option_map, recorded_at, recorded_in, recorded_next, recorded_nowhere, recorded_with, refl, subst, sym, true, unwrap_or, ◌∙◌, ◌≡◌}
 use Rattle.cargo_toml_features.proofs.Placed.{put_again, value_put, value_there}
-use Rattle.cargo_toml_graph.{specs.Action.Text, proofs.Texts.bytes_eq_sym}
 use Rattle.cargo_toml_features.proofs.record.record_at.Goals as goal
 
 module _ (e : Entry) where

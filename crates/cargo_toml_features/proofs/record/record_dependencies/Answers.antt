@@ -1,11 +1,6 @@
 -- One more entry of those that count.
-use Rattle.std.proofs.Common.{◌≡◌, ◌&&◌, ◌||◌, Bool, false, cond, List, [], ◌∷◌, ◌++◌, filter, find, Option, Some, is_some, bytes_eq, refl, sym, ap, arith, rules, ◌<◌, ℕ, Bor, IsTrue, get_or, length, take, take_all, map, subst, ◌∙◌, option_map}
-use Rattle.std.{proofs.lemmas.Result.IfOk-weaker, proofs.Math.Bool.or-false, proofs.Math.Bool.or-true, specs.List.list_any}
-use Rattle.std.proofs.lemmas.{List.append-nil, List.get_or-map, List.length-map, List.Elements.filter-append, List.Folds.find-append, List.Folds.list_any_at, Slice.Eq.bytes_eq-Decides, Grind.common_steps, Bool.and_from}
-use Rattle.cargo_toml_package.specs.Dependencies.{is_optional, dependency_meaning}
-use Rattle.cargo_toml_graph.specs.{Action.Text, Admitted.Listed, Reach.Among}
-use Rattle.cargo_toml_features.specs.{Recorded.Entry, Recorded.RecordedKey, Recorded.is_mentioned, Recorded.counting, Recorded.entries_at, Recorded.recorded_of, FullGraph.recorded_with, FullGraph.recorded_after, FullGraph.counts_alone}
-use Rattle.cargo_toml_features.specs.{FullGraph.counts_at, FullGraph.recorded_at, FullGraph.is_mentioned_in, declared.features.ParseDependency.ParseDependency, Views.entry_of, Views.recorded_in}
+use Rattle.cargo_toml_features.proofs.Cited.{Among, Bool, Bor, Entry, IfOk-weaker, IsTrue, List, Listed, Option, ParseDependency, RecordedKey, Some, Text, [], and_from, ap, append-nil, arith, bytes_eq, bytes_eq-Decides, common_steps, cond, counting, counts_alone, counts_at, dependency_meaning, entries_at, entry_of, false, filter, filter-append, find, find-append, get_or, get_or-map}
+use Rattle.cargo_toml_features.proofs.Cited.{is_mentioned, is_mentioned_in, is_optional, is_some, length, length-map, list_any, list_any_at, map, option_map, or-false, or-true, recorded_after, recorded_at, recorded_in, recorded_of, recorded_with, refl, rules, subst, sym, take, take_all, ℕ, ◌&&◌, ◌++◌, ◌<◌, ◌||◌, ◌∙◌, ◌∷◌, ◌≡◌}
 use Rattle.cargo_toml_features.proofs.{GatheredKeys.flag_there, Placed.same_then, ByPlace.taken_more}
 use Rattle.cargo_toml_features.proofs.record.record_dependencies.Goals as goal
 

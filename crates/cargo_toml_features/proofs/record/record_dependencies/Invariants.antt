@@ -1,6 +1,4 @@
-use Rattle.std.proofs.Common.{◌≡◌, map, take}
-use Rattle.cargo_toml_graph.specs.{Action.Text, Admitted.Listed}
-use Rattle.cargo_toml_features.specs.{Recorded.is_mentioned, Recorded.entries_at, Recorded.recorded_of, Views.entry_of, FullGraph.recorded_at, FullGraph.is_mentioned_in, Slots.HaveSameNames}
+use Rattle.cargo_toml_features.proofs.Cited.{HaveSameNames, Listed, Text, entries_at, entry_of, is_mentioned, is_mentioned_in, map, recorded_at, recorded_of, take, ◌≡◌}
 use Rattle.cargo_toml_features.proofs.record.record_dependencies.Given as goal
 
 abbrev pub invariant-loop-entry : goal.invariant-loop-entry

@@ -1,10 +1,6 @@
 -- Entries recorded one after another.
-use Rattle.std.proofs.Common.{◌≡◌, ◌||◌, Bool, true, false, cond, Option, Some, is_some, bytes_eq, subst, arith, rules}
-use Rattle.std.{proofs.lemmas.Slice.Eq.bytes_eq-Decides, proofs.lemmas.Grind.common_steps, proofs.Math.Bool.or-true}
-use Rattle.cargo_toml_features.specs.{declared.features.FeatureDependency.FeatureDependency, Recorded.Entry, FullGraph.recorded_after, FullGraph.recorded_at}
-use Rattle.cargo_toml_features.{specs.FullGraph.recorded_with, specs.Slots.held_in, specs.declared.slots.Slots.Slots, proofs.Placed.unfound, proofs.Placed.value_found, proofs.record.record_entry.Goals.then-is_counted-via-then-is_counted}
-use Rattle.cargo_toml_graph.{specs.Action.Text}
-use Rattle.cargo_toml_package.specs.Dependencies.{is_optional}
+use Rattle.cargo_toml_features.proofs.Cited.{Bool, Entry, FeatureDependency, Option, Slots, Some, Text, arith, bytes_eq, bytes_eq-Decides, common_steps, cond, false, held_in, is_optional, is_some, or-true, recorded_after, recorded_at, recorded_with, rules, subst, true, ◌||◌, ◌≡◌}
+use Rattle.cargo_toml_features.proofs.{Placed.unfound, Placed.value_found, record.record_entry.Goals.then-is_counted-via-then-is_counted}
 use Rattle.cargo_toml_features.proofs.record.record_entry.Goals as goal
 
 -- e comes to slots

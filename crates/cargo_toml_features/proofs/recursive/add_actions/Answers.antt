@@ -1,5 +1,4 @@
-use Rattle.std.proofs.Common.{rules, ◌≡◌, map}
-use Rattle.std.{proofs.lemmas.Map.Iter.iter_end, specs.Map.Iter.deref_pair}
+use Rattle.cargo_toml_features.proofs.Cited.{deref_pair, iter_end, map, rules, ◌≡◌}
 use Rattle.cargo_toml_features.proofs.Pending.{listed_one, listed_none, pairs_more, still_no_empty, all_listed}
 use Rattle.cargo_toml_features.proofs.recursive.add_actions.Goals as goal
 

@@ -1,7 +1,5 @@
-use Rattle.std.proofs.Common.{◌≡◌, ◌++◌, map}
-use Rattle.std.specs.Map.Iter.{deref_pair}
-use Rattle.cargo_toml_graph.specs.Action.{Text}
-use Rattle.cargo_toml_features.{specs.Reached.HaveNoEmpty, specs.Reached.pairs_at, proofs.Pending.own_pairs}
+use Rattle.cargo_toml_features.proofs.Cited.{HaveNoEmpty, Text, deref_pair, map, pairs_at, ◌++◌, ◌≡◌}
+use Rattle.cargo_toml_features.proofs.Pending.{own_pairs}
 use Rattle.cargo_toml_features.proofs.recursive.add_actions.Given as goal
 
 abbrev pub invariant-loop-key : goal.invariant-loop-key

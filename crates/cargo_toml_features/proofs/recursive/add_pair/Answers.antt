@@ -1,6 +1,5 @@
-use Rattle.std.proofs.Common.{rules, ap, ◌∙◌, subst, unwrap_or}
-use Rattle.std.specs.HashMap.Entry.{map_with_value}
-use Rattle.cargo_toml_features.{specs.Visits.AddsPair, proofs.Pending.pair_listed}
+use Rattle.cargo_toml_features.proofs.Cited.{AddsPair, ap, map_with_value, rules, subst, unwrap_or, ◌∙◌}
+use Rattle.cargo_toml_features.proofs.Pending.{pair_listed}
 use Rattle.cargo_toml_features.proofs.recursive.add_pair.Goals as goal
 
 pub returns : goal.returns

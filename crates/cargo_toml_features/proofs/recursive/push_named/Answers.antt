@@ -1,6 +1,5 @@
-use Rattle.std.proofs.Common.{◌≡◌, Some, sym, ap, ◌∙◌}
-use Rattle.std.specs.Option.{option_copied}
-use Rattle.cargo_toml_features.{specs.Views.value_at, proofs.Pending.key_of, proofs.Pending.pushes_none, proofs.Pending.pushes_one}
+use Rattle.cargo_toml_features.proofs.Cited.{Some, ap, option_copied, sym, value_at, ◌∙◌, ◌≡◌}
+use Rattle.cargo_toml_features.proofs.Pending.{key_of, pushes_none, pushes_one}
 use Rattle.cargo_toml_features.proofs.recursive.push_named.Goals as goal
 
 pub loop-name-preserved-in-Continue-1 : goal.loop-name-preserved-in-Continue-1

@@ -1,6 +1,5 @@
-use Rattle.std.proofs.Common.{◌≡◌, List}
-use Rattle.cargo_toml_graph.specs.Action.{Text}
-use Rattle.cargo_toml_features.{specs.InOrder.names_of, specs.Recorded.Entry, specs.FullGraph.IsSaidOf, specs.FullGraph.Thinned, proofs.Requiring.TurnedUpTo}
+use Rattle.cargo_toml_features.proofs.Cited.{Entry, IsSaidOf, List, Text, Thinned, names_of, ◌≡◌}
+use Rattle.cargo_toml_features.proofs.Requiring.{TurnedUpTo}
 use Rattle.cargo_toml_features.proofs.redundant.drop_redundant.Given as goal
 
 abbrev pub invariant-loop-feature : goal.invariant-loop-feature

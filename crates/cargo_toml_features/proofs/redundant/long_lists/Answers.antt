@@ -1,5 +1,4 @@
-use Rattle.std.proofs.Common.{◌≡◌, Some, rules}
-use Rattle.cargo_toml_features.specs.{declared.slots.RedundantFeatures.RedundantFeatures, declared.slots.Slots.Slots}
+use Rattle.cargo_toml_features.proofs.Cited.{RedundantFeatures, Slots, Some, rules, ◌≡◌}
 use Rattle.cargo_toml_features.proofs.redundant.long_lists.Goals as goal
 
 some_same : {x y : Slots RedundantFeatures} → Some x ≡ Some y → x ≡ y

@@ -1,6 +1,4 @@
-use Rattle.std.proofs.{Common.not, Common.Some, Common.rules, lemmas.Fn.filter_same}
-use Rattle.cargo_toml_package.specs.Dependencies.{dependency_meaning}
-use Rattle.cargo_toml_features.specs.Recorded.{is_redundant}
+use Rattle.cargo_toml_features.proofs.Cited.{Some, dependency_meaning, filter_same, is_redundant, not, rules}
 use Rattle.cargo_toml_features.proofs.Thinning.{has_filtered}
 use Rattle.cargo_toml_features.proofs.redundant.thin_action.Goals as goal
 

@@ -1,6 +1,5 @@
-use Rattle.std.proofs.Common.{not, Some, rules}
-use Rattle.std.proofs.lemmas.Fn.{filter_same}
-use Rattle.cargo_toml_features.{specs.FullGraph.has_redundant, proofs.Thinning.has_filtered}
+use Rattle.cargo_toml_features.proofs.Cited.{Some, filter_same, has_redundant, not, rules}
+use Rattle.cargo_toml_features.proofs.Thinning.{has_filtered}
 use Rattle.cargo_toml_features.proofs.redundant.thin_by.Goals as goal
 
 pub returns : goal.returns

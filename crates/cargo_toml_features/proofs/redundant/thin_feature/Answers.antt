@@ -1,8 +1,5 @@
-use Rattle.std.proofs.Common.{◌≡◌, List, Option, Some, None, option_map, Bor, refl, sym, ap, subst, rules, ◌∙◌}
-use Rattle.std.{proofs.lemmas.Map.Text.is_eq-slice_cmp, proofs.lemmas.Slice.Eq.bytes_eq-Decides, specs.BTreeMap.is_at, specs.Cmp.Lexicographic.slice_cmp, specs.Map.lookup, specs.Ordering.nat_cmp}
-use Rattle.cargo_toml_features.specs.{declared.features.DepAction.DepAction, Recorded.Entry, Recorded.first_target, Recorded.without_redundant, Views.action_of, FullGraph.IsSaidOf}
+use Rattle.cargo_toml_features.proofs.Cited.{Bor, DepAction, Entry, IsSaidOf, List, None, Option, Some, Text, action_of, ap, bytes_eq-Decides, first_target, is_at, is_eq-slice_cmp, lookup, nat_cmp, option_map, refl, rules, slice_cmp, subst, sym, without_redundant, ◌∙◌, ◌≡◌}
 use Rattle.cargo_toml_features.proofs.Thinning.{Finds, looked_up}
-use Rattle.cargo_toml_graph.specs.Action.{Text}
 use Rattle.cargo_toml_features.proofs.redundant.thin_feature.Goals as goal
 
 pub returns-clause-thinned : goal.returns-clause-thinned

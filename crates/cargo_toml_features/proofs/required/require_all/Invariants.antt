@@ -1,5 +1,4 @@
-use Rattle.std.proofs.Common.{◌≡◌, map, take}
-use Rattle.cargo_toml_features.specs.{InOrder.names_of, OwnBins.own_of, OwnBins.bin_requirement, FullGraph.RequiredAll}
+use Rattle.cargo_toml_features.proofs.Cited.{RequiredAll, bin_requirement, map, names_of, own_of, take, ◌≡◌}
 use Rattle.cargo_toml_features.proofs.required.require_all.Given as goal
 
 abbrev pub invariant-loop-requirement : goal.invariant-loop-requirement

@@ -1,7 +1,5 @@
-use Rattle.std.proofs.Common.{rules}
-use Rattle.std.proofs.lemmas.List.{get_or-map, map-append}
+use Rattle.cargo_toml_features.proofs.Cited.{bytes_eq_sym, get_or-map, map-append, rules}
 use Rattle.cargo_toml_features.proofs.{Placed.feature_here, Placed.feature_set, Requiring.names_set, Requiring.required_at}
-use Rattle.cargo_toml_graph.proofs.Texts.{bytes_eq_sym}
 use Rattle.cargo_toml_features.proofs.required.require_at.Goals as goal
 
 pub returns-in_err-push-clause-same_names : goal.returns-in_err-push-clause-same_names

@@ -1,7 +1,4 @@
-use Rattle.std.proofs.Common.{◌≡◌, bytes_eq, map, take}
-use Rattle.std.specs.List.{list_any}
-use Rattle.cargo_toml_graph.specs.Action.{Text}
-use Rattle.cargo_toml_features.specs.Views.{set_has}
+use Rattle.cargo_toml_features.proofs.Cited.{Text, bytes_eq, list_any, map, set_has, take, ◌≡◌}
 use Rattle.cargo_toml_features.proofs.sets.inserted.Given as goal
 
 abbrev pub invariant-loop-text : goal.invariant-loop-text

@@ -1,6 +1,4 @@
-use Rattle.std.proofs.Common.{Bor, rules}
-use Rattle.std.proofs.lemmas.Fn.{always_returns_same}
-use Rattle.cargo_toml_graph.specs.{Action.Text, Admitted.is_below}
+use Rattle.cargo_toml_features.proofs.Cited.{Bor, Text, always_returns_same, is_below, rules}
 use Rattle.cargo_toml_features.proofs.ByPlace.{ascend_by_adjacent}
 use Rattle.cargo_toml_features.proofs.texts.ascends.Goals as goal
 

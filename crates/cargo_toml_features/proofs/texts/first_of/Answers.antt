@@ -1,9 +1,5 @@
-use Rattle.std.proofs.Common.{rules, ◌≡◌, ◌<◌, ◌∙◌, sym, ℕ, List, [], Bor, None, Some, IfSome, MatchOption, get_or, length, map, arith, Option}
-use Rattle.std.proofs.lemmas.{List.get_or-map, List.length-map, Slice.Eq.bytes_eq-Decides}
-use Rattle.std.proofs.lemmas.Iterator.{YieldsList-from_slice, IsFirst-from_position}
-use Rattle.std.specs.List.{AllWithin, HoldsAt}
-use Rattle.cargo_toml_graph.specs.{Action.Text, Reach.Among}
-use Rattle.cargo_toml_features.{specs.Places.nth_text, proofs.ByPlace.at_among}
+use Rattle.cargo_toml_features.proofs.Cited.{AllWithin, Among, Bor, HoldsAt, IfSome, IsFirst-from_position, List, MatchOption, None, Option, Some, Text, YieldsList-from_slice, [], arith, bytes_eq-Decides, get_or, get_or-map, length, length-map, map, nth_text, rules, sym, ℕ, ◌<◌, ◌∙◌, ◌≡◌}
+use Rattle.cargo_toml_features.proofs.ByPlace.{at_among}
 use Rattle.cargo_toml_features.proofs.texts.first_of.Goals as goal
 
 abbrev nowhere : Bor Text

@@ -1,6 +1,5 @@
 -- The names that a loop over a map puts into a set.
-use Rattle.std.proofs.Common.{◌≡◌, ◌||◌, Bool, List, [], ◌∷◌, sym, ap, ◌∙◌, arith, rules}
-use Rattle.std.{proofs.Math.Bool.or-false, proofs.Math.Bool.or_assoc, proofs.lemmas.Grind.common_steps, proofs.lemmas.Map.Iter.rest_more, proofs.lemmas.Map.Iter.rest_all, proofs.lemmas.Map.Made.is_some-lookup, specs.List.list_any}
+use Rattle.cargo_toml_features.proofs.Cited.{Bool, List, [], ap, arith, common_steps, is_some-lookup, list_any, or-false, or_assoc, rest_all, rest_more, rules, sym, ◌||◌, ◌∙◌, ◌∷◌, ◌≡◌}
 use Rattle.cargo_toml_features.proofs.TextKeys.{inserted}
 use Rattle.cargo_toml_features.proofs.texts.keys_in_order.Goals as goal
 

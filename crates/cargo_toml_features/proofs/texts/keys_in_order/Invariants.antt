@@ -1,7 +1,4 @@
-use Rattle.std.proofs.Common.{◌≡◌, ◌||◌, bytes_eq}
-use Rattle.std.specs.{List.list_any, Map.keys_of}
-use Rattle.cargo_toml_features.specs.Views.{set_has}
-use Rattle.cargo_toml_graph.specs.Action.{Text}
+use Rattle.cargo_toml_features.proofs.Cited.{Text, bytes_eq, keys_of, list_any, set_has, ◌||◌, ◌≡◌}
 use Rattle.cargo_toml_features.proofs.texts.keys_in_order.Given as goal
 
 abbrev pub invariant-loop-key : goal.invariant-loop-key

@@ -1,14 +1,7 @@
 -- From the features that are read to all that are resolved, before any is removed.
-use Rattle.std.proofs.Common.{List, option_map, arith, ◌≡◌, ◌&&◌, ◌||◌, not, Bool, true, false, cond, [], map, Option, Some, None, IfSome, is_some, bytes_eq, refl, sym, ap, ap₂, subst, ◌∙◌, rules}
-use Rattle.std.{proofs.lemmas.Grind.common_steps, proofs.lemmas.Bool.false≢true, specs.List.list_any}
-use Rattle.cargo_toml_graph.specs.{Action.Text, Action.Action, Admitted.Listed, Admitted.is_explicit, Admitted.joined_action, Graph.Table}
-use Rattle.cargo_toml_features.specs.{declared.features.FeatureDependency.FeatureDependency, Recorded.Entry, Recorded.recorded_of, Recorded.RecordedKey, Recorded.is_mentioned, Recorded.is_reserved, Recorded.entries_at}
-use Rattle.cargo_toml_features.specs.{Recorded.first_target, Recorded.without_redundant, Resolved.SameRecorded, Resolved.table_of, Resolved.plain_action, Views.recorded_in, Views.listed_of, Views.entry_of, Slots.HeldHaveTargets}
-use Rattle.cargo_toml_features.specs.{Slots.held_in, Slots.Relates, declared.slots.Slots.Slots, declared.features.Feature.Feature, InOrder.AreTable, InOrder.HaveNoEnablers, InOrder.feature_at, InOrder.table_among, InOrder.AreUnremoved}
-use Rattle.cargo_toml_features.specs.{Marks.NamedDetails, Marks.FeatureMarks, Marks.detail_listed, Marks.marked, Marks.marks_in, Marks.marks_of, Marks.named_details, declared.read.Mentions.Mentions, FullGraph.ImpliesAll}
-use Rattle.cargo_toml_features.specs.FullGraph.{IsImplied, is_optional_at, is_offered, recorded_at, is_mentioned_in, IsRecordOf, Thinned, ThinnedAll, Required, RequiredAll}
-use Rattle.cargo_toml_features.{specs.Reading.IsRead, specs.Reading.IsFresh, specs.Reading.AreFresh, specs.Searching.has_key, specs.OwnBins.own_of, specs.OwnBins.bin_requirement, proofs.Targets.has_target}
-use Rattle.cargo_toml_package.specs.Details.{plain_detail}
+use Rattle.cargo_toml_features.proofs.Cited.{Action, AreFresh, AreTable, AreUnremoved, Bool, Entry, Feature, FeatureDependency, FeatureMarks, HaveNoEnablers, HeldHaveTargets, IfSome, ImpliesAll, IsFresh, IsImplied, IsRead, IsRecordOf, List, Listed, Mentions, NamedDetails, None, Option, RecordedKey, Relates, Required, RequiredAll, SameRecorded, Slots, Some, Table, Text, Thinned, ThinnedAll, [], ap, ap₂, arith, bin_requirement, bytes_eq, common_steps, cond, detail_listed, entries_at, entry_of, false, false≢true}
+use Rattle.cargo_toml_features.proofs.Cited.{feature_at, first_target, has_key, held_in, is_explicit, is_mentioned, is_mentioned_in, is_offered, is_optional_at, is_reserved, is_some, joined_action, list_any, listed_of, map, marked, marks_in, marks_of, named_details, not, option_map, own_of, plain_action, plain_detail, recorded_at, recorded_in, recorded_of, refl, rules, subst, sym, table_among, table_of, true, without_redundant, ◌&&◌, ◌||◌, ◌∙◌, ◌≡◌}
+use Rattle.cargo_toml_features.proofs.Targets.{has_target}
 use Rattle.cargo_toml_features.proofs.unremoved.resolve_all.Goals as goal
 
 -- each dependency under a name has a target, where the slots say the same as some entries

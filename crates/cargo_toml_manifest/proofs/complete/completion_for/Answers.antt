@@ -1,11 +1,6 @@
-use Rattle.std.proofs.Common.{[], Result, Some, None, refl, subst, sym, ◌∙◌}
-use Rattle.cargo_toml_parts.specs.{Answers.Gives, FaultValues.Fault, Paths.workspace_folder}
-use Rattle.cargo_toml_package.specs.Sharing.{shared_of}
-use Rattle.cargo_toml_manifest.specs.{Choosing.handed_of, Inheriting.needs, Installing.installed}
-use Rattle.cargo_toml_manifest.specs.Manifests.{ManifestMeaning, held}
-use Rattle.cargo_toml_manifest.proofs.Answering.{answered_as, root_answered, root_lost}
-use Rattle.cargo_toml_manifest.proofs.Lasting.{nothing_left}
+use Rattle.cargo_toml_manifest.proofs.Cited.{Fault, Gives, ManifestMeaning, None, Result, Some, [], handed_of, held, installed, needs, refl, shared_of, subst, sym, workspace_folder, ◌∙◌}
 use Rattle.cargo_toml_manifest.proofs.Meeting.{Found, no_table, own_alone, own_by_table}
+use Rattle.cargo_toml_manifest.proofs.{Answering.answered_as, Answering.root_answered, Answering.root_lost, Lasting.nothing_left}
 use Rattle.cargo_toml_manifest.proofs.complete.completion_for.Goals as goal
 
 pub returns-in-Some : goal.returns-in-Some

@@ -1,8 +1,4 @@
-use Rattle.std.{proofs.Common.[], proofs.Common.ap, specs.Prelude.option_map}
-use Rattle.std.proofs.lemmas.Result.{err_from_is_err_and}
-use Rattle.cargo_toml_discovery.specs.Answers.{answers_of, filled}
-use Rattle.cargo_toml_package.specs.Packages.{package_meaning}
-use Rattle.cargo_toml_manifest.specs.Manifests.{held}
+use Rattle.cargo_toml_manifest.proofs.Cited.{[], answers_of, ap, err_from_is_err_and, filled, held, option_map, package_meaning}
 use Rattle.cargo_toml_manifest.proofs.FoundAround.{found_nothing, parts_faults, parts_seen}
 use Rattle.cargo_toml_manifest.proofs.finding.find.Goals as goal
 

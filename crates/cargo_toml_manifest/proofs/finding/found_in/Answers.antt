@@ -1,11 +1,7 @@
-use Rattle.std.proofs.Common.{◌≡◌, refl, subst, ap}
-use Rattle.std.specs.{Prelude.IfOk, Prelude.map, Prelude.option_map, Option.option_copied}
-use Rattle.cargo_toml_discovery.specs.Answers.{answers_of, around_in}
-use Rattle.cargo_toml_discovery.specs.Discovering.{StatedMeaning, discovered, discovered_meaning, stated_meaning}
-use Rattle.cargo_toml_discovery.specs.declared.discovery.Stated.{Stated}
-use Rattle.cargo_toml_package.specs.Packages.{package_meaning}
-use Rattle.cargo_toml_parts.specs.{Settings.file_meaning, Products.product_meaning}
-use Rattle.cargo_toml_manifest.{specs.Manifests.held, proofs.FoundAround.stated_so}
+use Rattle.cargo_toml_manifest.proofs.Cited.{Stated, StatedMeaning, answers_of, ap, around_in, discovered, discovered_meaning, file_meaning, held, option_copied, option_map, package_meaning, product_meaning, refl, stated_meaning, subst, ◌≡◌}
+use Rattle.cargo_toml_manifest.proofs.FoundAround.{stated_so}
+use Rattle.std.specs.Prelude.{IfOk}
+use Rattle.std.specs.Prelude.{map}
 use Rattle.cargo_toml_manifest.proofs.finding.found_in.Goals as goal
 
 pub returns : goal.returns

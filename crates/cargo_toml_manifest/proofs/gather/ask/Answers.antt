@@ -1,7 +1,5 @@
-use Rattle.std.proofs.Common.{ap, sym, ◌∙◌, is_some}
-use Rattle.cargo_toml_discovery.specs.Answers.{answers_of, texts_in}
+use Rattle.cargo_toml_manifest.proofs.Cited.{answers_of, ap, is_some, is_some-seen, sym, texts_in, ◌∙◌}
 use Rattle.cargo_toml_manifest.proofs.Heard.{grows-one}
-use Rattle.cargo_toml_discovery.proofs.Lookups.{is_some-seen}
 use Rattle.cargo_toml_manifest.proofs.gather.ask.Goals as goal
 
 pub returns-clause-grows : goal.returns-clause-grows

@@ -1,6 +1,4 @@
-use Rattle.std.proofs.Common.{map, string_bytes, take, arith}
-use Rattle.std.proofs.lemmas.Result.{err_from_is_err_and}
-use Rattle.cargo_toml_discovery.specs.Answers.{answers_of}
+use Rattle.cargo_toml_manifest.proofs.Cited.{answers_of, arith, err_from_is_err_and, map, string_bytes, take}
 use Rattle.cargo_toml_manifest.proofs.Heard.{tells-one, grows-on, has_each-grows, has_each-more}
 use Rattle.cargo_toml_manifest.proofs.gather.ask_each.Goals as goal
 

@@ -1,6 +1,4 @@
-use Rattle.std.proofs.Common.{map, string_bytes, take}
-use Rattle.cargo_toml_discovery.specs.Answers.{answers_of}
-use Rattle.cargo_toml_manifest.specs.Gathering.{Grows, HasEach}
+use Rattle.cargo_toml_manifest.proofs.Cited.{Grows, HasEach, answers_of, map, string_bytes, take}
 use Rattle.cargo_toml_manifest.proofs.gather.ask_each.Given as goal
 
 abbrev pub invariant-loop-path : goal.invariant-loop-path

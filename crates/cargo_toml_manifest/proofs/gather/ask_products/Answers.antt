@@ -1,8 +1,4 @@
-use Rattle.std.proofs.Common.{◌≡◌, List, subst, true, rules}
-use Rattle.std.proofs.lemmas.Result.{err_from_is_err_and}
-use Rattle.cargo_toml_discovery.specs.Answers.{answers_of, names_in, below}
-use Rattle.cargo_toml_manifest.specs.Gathering.{HasEach}
-use Rattle.cargo_toml_discovery.specs.Names.{Name}
+use Rattle.cargo_toml_manifest.proofs.Cited.{HasEach, List, Name, answers_of, below, err_from_is_err_and, names_in, rules, subst, true, ◌≡◌}
 use Rattle.cargo_toml_manifest.proofs.Heard.{grows-on, has-grows, names_in-grows, has_products-here, is_answer-here, products-tells}
 use Rattle.cargo_toml_manifest.proofs.gather.ask_products.Goals as goal
 

@@ -1,9 +1,6 @@
-use Rattle.std.proofs.Common.{◌≡◌, [], Some, codes}
-use Rattle.cargo_toml_discovery.specs.Answers.{answer_at, answers_of, texts_in}
-use Rattle.cargo_toml_discovery.specs.Around.{around}
-use Rattle.cargo_toml_manifest.{specs.Gathering.Fits, proofs.gather.gather.Given.Over}
+use Rattle.cargo_toml_manifest.proofs.Cited.{Fits, Some, [], answer_at, answers_of, around, codes, texts_in, ◌≡◌}
 use Rattle.cargo_toml_manifest.proofs.Heard.{tells-on, grows-on, has-grows, has_products-grows, started, has_root, all-told, by-root, by-src, by-bins, by-examples, by-tests, by-benches}
-use Rattle.cargo_toml_manifest.proofs.gather.gather.Goals.{In_ok-ask}
+use Rattle.cargo_toml_manifest.proofs.{gather.gather.Given.Over, gather.gather.Goals.In_ok-ask}
 use Rattle.cargo_toml_manifest.proofs.gather.gather.Goals as goal
 
 -- after the folder of the package and `src`, what is kept is what was told

@@ -1,9 +1,4 @@
-use Rattle.std.proofs.Common.{◌≡◌, ◌∙◌, ap, sym, refl}
-use denote.Enum.Bare.{sameb}
-use Rattle.std.specs.{contracts.io.ErrorKind.the_type, declared.io.ErrorKind.ErrorKind}
-use Rattle.std.specs.declared.io.ErrorKind.TheVariants.{NotFound}
-use Rattle.cargo_toml_parts.specs.FaultValues.{fault_of, io}
-use Rattle.cargo_toml_discovery.proofs.Faults.{no_absence, no_input}
+use Rattle.cargo_toml_manifest.proofs.Cited.{ErrorKind, NotFound, ap, fault_of, io, no_absence, no_input, refl, sameb, sym, the_type, ◌∙◌, ◌≡◌}
 use Rattle.cargo_toml_manifest.proofs.gather.names_of.Goals.{in_default-via-in-Io+else-eq, in_default-via-in_default}
 use Rattle.cargo_toml_manifest.proofs.gather.names_of.Goals as goal
 

@@ -1,5 +1,4 @@
-use Rattle.std.proofs.lemmas.Result.{err_from_is_err_and}
-use Rattle.cargo_toml_manifest.specs.{Inheriting.own_tables, Manifests.held}
+use Rattle.cargo_toml_manifest.proofs.Cited.{err_from_is_err_and, held, own_tables}
 use Rattle.cargo_toml_manifest.proofs.Inherited.{stops_at_build, stops_at_dev}
 use Rattle.cargo_toml_manifest.proofs.inheriting.new_tables.Goals as goal
 

@@ -1,5 +1,4 @@
-use Rattle.std.proofs.lemmas.Result.{err_from_is_err_and}
-use Rattle.cargo_toml_manifest.specs.Manifests.{held}
+use Rattle.cargo_toml_manifest.proofs.Cited.{err_from_is_err_and, held}
 use Rattle.cargo_toml_manifest.proofs.Inherited.{all_given, stops_at_lints, stops_at_package}
 use Rattle.cargo_toml_manifest.proofs.inheriting.parts_from.Goals as goal
 

@@ -1,9 +1,4 @@
-use Rattle.std.proofs.Common.{ap, codes, refl, None}
-use Rattle.toml.specs.View.{table_view}
-use Rattle.cargo_toml_parts.{specs.Reads.WrongShape, proofs.Chain.plain}
-use Rattle.cargo_toml_parts.proofs.Places.{begins, takes, takes_optional, takes_last, means_none, held_in}
-use Rattle.cargo_toml_parts.proofs.Shapes.{itself, list_shape, map_shape}
-use Rattle.cargo_toml_manifest.specs.Manifests.{manifest_of, ManifestFaults}
+use Rattle.cargo_toml_manifest.proofs.Cited.{ManifestFaults, None, WrongShape, ap, begins, codes, held_in, itself, list_shape, manifest_of, map_shape, means_none, plain, refl, table_view, takes, takes_last, takes_optional}
 use Rattle.cargo_toml_manifest.proofs.manifest.fill.Goals as goal
 
 -- each key in turn: what is left of the table, and what was read

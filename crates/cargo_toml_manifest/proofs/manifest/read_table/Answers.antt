@@ -1,6 +1,4 @@
-use Rattle.std.proofs.Common.{◌≡◌, Some, rules, subst, sym}
-use Rattle.toml.specs.Data.{no_members}
-use Rattle.cargo_toml_manifest.specs.Manifests.{held, manifest_of}
+use Rattle.cargo_toml_manifest.proofs.Cited.{Some, held, manifest_of, no_members, rules, subst, sym, ◌≡◌}
 use Rattle.cargo_toml_manifest.proofs.manifest.read_table.Goals as goal
 
 pub fill-fault-requires : goal.fill-fault-requires

@@ -1,11 +1,4 @@
-use Rattle.std.proofs.Common.{[], Some, ap, codes, refl, sym, ◌∙◌}
-use Rattle.toml.specs.View.{table_view}
-use Rattle.cargo_toml_parts.specs.Faults.{IsShape, wrong_shape}
-use Rattle.cargo_toml_parts.specs.Reads.{others_read}
-use Rattle.cargo_toml_parts.proofs.Chain.{shape, shape_list}
-use Rattle.cargo_toml_parts.proofs.Places.{all_left, begins, ends_left, held_in, known, told, told_optional}
-use Rattle.cargo_toml_parts.proofs.Taken.{rest_read}
-use Rattle.cargo_toml_package.specs.Dependencies.{detail_keys, detail_of_table}
+use Rattle.cargo_toml_package.proofs.Cited.{IsShape, Some, [], all_left, ap, begins, codes, detail_keys, detail_of_table, ends_left, held_in, known, others_read, refl, rest_read, shape, shape_list, sym, table_view, told, told_optional, wrong_shape, ◌∙◌}
 use Rattle.cargo_toml_package.proofs.dependency.fill.Goals as goal
 
 -- each key in turn, and then what is left of the table

@@ -1,9 +1,4 @@
-use Rattle.std.proofs.Common.{ap, codes, refl}
-use Rattle.toml.specs.View.{table_view}
-use Rattle.cargo_toml_parts.specs.Faults.{IsShape, wrong_shape}
-use Rattle.cargo_toml_parts.proofs.Chain.{ends, shape, shape_list}
-use Rattle.cargo_toml_parts.proofs.Places.{begins, ends_told, held_in, told}
-use Rattle.cargo_toml_package.specs.Dependencies.{inherited_of}
+use Rattle.cargo_toml_package.proofs.Cited.{IsShape, ap, begins, codes, ends, ends_told, held_in, inherited_of, refl, shape, shape_list, table_view, told, wrong_shape}
 use Rattle.cargo_toml_package.proofs.dependency.inherited_detail.Goals as goal
 
 pub returns : goal.returns

@@ -1,8 +1,4 @@
-use Rattle.std.proofs.Common.{◌∙◌, ap, option_map, sym}
-use Rattle.std.proofs.lemmas.Result.{err_from_is_err_and}
-use Rattle.toml.specs.View.{table_view}
-use Rattle.cargo_toml_parts.proofs.Steps.{blames}
-use Rattle.cargo_toml_package.specs.Dependencies.{detailed, inherited}
+use Rattle.cargo_toml_package.proofs.Cited.{ap, blames, detailed, err_from_is_err_and, inherited, option_map, sym, table_view, ◌∙◌}
 use Rattle.cargo_toml_package.proofs.Said.{said, unsaid}
 use Rattle.cargo_toml_package.proofs.dependency.of_table.Goals as goal
 

@@ -1,10 +1,4 @@
-use Rattle.std.proofs.Common.{◌∙◌, ap, sym, ℕ, List, map, Some, option_map, string_bytes}
-use Rattle.std.proofs.lemmas.Result.{err_from_is_err_and}
-use Rattle.toml.specs.Data.{as_array, as_str}
-use Rattle.toml.specs.View.{view}
-use Rattle.cargo_toml_parts.proofs.Shapes.{of_array}
-use Rattle.cargo_toml_parts.proofs.Steps.{blames}
-use Rattle.cargo_toml_package.specs.Details.{Detail, plain_detail}
+use Rattle.cargo_toml_package.proofs.Cited.{Detail, List, Some, ap, as_array, as_str, blames, err_from_is_err_and, map, of_array, option_map, plain_detail, string_bytes, sym, view, ℕ, ◌∙◌}
 use Rattle.cargo_toml_package.proofs.feature.of_list.Goals as goal
 
 pub returns-in_err-enables : goal.returns-in_err-enables

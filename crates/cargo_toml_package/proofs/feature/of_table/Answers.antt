@@ -1,9 +1,4 @@
-use Rattle.std.proofs.Common.{codes, refl, rules}
-use Rattle.toml.specs.View.{table_view}
-use Rattle.cargo_toml_parts.specs.Faults.{IsShape, wrong_shape}
-use Rattle.cargo_toml_parts.proofs.Chain.{ends, shape, shape_list}
-use Rattle.cargo_toml_parts.proofs.Places.{begins, ends_told, told, told_optional}
-use Rattle.cargo_toml_package.specs.Features.{table_feature}
+use Rattle.cargo_toml_package.proofs.Cited.{IsShape, begins, codes, ends, ends_told, refl, rules, shape, shape_list, table_feature, table_view, told, told_optional, wrong_shape}
 use Rattle.cargo_toml_package.proofs.feature.of_table.Goals as goal
 
 pub returns : goal.returns

@@ -1,8 +1,4 @@
-use Rattle.std.proofs.Common.{[], refl, rules, subst}
-use Rattle.toml.proofs.Views.{Entry}
-use Rattle.cargo_toml_parts.specs.Reads.{WrongShape}
-use Rattle.cargo_toml_parts.proofs.Readers.{OthersSoFar, others_start, others_push}
-use Rattle.cargo_toml_package.specs.Features.{feature_meaning, feature_of}
+use Rattle.cargo_toml_package.proofs.Cited.{Entry, OthersSoFar, WrongShape, [], feature_meaning, feature_of, others_push, others_start, refl, rules, subst}
 use Rattle.cargo_toml_package.proofs.feature.pairs.Goals as goal
 
 pub loop-name-init : goal.loop-name-init

@@ -1,7 +1,4 @@
-use Rattle.std.proofs.Common.{[]}
-use Rattle.cargo_toml_package.specs.Features.{feature_meaning, feature_of}
-use Rattle.cargo_toml_parts.proofs.Readers.{OthersSoFar}
-use Rattle.cargo_toml_parts.specs.Reads.{WrongShape}
+use Rattle.cargo_toml_package.proofs.Cited.{OthersSoFar, WrongShape, [], feature_meaning, feature_of}
 use Rattle.cargo_toml_package.proofs.feature.pairs.Given as goal
 
 abbrev pub invariant-loop-name : goal.invariant-loop-name

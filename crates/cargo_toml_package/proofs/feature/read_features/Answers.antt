@@ -1,8 +1,4 @@
-use Rattle.std.proofs.Common.{◌∙◌, ap, sym, List, ℕ, map, Some, option_map, string_bytes}
-use Rattle.cargo_toml_parts.proofs.Collected.{mean_alike}
-use Rattle.cargo_toml_parts.specs.Reads.{map_meaning, pairs_meaning}
-use Rattle.cargo_toml_package.specs.Details.{Detail, detail_of}
-use Rattle.cargo_toml_package.specs.Features.{apart, details_of, feature_meaning}
+use Rattle.cargo_toml_package.proofs.Cited.{Detail, List, Some, ap, apart, detail_of, details_of, feature_meaning, map, map_meaning, mean_alike, option_map, pairs_meaning, string_bytes, sym, ℕ, ◌∙◌}
 use Rattle.cargo_toml_package.proofs.Apart.{details_ascend, lists_ascend}
 use Rattle.cargo_toml_package.proofs.feature.read_features.Goals as goal
 

@@ -1,6 +1,4 @@
-use Rattle.std.proofs.Common.{◌≡◌, sym, ap, ◌∙◌, arith}
-use Rattle.cargo_toml_package.specs.Inheriting.{any_field_left, installed_package}
-use Rattle.cargo_toml_package.specs.Packages.{held_package}
+use Rattle.cargo_toml_package.proofs.Cited.{any_field_left, ap, arith, held_package, installed_package, sym, ◌∙◌, ◌≡◌}
 use Rattle.cargo_toml_package.proofs.Lasting.{filled_package}
 use Rattle.cargo_toml_package.proofs.inheriting.any_field_inherited.Goals as goal
 

@@ -1,6 +1,4 @@
-use Rattle.std.proofs.Common.{sym, ◌∙◌, inr}
-use Rattle.cargo_toml_package.specs.Inheriting.{installed_package}
-use Rattle.cargo_toml_package.specs.Packages.{package_meaning}
+use Rattle.cargo_toml_package.proofs.Cited.{inr, installed_package, package_meaning, sym, ◌∙◌}
 use Rattle.cargo_toml_package.proofs.Integrity.{refused}
 use Rattle.cargo_toml_package.proofs.inheriting.check_none_stays.Goals as goal
 

@@ -1,5 +1,4 @@
-use Rattle.std.proofs.Common.{arith}
-use Rattle.cargo_toml_parts.proofs.CopiedFields.{ends_ok}
+use Rattle.cargo_toml_package.proofs.Cited.{arith, ends_ok}
 use Rattle.cargo_toml_package.proofs.inheriting.fields_from.Goals as goal
 
 pub returns : goal.returns

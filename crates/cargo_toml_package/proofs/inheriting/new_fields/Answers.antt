@@ -1,8 +1,4 @@
-use Rattle.std.specs.Option.{option_copied}
-use Rattle.std.proofs.Common.{option_map}
-use Rattle.cargo_toml_package.specs.Inheriting.{with_template_if_there}
-use Rattle.cargo_toml_package.specs.Packages.{package_meaning}
-use Rattle.cargo_toml_package.specs.Templates.{template_meaning}
+use Rattle.cargo_toml_package.proofs.Cited.{option_copied, option_map, package_meaning, template_meaning, with_template_if_there}
 use Rattle.cargo_toml_package.proofs.Integrity.{given}
 use Rattle.cargo_toml_package.proofs.inheriting.new_fields.Goals as goal
 

@@ -1,7 +1,4 @@
-use Rattle.std.proofs.Common.{ap, codes, refl}
-use Rattle.toml.specs.View.{table_view}
-use Rattle.cargo_toml_parts.proofs.Places.{begins, takes, takes_optional, takes_required, takes_last_optional, means_none}
-use Rattle.cargo_toml_package.specs.Packages.{package_of_table, PackageFaults}
+use Rattle.cargo_toml_package.proofs.Cited.{PackageFaults, ap, begins, codes, means_none, package_of_table, refl, table_view, takes, takes_last_optional, takes_optional, takes_required}
 use Rattle.cargo_toml_package.proofs.package.fill.Goals as goal
 
 -- each key in turn: what is left of the table, and what was read

@@ -1,10 +1,4 @@
-use Rattle.std.proofs.Common.{ap, codes, refl, None}
-use Rattle.toml.specs.View.{table_view}
-use Rattle.cargo_toml_parts.specs.Reads.{WrongShape}
-use Rattle.cargo_toml_parts.proofs.Chain.{ends, plain}
-use Rattle.cargo_toml_parts.proofs.Places.{begins, held_in, means_none, takes, takes_last, takes_optional}
-use Rattle.cargo_toml_parts.proofs.Shapes.{itself, list_shape, map_shape}
-use Rattle.cargo_toml_package.specs.Workspaces.{workspace_of, WorkspaceFaults}
+use Rattle.cargo_toml_package.proofs.Cited.{None, WorkspaceFaults, WrongShape, ap, begins, codes, ends, held_in, itself, list_shape, map_shape, means_none, plain, refl, table_view, takes, takes_last, takes_optional, workspace_of}
 use Rattle.cargo_toml_package.proofs.workspace.read_table.Goals as goal
 
 pub returns : goal.returns

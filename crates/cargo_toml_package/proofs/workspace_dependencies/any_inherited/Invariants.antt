@@ -1,7 +1,4 @@
-use Rattle.std.proofs.Common.{◌≡◌, map, string_bytes}
-use Rattle.cargo_toml_parts.specs.Reads.{map_meaning}
-use Rattle.cargo_toml_package.specs.Dependencies.{dependency_meaning}
-use Rattle.cargo_toml_package.specs.InheritedDependencies.{any_left}
+use Rattle.cargo_toml_package.proofs.Cited.{any_left, dependency_meaning, map, map_meaning, string_bytes, ◌≡◌}
 use Rattle.cargo_toml_package.proofs.workspace_dependencies.any_inherited.Given as goal
 
 abbrev pub invariant-loop-dependency : goal.invariant-loop-dependency

@@ -1,13 +1,5 @@
-use Rattle.std.proofs.Common.{inr, rules, arith, Ok, Err, Some, map, string_bytes}
-use Rattle.std.proofs.lemmas.Grind.{common_steps}
-use Rattle.std.proofs.lemmas.List.{map_push}
-use Rattle.cargo_toml_parts.specs.declared.error.Error.{InheritedUnknownValue}
-use Rattle.cargo_toml_parts.specs.Reads.{map_meaning}
-use Rattle.cargo_toml_parts.specs.FaultValues.{inherited_unknown_value, fault_of}
-use Rattle.cargo_toml_package.specs.Dependencies.{dependency_meaning, inherited_meaning}
-use Rattle.cargo_toml_package.specs.Replacing.{made_meaning}
-use Rattle.cargo_toml_package.proofs.Inherited.{gives_all}
-use Rattle.cargo_toml_package.proofs.Near.{fault_of-inherited, push_made, push_refused}
+use Rattle.cargo_toml_package.proofs.Cited.{Err, InheritedUnknownValue, Ok, Some, arith, common_steps, dependency_meaning, fault_of, inherited_meaning, inherited_unknown_value, inr, made_meaning, map, map_meaning, map_push, rules, string_bytes}
+use Rattle.cargo_toml_package.proofs.{Inherited.gives_all, Near.fault_of-inherited, Near.push_made, Near.push_refused}
 use Rattle.cargo_toml_package.proofs.workspace_dependencies.made_by.Goals as goal
 
 pub loop-key-init : goal.loop-key-init

@@ -1,8 +1,4 @@
-use Rattle.std.proofs.Common.{◌≡◌, Some, map, string_bytes}
-use Rattle.cargo_toml_parts.specs.Reads.{map_meaning}
-use Rattle.cargo_toml_package.specs.Dependencies.{dependency_meaning}
-use Rattle.cargo_toml_package.specs.Near.{AreEntriesOf}
-use Rattle.cargo_toml_package.specs.Replacing.{made_meaning}
+use Rattle.cargo_toml_package.proofs.Cited.{AreEntriesOf, Some, dependency_meaning, made_meaning, map, map_meaning, string_bytes, ◌≡◌}
 use Rattle.cargo_toml_package.proofs.Inherited.{behind, needed}
 use Rattle.cargo_toml_package.proofs.workspace_dependencies.made_by.Given as goal
 

@@ -1,5 +1,4 @@
-use Rattle.cargo_toml_package.specs.InheritedDependencies.{Entries}
-use Rattle.cargo_toml_package.specs.Near.{AreEntriesOf}
+use Rattle.cargo_toml_package.proofs.Cited.{AreEntriesOf, Entries}
 use Rattle.cargo_toml_package.proofs.workspace_dependencies.near_at.Given as goal
 
 abbrev pub invariant-loop : goal.invariant-loop

@@ -1,7 +1,4 @@
-use Rattle.std.proofs.Common.{map, rules, refl}
-use Rattle.std.specs.Vec.Iter.{into_iter_items}
-use Rattle.cargo_toml_package.specs.Dependencies.{dependency_meaning}
-use Rattle.cargo_toml_package.specs.Replacing.{next_for, replaced, rest_for}
+use Rattle.cargo_toml_package.proofs.Cited.{dependency_meaning, into_iter_items, map, next_for, refl, replaced, rest_for, rules}
 use Rattle.cargo_toml_package.proofs.Replaced.{replaced-by}
 use Rattle.cargo_toml_package.proofs.workspace_dependencies.replace.Goals as goal
 

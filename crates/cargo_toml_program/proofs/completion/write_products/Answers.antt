@@ -1,6 +1,4 @@
-use Rattle.std.proofs.Common.{arith, string_bytes}
-use Rattle.cargo_toml_program.specs.Completed.{product_line}
-use Rattle.cargo_toml_parts.specs.Products.{product_meaning}
+use Rattle.cargo_toml_program.proofs.Cited.{arith, product_line, product_meaning, string_bytes}
 use Rattle.cargo_toml_program.proofs.Products.{one_more}
 use Rattle.cargo_toml_program.proofs.completion.write_products.Goals as goal
 

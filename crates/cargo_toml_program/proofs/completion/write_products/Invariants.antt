@@ -1,7 +1,4 @@
-use Rattle.std.proofs.Common.{◌≡◌, ◌++◌, map, string_bytes, take}
-use Rattle.std.specs.List.{flat_map}
-use Rattle.cargo_toml_program.specs.Completed.{product_line}
-use Rattle.cargo_toml_parts.specs.Products.{product_meaning}
+use Rattle.cargo_toml_program.proofs.Cited.{flat_map, map, product_line, product_meaning, string_bytes, take, ◌++◌, ◌≡◌}
 use Rattle.cargo_toml_program.proofs.completion.write_products.Given as goal
 
 abbrev pub invariant-loop-product : goal.invariant-loop-product

@@ -1,7 +1,4 @@
-use Rattle.std.proofs.Common.{◌≡◌, ◌++◌, List, String, Global, codes, map, string_bytes, subst}
-use Rattle.std.specs.Prelude.{OnOk}
-use Rattle.cargo_toml_graph.specs.Action.{Text}
-use Rattle.cargo_toml_program.specs.Lines.{between_commas}
+use Rattle.cargo_toml_program.proofs.Cited.{Global, List, OnOk, String, Text, between_commas, codes, map, string_bytes, subst, ◌++◌, ◌≡◌}
 use Rattle.cargo_toml_program.proofs.completion.write_required.Goals as goal
 
 pub returns : goal.returns

@@ -1,5 +1,4 @@
-use Rattle.std.proofs.Common.{◌≡◌, ◌++◌, codes, map, string_bytes, take}
-use Rattle.std.specs.List.{flat_map}
+use Rattle.cargo_toml_program.proofs.Cited.{codes, flat_map, map, string_bytes, take, ◌++◌, ◌≡◌}
 use Rattle.cargo_toml_program.proofs.completion.write_texts.Given as goal
 
 abbrev pub invariant-loop-item : goal.invariant-loop-item

@@ -1,5 +1,4 @@
-use Rattle.std.proofs.Common.{◌≡◌, ◌++◌, codes, string_bytes}
-use Rattle.std.specs.List.{flat_map}
+use Rattle.cargo_toml_program.proofs.Cited.{codes, flat_map, string_bytes, ◌++◌, ◌≡◌}
 use Rattle.cargo_toml_program.proofs.features.write_action.Given as goal
 
 abbrev pub invariant-loop-feature : goal.invariant-loop-feature

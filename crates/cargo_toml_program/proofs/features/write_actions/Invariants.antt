@@ -1,6 +1,4 @@
-use Rattle.std.proofs.Common.{◌≡◌, ◌++◌, codes, string_bytes}
-use Rattle.std.specs.List.{flat_map}
-use Rattle.cargo_toml_program.specs.Lines.{AskedAscend, action_text, between_commas}
+use Rattle.cargo_toml_program.proofs.Cited.{AskedAscend, action_text, between_commas, codes, flat_map, string_bytes, ◌++◌, ◌≡◌}
 use Rattle.cargo_toml_program.proofs.features.write_actions.Given as goal
 
 abbrev pub invariant-loop-key : goal.invariant-loop-key

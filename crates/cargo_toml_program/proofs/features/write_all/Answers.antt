@@ -1,7 +1,4 @@
-use Rattle.std.proofs.{Common.Bor, Common.List, Common.rules, Common.string_bytes, Common.subst, lemmas.Map.Iter.rest_all, lemmas.Map.Iter.rest_more}
-use Rattle.std.specs.{List.AllByRecursion, Map.Iter.deref}
-use Rattle.cargo_toml_graph.specs.Action.{Text}
-use Rattle.cargo_toml_program.specs.Lines.{line_at}
+use Rattle.cargo_toml_program.proofs.Cited.{AllByRecursion, Bor, List, Text, deref, line_at, rest_all, rest_more, rules, string_bytes, subst}
 use Rattle.cargo_toml_program.proofs.Growing.{Told, all_told, each_line, each_told, one_more, told_of_all}
 use Rattle.cargo_toml_program.proofs.features.write_all.Goals as goal
 

@@ -1,6 +1,5 @@
-use Rattle.std.proofs.Common.{◌≡◌, ◌++◌, string_bytes}
-use Rattle.std.specs.List.{AllByRecursion, flat_map}
-use Rattle.cargo_toml_program.{specs.Lines.line_at, proofs.Growing.Told}
+use Rattle.cargo_toml_program.proofs.Cited.{AllByRecursion, flat_map, line_at, string_bytes, ◌++◌, ◌≡◌}
+use Rattle.cargo_toml_program.proofs.Growing.{Told}
 use Rattle.cargo_toml_program.proofs.features.write_all.Given as goal
 
 abbrev pub invariant-loop-name : goal.invariant-loop-name

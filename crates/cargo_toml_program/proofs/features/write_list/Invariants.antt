@@ -1,5 +1,4 @@
-use Rattle.std.proofs.Common.{◌≡◌, ◌++◌, codes, string_bytes, take}
-use Rattle.std.specs.List.{flat_map}
+use Rattle.cargo_toml_program.proofs.Cited.{codes, flat_map, string_bytes, take, ◌++◌, ◌≡◌}
 use Rattle.cargo_toml_program.proofs.features.write_list.Given as goal
 
 abbrev pub invariant-loop-item : goal.invariant-loop-item

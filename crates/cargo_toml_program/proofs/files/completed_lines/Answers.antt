@@ -1,5 +1,4 @@
-use Rattle.std.proofs.{Common.inr, lemmas.Result.err_from_is_err_and}
-use Rattle.cargo_toml_manifest.proofs.PathFaults.{some_from}
+use Rattle.cargo_toml_program.proofs.Cited.{err_from_is_err_and, inr, some_from}
 use Rattle.cargo_toml_program.proofs.files.completed_lines.Goals as goal
 
 pub returns-clause-lines : goal.returns-clause-lines

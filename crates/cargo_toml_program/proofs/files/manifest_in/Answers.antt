@@ -1,5 +1,4 @@
-use Rattle.std.proofs.{Common.inl, Common.inr, lemmas.Result.err_from_is_err_and}
-use Rattle.cargo_toml_discovery.proofs.Faults.{from_input}
+use Rattle.cargo_toml_program.proofs.Cited.{err_from_is_err_and, from_input, inl, inr}
 use Rattle.cargo_toml_program.proofs.files.manifest_in.Goals as goal
 
 pub returns-in_err-text-clause-refused : goal.returns-in_err-text-clause-refused

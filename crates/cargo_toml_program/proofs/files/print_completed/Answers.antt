@@ -1,7 +1,4 @@
-use Rattle.std.proofs.Common.{ℕ, List, Option, Some, None, inr, subst, sym, ◌∙◌, string_bytes}
-use Rattle.std.proofs.lemmas.Result.{err_from_is_err_and}
-use Rattle.std.specs.Io.KnownBytes.{Appends, Keeps}
-use Rattle.cargo_toml_program.specs.Printed.{IsSpelled}
+use Rattle.cargo_toml_program.proofs.Cited.{Appends, IsSpelled, Keeps, List, None, Option, Some, err_from_is_err_and, inr, string_bytes, subst, sym, ℕ, ◌∙◌}
 use Rattle.cargo_toml_program.proofs.files.print_completed.Goals as goal
 
 -- what was appended still is, once what is known stays

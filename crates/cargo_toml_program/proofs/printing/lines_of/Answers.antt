@@ -1,9 +1,5 @@
-use Rattle.std.proofs.Common.{◌≡◌, ◌∙◌, Bor, Err, IfOk, None, Ok, OnOk, Option, Result, Some, ℕ, ap, false, is_some, refl, subst, sym}
-use Rattle.std.proofs.lemmas.{Bool.false≢true, Result.IfOk-weaker}
-use Rattle.cargo_toml_features.specs.Views.{answer_of}
-use Rattle.cargo_toml_manifest.specs.Manifests.{manifest_meaning}
-use Rattle.cargo_toml_resolver.specs.Parsed.{IsParsed}
-use Rattle.cargo_toml_resolve.specs.Filter.{Asked, FilterTells}
+use Rattle.cargo_toml_program.proofs.Cited.{Asked, Bor, Err, FilterTells, IfOk, IfOk-weaker, IsParsed, None, Ok, Option, Result, Some, answer_of, ap, false, false≢true, is_some, manifest_meaning, refl, subst, sym, ℕ, ◌∙◌, ◌≡◌}
+use Rattle.std.proofs.Common.{OnOk}
 use Rattle.cargo_toml_program.proofs.printing.lines_of.Goals as goal
 
 -- without a filter no name is kept

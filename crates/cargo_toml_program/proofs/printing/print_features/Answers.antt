@@ -1,6 +1,4 @@
-use Rattle.std.proofs.Common.{◌≡◌, ◌∙◌, List, ℕ, ap, inl, inr, length, rules, string_bytes, subst, sym, drop}
-use Rattle.std.proofs.lemmas.Result.{err_from_is_err_and}
-use Rattle.std.specs.Io.KnownBytes.{Consumes}
+use Rattle.cargo_toml_program.proofs.Cited.{Consumes, List, ap, drop, err_from_is_err_and, inl, inr, length, rules, string_bytes, subst, sym, ℕ, ◌∙◌, ◌≡◌}
 use Rattle.cargo_toml_program.proofs.printing.print_features.Goals as goal
 
 pub returns-in_err-lines-clause-refused : goal.returns-in_err-lines-clause-refused

@@ -1,5 +1,4 @@
-use Rattle.std.proofs.{Common.Ok, Common.inl, Common.subst, Common.sym, lemmas.Result.IfErr-weaker, lemmas.Result.IfOk-weaker}
-use Rattle.cargo_toml_manifest.specs.Roots.{IsFromSlice}
+use Rattle.cargo_toml_program.proofs.Cited.{IfErr-weaker, IfOk-weaker, IsFromSlice, Ok, inl, subst, sym}
 use Rattle.cargo_toml_program.proofs.printing.text_of.Goals as goal
 
 pub returns-clause-printed : goal.returns-clause-printed

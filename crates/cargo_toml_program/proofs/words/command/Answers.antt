@@ -1,7 +1,5 @@
-use Rattle.std.proofs.Common.{arith, ◌≡◌, ℕ, List, [], map, length, string_bytes, Option, Some, None, IfNone, sym, ap, ◌∙◌, subst, inl, inr}
-use Rattle.std.proofs.lemmas.List.{get_or-map, length-map}
+use Rattle.cargo_toml_program.proofs.Cited.{AskFor, Command, Complete, Features, IfNone, IsLimit, List, None, Option, Some, [], ap, arith, get_or-map, inl, inr, length, length-map, map, string_bytes, subst, sym, ℕ, ◌∙◌, ◌≡◌}
 use lib.ListN.{get_or}
-use Rattle.cargo_toml_program.specs.{declared.arguments.Command.Command, declared.arguments.Command.TheVariants.Features, declared.arguments.Command.TheVariants.Complete, Words.AskFor, Words.IsLimit}
 use Rattle.cargo_toml_program.proofs.words.command.Goals as goal
 
 -- of four words that ask for a command the third is a limit

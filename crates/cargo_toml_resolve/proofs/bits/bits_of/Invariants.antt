@@ -1,5 +1,4 @@
-use Rattle.{std.proofs.Common.◌≡◌, std.proofs.Common.◌↔◌, std.proofs.Common.ℕ, std.proofs.Common.length, std.proofs.Common.take, cargo_toml_graph.specs.Reach.Among}
-use Rattle.cargo_toml_resolve.specs.Bits.{HasBit}
+use Rattle.cargo_toml_resolve.proofs.Cited.{Among, HasBit, length, take, ℕ, ◌↔◌, ◌≡◌}
 use Rattle.cargo_toml_resolve.proofs.bits.bits_of.Given as goal
 
 abbrev pub invariant-loop-x : goal.invariant-loop-x

@@ -1,7 +1,6 @@
-use Rattle.std.proofs.Common.{rules, ◌≡◌, ◌≢◌, ◌↔◌, ◌<◌, ◌+◌, ℕ, ◌++◌, ◌∷◌, [], false, get_or, ap, sym, subst, ◌∙◌}
-use Rattle.{std.proofs.lemmas.Bool.false≢true, cargo_toml_graph.specs.Reach.Among}
-use Rattle.cargo_toml_resolve.{specs.Bits.HasBit, specs.Numbers.IsWanted, proofs.Tabled.none_more_held, proofs.Tabled.one_more_held}
+use Rattle.cargo_toml_resolve.proofs.Cited.{Among, HasBit, IsWanted, [], ap, false, false≢true, get_or, rules, subst, sym, ℕ, ◌++◌, ◌+◌, ◌<◌, ◌↔◌, ◌∙◌, ◌∷◌, ◌≡◌, ◌≢◌}
 use Rattle.cargo_toml_resolve.proofs.bits.nodes_of.Goals.{else-flags-x-via-else-flags-x, then-flags-x+then-has_bit+in_ok-push, else-flags-x, else-flags-x-via-then-flags-x+else-has_bit}
+use Rattle.cargo_toml_resolve.proofs.{Tabled.none_more_held, Tabled.one_more_held}
 use Rattle.cargo_toml_resolve.proofs.bits.nodes_of.Goals as goal
 
 pub loop-x-preserved : goal.loop-x-preserved

@@ -1,10 +1,6 @@
-use Rattle.std.proofs.Common.{rules, ◌≡◌, ◌<◌, ◌≤◌, ◌↔◌, ◌+◌, [], ℕ, inl, true, false, length, length-set, ap, sym, subst, ◌∙◌, arith}
-use Rattle.std.proofs.lemmas.{Bool.false≢true, List.length-replicate}
-use Rattle.cargo_toml_graph.specs.Reach.{Among, GathersLabel, Reaches}
-use Rattle.cargo_toml_resolve.specs.{Bits.Holds, Numbers.IsRedirect, Numbers.IsWanted, Numbers.Leads}
-use Rattle.cargo_toml_resolve.proofs.RowsInOrder.{Labels, Paths, Redirect, all_labels, all_paths, first_labels, first_paths, more_labels, more_paths, none_finished, redirect_row, same_labels, same_paths, table_alike, table_gains, all_moved}
-use Rattle.cargo_toml_resolve.proofs.{RowsInOrder.one_more_finished, RowsInOrder.still_finished, Steps.has_row, Tabled.holds_inside, NumberRows.IsFilled, NumberRows.none_filled, NumberRows.one_more_filled}
-use Rattle.cargo_toml_resolve.proofs.dense.take_out.Goals.{then-is_removed-r+in_ok-row+in_ok-push+in_ok-parents+in_ok-pass_on+in_ok-pass_on-2, else-is_removed-r+in_ok-push_none}
+use Rattle.cargo_toml_resolve.proofs.Cited.{Among, GathersLabel, Holds, IsRedirect, IsWanted, Leads, Reaches, [], ap, arith, false, false≢true, inl, length, length-replicate, length-set, rules, subst, sym, true, ℕ, ◌+◌, ◌<◌, ◌↔◌, ◌∙◌, ◌≡◌, ◌≤◌}
+use Rattle.cargo_toml_resolve.proofs.RowsInOrder.{Labels, Paths, Redirect, all_labels, all_paths, first_labels, first_paths, more_labels, more_paths, none_finished, redirect_row, same_labels, same_paths, table_alike, table_gains, all_moved, one_more_finished, still_finished}
+use Rattle.cargo_toml_resolve.proofs.{Steps.has_row, Tabled.holds_inside, NumberRows.IsFilled, NumberRows.none_filled, NumberRows.one_more_filled, dense.take_out.Goals.then-is_removed-r+in_ok-row+in_ok-push+in_ok-parents+in_ok-pass_on+in_ok-pass_on-2, dense.take_out.Goals.else-is_removed-r+in_ok-push_none}
 use Rattle.cargo_toml_resolve.proofs.dense.take_out.Goals as goal
 
 pub loop-r-init : goal.loop-r-init

@@ -1,6 +1,5 @@
-use Rattle.std.proofs.Common.{arith, ◌≡◌, ◌+◌, [], get_or, take, take_all, subst}
-use Rattle.{cargo_toml_graph.specs.Reach.Among, cargo_toml_features.proofs.ByPlace.among_at}
-use Rattle.cargo_toml_resolve.{specs.Parts.but_enablers, specs.Enabling.GainEnabler, proofs.Steps.among_more, proofs.Steps.item_is, proofs.Learning.nobody_learns, proofs.Learning.then_learn, proofs.InPlace.alike_len}
+use Rattle.cargo_toml_resolve.proofs.Cited.{Among, GainEnabler, [], among_at, arith, but_enablers, get_or, subst, take, take_all, ◌+◌, ◌≡◌}
+use Rattle.cargo_toml_resolve.proofs.{Steps.among_more, Steps.item_is, Learning.nobody_learns, Learning.then_learn, InPlace.alike_len}
 use Rattle.cargo_toml_resolve.proofs.enabling.enable_along.Goals as goal
 
 pub loop-at-init : goal.loop-at-init

@@ -1,5 +1,4 @@
-use Rattle.std.proofs.Common.{rules, ◌≡◌, ◌<◌, [], length, Bor, subst, arith}
-use Rattle.{std.proofs.Math.ListN.get_or-map, cargo_toml_graph.specs.Action.Text}
+use Rattle.cargo_toml_resolve.proofs.Cited.{Bor, Text, [], arith, get_or-map, length, rules, subst, ◌<◌, ◌≡◌}
 use Rattle.cargo_toml_resolve.proofs.Learning.{HaveLearnt, as_many, none_learnt, one_more_learnt}
 use Rattle.cargo_toml_resolve.proofs.enabling.learn_leaders.Goals as goal
 

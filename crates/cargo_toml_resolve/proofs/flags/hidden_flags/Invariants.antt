@@ -1,5 +1,4 @@
-use Rattle.{std.proofs.Common.◌≡◌, std.proofs.Common.◌<◌, std.proofs.Common.ℕ, std.proofs.Common.false, std.proofs.Common.length, std.specs.List.slice_index_or}
-use Rattle.{cargo_toml_features.specs.InOrder.names_of, cargo_toml_features.specs.Places.nth_text, cargo_toml_resolve.specs.Filter.IsFlagOf}
+use Rattle.cargo_toml_resolve.proofs.Cited.{IsFlagOf, false, length, names_of, nth_text, slice_index_or, ℕ, ◌<◌, ◌≡◌}
 use Rattle.cargo_toml_resolve.proofs.flags.hidden_flags.Given as goal
 
 abbrev pub invariant-loop-feature : goal.invariant-loop-feature

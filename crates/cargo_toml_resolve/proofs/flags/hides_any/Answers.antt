@@ -1,6 +1,5 @@
-use Rattle.std.proofs.Common.{false, length, refl, sym, subst, below_more}
-use Rattle.std.proofs.lemmas.Option.{slice_get_read}
-use Rattle.cargo_toml_resolve.{specs.Filter.IsFlagOf, proofs.InPlace.name_in}
+use Rattle.cargo_toml_resolve.proofs.Cited.{IsFlagOf, below_more, false, length, refl, slice_get_read, subst, sym}
+use Rattle.cargo_toml_resolve.proofs.InPlace.{name_in}
 use Rattle.cargo_toml_resolve.proofs.flags.hides_any.Goals as goal
 
 pub loop-feature-preserved : goal.loop-feature-preserved

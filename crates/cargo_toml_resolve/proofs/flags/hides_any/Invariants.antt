@@ -1,5 +1,4 @@
-use Rattle.{std.proofs.Common.◌<◌, std.proofs.Common.ℕ, std.proofs.Common.false}
-use Rattle.{cargo_toml_features.specs.InOrder.names_of, cargo_toml_features.specs.Places.nth_text, cargo_toml_resolve.specs.Filter.IsFlagOf}
+use Rattle.cargo_toml_resolve.proofs.Cited.{IsFlagOf, false, names_of, nth_text, ℕ, ◌<◌}
 use Rattle.cargo_toml_resolve.proofs.flags.hides_any.Given as goal
 
 abbrev pub invariant-loop-feature : goal.invariant-loop-feature

@@ -1,5 +1,4 @@
-use Rattle.std.proofs.Common.{◌≡◌, ◌<◌, ◌+◌, [], ◌∷◌, suc, drop, rules, arith, sym, ap, subst, ◌∙◌}
-use Rattle.std.proofs.lemmas.List.{nil_from_length}
+use Rattle.cargo_toml_resolve.proofs.Cited.{[], ap, arith, drop, nil_from_length, rules, subst, suc, sym, ◌+◌, ◌<◌, ◌∙◌, ◌∷◌, ◌≡◌}
 use Rattle.cargo_toml_resolve.proofs.HashedKept.{HasPut, all_put, comes_next, put_next}
 use Rattle.cargo_toml_resolve.proofs.hashing.hashed.Goals as goal
 

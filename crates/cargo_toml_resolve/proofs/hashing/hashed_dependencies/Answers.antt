@@ -1,6 +1,4 @@
-use Rattle.std.proofs.Common.{Bor, IfSome, map, sym, ap, subst, ◌∙◌}
-use Rattle.{std.proofs.lemmas.Map.Views.All-values_from_lookup, std.specs.Cmp.Lexicographic.on_texts_equal, cargo_toml_graph.specs.Action.Text}
-use Rattle.cargo_toml_features.specs.{FirstTarget.HasTarget, Slots.held_among}
+use Rattle.cargo_toml_resolve.proofs.Cited.{All-values_from_lookup, Bor, HasTarget, IfSome, Text, ap, held_among, map, on_texts_equal, subst, sym, ◌∙◌}
 use Rattle.cargo_toml_resolve.proofs.hashing.hashed_dependencies.Goals as goal
 
 pub returns-clause-same : goal.returns-clause-same

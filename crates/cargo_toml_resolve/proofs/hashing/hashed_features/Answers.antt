@@ -1,5 +1,4 @@
-use Rattle.{std.proofs.Common.◌≡◌, std.proofs.Common.◌∷◌, std.proofs.Common.rules, std.proofs.Common.arith, std.proofs.Common.subst, std.proofs.lemmas.List.nil_from_length}
-use Rattle.{cargo_toml_graph.proofs.SortedTexts.others_ascend, cargo_toml_features.specs.InOrder.AreInOrder, cargo_toml_features.specs.InOrder.names_of}
+use Rattle.cargo_toml_resolve.proofs.Cited.{AreInOrder, arith, names_of, nil_from_length, others_ascend, rules, subst, ◌∷◌, ◌≡◌}
 use Rattle.cargo_toml_resolve.proofs.HashedKept.{feature_turn}
 use Rattle.cargo_toml_resolve.proofs.hashing.hashed_features.Goals as goal
 

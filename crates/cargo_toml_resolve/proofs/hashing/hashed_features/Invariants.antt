@@ -1,5 +1,4 @@
-use Rattle.{std.proofs.Common.◌≡◌, std.specs.Option.option_or, cargo_toml_graph.specs.Action.Text}
-use Rattle.cargo_toml_features.specs.{InOrder.AreInOrder, InOrder.feature_at, Views.value_at}
+use Rattle.cargo_toml_resolve.proofs.Cited.{AreInOrder, Text, feature_at, option_or, value_at, ◌≡◌}
 use Rattle.cargo_toml_resolve.proofs.hashing.hashed_features.Given as goal
 
 abbrev pub invariant-loop-feature : goal.invariant-loop-feature

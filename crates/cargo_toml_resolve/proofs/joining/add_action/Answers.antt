@@ -1,5 +1,4 @@
-use Rattle.{std.proofs.lemmas.Result.on_ok_weaker, std.proofs.Common.ap, std.proofs.Common.arith, std.proofs.Common.unwrap_or, std.proofs.Common.◌∙◌, std.proofs.lemmas.Map.Text.text_keys}
-use Rattle.cargo_toml_features.{specs.Views.action_of, proofs.ActionTexts.joined_at}
+use Rattle.cargo_toml_resolve.proofs.Cited.{action_of, ap, arith, joined_at, on_ok_weaker, text_keys, unwrap_or, ◌∙◌}
 use Rattle.cargo_toml_resolve.proofs.joining.add_action.Goals as goal
 
 pub returns : goal.returns

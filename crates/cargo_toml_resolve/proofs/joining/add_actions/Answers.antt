@@ -1,6 +1,4 @@
-use Rattle.std.proofs.Common.{rules, ◌≡◌, Some, Bor, ap, map, option_map}
-use Rattle.{std.proofs.lemmas.Map.Iter.btree_map_turn, std.proofs.lemmas.Map.Iter.iter_end, std.specs.Cmp.Lexicographic.on_texts, std.specs.Map.Iter.deref_pair, cargo_toml_graph.specs.Action.Text}
-use Rattle.cargo_toml_features.specs.Views.{action_of, action_at}
+use Rattle.cargo_toml_resolve.proofs.Cited.{Bor, Some, Text, action_at, action_of, ap, btree_map_turn, deref_pair, iter_end, map, on_texts, option_map, rules, ◌≡◌}
 use Rattle.cargo_toml_resolve.proofs.Sets.{next_action, keys_more, all_joined}
 use Rattle.cargo_toml_resolve.proofs.joining.add_actions.Goals as goal
 

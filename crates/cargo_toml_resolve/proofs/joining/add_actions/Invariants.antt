@@ -1,5 +1,4 @@
-use Rattle.{std.proofs.Common.◌≡◌, std.proofs.Common.cond, std.proofs.Common.map, cargo_toml_graph.specs.Action.Text, cargo_toml_graph.specs.Action.join_option}
-use Rattle.cargo_toml_features.{specs.Views.action_at, proofs.Gathering.is_text_in}
+use Rattle.cargo_toml_resolve.proofs.Cited.{Text, action_at, cond, is_text_in, join_option, map, ◌≡◌}
 use Rattle.cargo_toml_resolve.proofs.joining.add_actions.Given as goal
 
 abbrev pub invariant-loop-key : goal.invariant-loop-key

@@ -1,5 +1,4 @@
-use Rattle.{std.proofs.Common.◌≡◌, std.proofs.Common.◌||◌, std.proofs.Common.map, cargo_toml_graph.specs.Action.Text}
-use Rattle.cargo_toml_features.{specs.Views.set_has, proofs.Gathering.is_text_in}
+use Rattle.cargo_toml_resolve.proofs.Cited.{Text, is_text_in, map, set_has, ◌||◌, ◌≡◌}
 use Rattle.cargo_toml_resolve.proofs.joining.add_all.Given as goal
 
 abbrev pub invariant-loop-text : goal.invariant-loop-text

@@ -1,8 +1,6 @@
-use Rattle.std.proofs.Common.{arith, ◌≡◌, ◌↔◌, ◌<◌, ◌∙◌, ℕ, List, Bor, true, false, length, [], refl, ap, sym, subst}
-use Rattle.{std.proofs.lemmas.Result.on_ok_weaker, std.proofs.lemmas.Grind.common_steps, std.proofs.lemmas.Bool.false≢true, cargo_toml_features.specs.Places.nth_text, cargo_toml_resolve.specs.Parts.but_enablers}
-use Rattle.cargo_toml_graph.specs.{Action.Text, Reach.Among, Reach.Reaches, Reach.Reaches.edge}
-use Rattle.cargo_toml_resolve.specs.{Numbers.IsPassed, Numbers.IsWanted, Numbers.KeepsLabel, Numbers.Leads, Numbers.PassesAny, Numbers.row_items, Enabling.GainEnabler, Holding.HasTextsOf, Holding.ComesToHold, Texts.texts_now}
-use Rattle.cargo_toml_resolve.proofs.{InPlace.alike_len, TakenOver.directly, TakenOver.passes_none, TakenOver.source_is, TakenOver.stays_as_it_is, TakenOver.takes_over, Steps.path_inside}
+use Rattle.cargo_toml_resolve.proofs.Cited.{Among, Bor, ComesToHold, GainEnabler, HasTextsOf, IsPassed, IsWanted, KeepsLabel, Leads, List, PassesAny, Reaches, Text, [], ap, arith, but_enablers, common_steps, edge, false, false≢true, length, nth_text, on_ok_weaker, refl, row_items, subst, sym, texts_now, true, ℕ, ◌<◌, ◌↔◌, ◌∙◌, ◌≡◌}
+use Rattle.cargo_toml_resolve.proofs.TakenOver.{directly, passes_none, source_is, stays_as_it_is, takes_over}
+use Rattle.cargo_toml_resolve.proofs.{InPlace.alike_len, Steps.path_inside}
 use Rattle.cargo_toml_resolve.proofs.keeping.keep.Goals as goal
 
 pub has_flagged-requires : goal.has_flagged-requires

@@ -1,5 +1,4 @@
-use Rattle.std.proofs.Common.{rules, arith, ◌≡◌, ◌<◌, true, false, ◌∙◌, length}
-use Rattle.cargo_toml_resolve.specs.{Numbers.IsWanted, Texts.texts_now}
+use Rattle.cargo_toml_resolve.proofs.Cited.{IsWanted, arith, false, length, rules, texts_now, true, ◌<◌, ◌∙◌, ◌≡◌}
 use Rattle.cargo_toml_resolve.proofs.{Steps.read_at, TakenOver.none_take_over, TakenOver.one_more_takes_over, TakenOver.skipped, keeping.keep_all.Goals.then-not-index+in_ok-keep, keeping.keep_all.Goals.else-not-index}
 use Rattle.cargo_toml_resolve.proofs.keeping.keep_all.Goals as goal
 

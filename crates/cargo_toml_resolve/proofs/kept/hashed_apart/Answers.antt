@@ -1,7 +1,6 @@
-use Rattle.std.proofs.Common.{◌≡◌, ◌+◌, ◌∷◌, [], suc, drop, false, true, refl, rules, arith, sym, ap, ◌∙◌}
-use Rattle.std.proofs.lemmas.{Bool.false≢true, List.nil_from_length}
-use Rattle.cargo_toml_resolve.specs.{Holding.HasTextsOf, Numbers.IsWanted, Numbers.row_items, Texts.texts_now}
-use Rattle.cargo_toml_resolve.proofs.{HashedKept.all_those, HashedKept.comes_next, HashedKept.not_put, HashedKept.one_put, kept.hashed_apart.Goals.then-index+in_ok-put_redirect, kept.hashed_apart.Goals.else-index+in_ok-put}
+use Rattle.cargo_toml_resolve.proofs.Cited.{HasTextsOf, IsWanted, [], ap, arith, drop, false, false≢true, nil_from_length, refl, row_items, rules, suc, sym, texts_now, true, ◌+◌, ◌∙◌, ◌∷◌, ◌≡◌}
+use Rattle.cargo_toml_resolve.proofs.HashedKept.{all_those, comes_next, not_put, one_put}
+use Rattle.cargo_toml_resolve.proofs.{kept.hashed_apart.Goals.then-index+in_ok-put_redirect, kept.hashed_apart.Goals.else-index+in_ok-put}
 use Rattle.cargo_toml_resolve.proofs.kept.hashed_apart.Goals as goal
 
 pub loop-feature-preserved : goal.loop-feature-preserved

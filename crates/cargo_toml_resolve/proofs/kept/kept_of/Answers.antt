@@ -1,12 +1,8 @@
 -- From what stands in places to what is kept by name.
-use Rattle.std.proofs.Common.{◌≡◌, ◌↔◌, ◌<◌, ℕ, Bool, true, false, List, [], length, map, Option, Some, None, Bor, IsTrue, IsSome, IfSome, is_some, option_map, slice_get, sym, ap, subst, inl, ◌∙◌, arith}
-use Rattle.std.{proofs.lemmas.Option.slice_get_within, specs.BTreeSet.BTreeSet, specs.HashMap.HashMap, specs.Option.IsSomeAnd, specs.Option.option_map_or}
-use Rattle.cargo_toml_graph.{specs.Action.Text, specs.Admitted.is_below, specs.Graph.Table, specs.Graph.IsKept, specs.Redirects.RedirectsTo, specs.Removal.pass_all, specs.Removal.unremoved, specs.Ascending.Ascend, proofs.Texts.by_true}
-use Rattle.cargo_toml_resolve.specs.{Numbers.IsWanted, Numbers.row_items, declared.graph.Graph.Graph, declared.graph.Walked.Walked, KeptFeatures.IsKeptFeature, KeptFeatures.StandFor, KeptFeatures.own_bins, KeptFeatures.AreKept}
-use Rattle.cargo_toml_resolve.specs.{Parts.deeds_of, Parts.said_of, Holding.HaveOwnSets, Holding.HasTextsOf, Holding.IsTextOf, Placed.ArePlaced, Placed.Shows, Placed.AreHashed, Texts.texts_now}
-use Rattle.cargo_toml_resolve.proofs.{Answered.named_by, Answered.resolved_is, InPlace.found_at, InPlace.name_in, InPlace.stands_in, InPlace.alike_len, InPlace.alike_place, InPlace.names_alike, ByFilter.flag_at, ByFilter.flag_is}
-use Rattle.cargo_toml_resolve.proofs.{ByFilter.own_table, Learning.if_ok_weaker}
-use Rattle.cargo_toml_features.specs.{Places.nth_text, declared.features.Feature.Feature, InOrder.feature_at, InOrder.table_among, Views.set_has, Views.value_at}
+use Rattle.cargo_toml_resolve.proofs.Cited.{AreHashed, AreKept, ArePlaced, Ascend, BTreeSet, Bool, Bor, Feature, Graph, HasTextsOf, HashMap, HaveOwnSets, IfSome, IsKept, IsKeptFeature, IsSome, IsSomeAnd, IsTextOf, IsTrue, IsWanted, List, None, Option, RedirectsTo, Shows, Some, StandFor, Table, Text, Walked, [], ap, arith, by_true, deeds_of, false, feature_at}
+use Rattle.cargo_toml_resolve.proofs.Cited.{inl, is_below, is_some, length, map, nth_text, option_map, option_map_or, own_bins, pass_all, row_items, said_of, set_has, slice_get, slice_get_within, subst, sym, table_among, texts_now, true, unremoved, value_at, ℕ, ◌<◌, ◌↔◌, ◌∙◌, ◌≡◌}
+use Rattle.cargo_toml_resolve.proofs.InPlace.{found_at, name_in, stands_in, alike_len, alike_place, names_alike}
+use Rattle.cargo_toml_resolve.proofs.{Answered.named_by, Answered.resolved_is, ByFilter.flag_at, ByFilter.flag_is, ByFilter.own_table, Learning.if_ok_weaker}
 use Rattle.cargo_toml_resolve.proofs.Answered as numbered
 use Rattle.cargo_toml_resolve.proofs.kept.kept_of.Goals as goal
 

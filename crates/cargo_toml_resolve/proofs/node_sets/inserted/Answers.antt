@@ -1,6 +1,5 @@
-use Rattle.std.proofs.Common.{rules, ◌<◌, ◌∙◌, [], length, Bor, sym, ap}
-use Rattle.{std.proofs.Math.ListN.get_or-map, cargo_toml_graph.specs.Action.Text, cargo_toml_features.specs.Places.nth_text}
-use Rattle.cargo_toml_resolve.{specs.Texts.texts_now, proofs.InOrder.place_below, proofs.InOrder.one_inserted, proofs.Steps.item_at}
+use Rattle.cargo_toml_resolve.proofs.Cited.{Bor, Text, [], ap, get_or-map, length, nth_text, rules, sym, texts_now, ◌<◌, ◌∙◌}
+use Rattle.cargo_toml_resolve.proofs.{InOrder.place_below, InOrder.one_inserted, Steps.item_at}
 use Rattle.cargo_toml_resolve.proofs.node_sets.inserted.Goals as goal
 
 pub offset_bounds-texts-place : goal.offset_bounds-texts-place

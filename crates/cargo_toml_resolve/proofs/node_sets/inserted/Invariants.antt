@@ -1,8 +1,4 @@
-use Rattle.std.proofs.Common.{◌≡◌, bytes_eq, map, take}
-use Rattle.std.specs.List.{list_any}
-use Rattle.cargo_toml_graph.specs.Action.{Text}
-use Rattle.cargo_toml_features.specs.{Places.nth_text, Views.set_has}
-use Rattle.cargo_toml_resolve.specs.Texts.{texts_now}
+use Rattle.cargo_toml_resolve.proofs.Cited.{Text, bytes_eq, list_any, map, nth_text, set_has, take, texts_now, ◌≡◌}
 use Rattle.cargo_toml_resolve.proofs.node_sets.inserted.Given as goal
 
 abbrev pub invariant-loop-x : goal.invariant-loop-x

@@ -1,7 +1,6 @@
-use Rattle.std.proofs.Common.{arith, rules, ◌≡◌, ◌∷◌, ◌++◌, [], map, sym, subst}
-use Rattle.{std.proofs.lemmas.Map.Iter.iter_end, cargo_toml_graph.specs.Reach.Among}
-use Rattle.cargo_toml_resolve.{specs.Numbering.HasNames, specs.Texts.texts_now, proofs.InOrder.seen}
+use Rattle.cargo_toml_resolve.proofs.Cited.{Among, HasNames, [], arith, iter_end, map, rules, subst, sym, texts_now, ◌++◌, ◌∷◌, ◌≡◌}
 use Rattle.cargo_toml_resolve.proofs.NumberRows.{names_still, texts_longer, extends_none, extends_then, fits_now, front_still, names_all, names_empty, names_more, names_none}
+use Rattle.cargo_toml_resolve.proofs.InOrder.{seen}
 use Rattle.cargo_toml_resolve.proofs.numbering.name_row.Goals as goal
 
 pub returns-then-is_empty-clause-extends : goal.returns-then-is_empty-clause-extends

@@ -1,7 +1,5 @@
-use Rattle.std.proofs.Common.{◌<◌, ◌≡◌, [], Bor, ap, sym, subst, ◌∙◌, arith}
-use Rattle.std.proofs.lemmas.List.{get_or-take, length-map, length-take-le, map_push, take-map}
-use Rattle.{cargo_toml_graph.specs.Action.Text, cargo_toml_graph.specs.Ascending.Ascend, cargo_toml_features.specs.Places.nth_text}
-use Rattle.cargo_toml_resolve.{specs.Texts.texts_now, proofs.NumberRows.extends_none, proofs.NumberRows.extends_push, proofs.NumberRows.fits_now, proofs.NumberRows.node_found, proofs.NumberRows.node_pushed}
+use Rattle.cargo_toml_resolve.proofs.Cited.{Ascend, Bor, Text, [], ap, arith, get_or-take, length-map, length-take-le, map_push, nth_text, subst, sym, take-map, texts_now, ◌<◌, ◌∙◌, ◌≡◌}
+use Rattle.cargo_toml_resolve.proofs.NumberRows.{extends_none, extends_push, fits_now, node_found, node_pushed}
 use Rattle.cargo_toml_resolve.proofs.numbering.node_of.Goals as goal
 
 pub seek-requires : goal.seek-requires

@@ -1,12 +1,6 @@
 -- The graph of numbers that stands for features in order.
-use Rattle.std.proofs.Common.{◌≡◌, ◌↔◌, ◌<◌, ◌≤◌, ℕ, Bool, true, false, List, length, IsTrue, sym, ap, subst, inl, inr, ◌∙◌, arith, rules, Bor}
-use Rattle.std.proofs.lemmas.{Bool.false≢true, Bool.cases_lt, List.length-map, List.get_or_past}
-use Rattle.cargo_toml_graph.specs.{Action.Text, Graph.Table, Graph.Edge}
-use Rattle.cargo_toml_resolve.specs.{Numbers.IsWanted, Numbers.Leads, NumberedTables.HasNumber, NumberedTables.IsNaming, NumberedTables.IsNumbered, Numbering.AreRead, Numbering.AreTextsOf, Numbering.IsFlagged, Numbering.IsTarget}
-use Rattle.cargo_toml_resolve.specs.{KeptFeatures.StandFor, Parts.place_names, Texts.texts_now}
+use Rattle.cargo_toml_resolve.proofs.Cited.{AreInOrder, AreRead, AreTable, AreTextsOf, Bool, Bor, Edge, Feature, HasNumber, IsFlagged, IsNaming, IsNumbered, IsTarget, IsTrue, IsWanted, Leads, List, StandFor, Table, Text, among_at, ap, arith, cases_lt, false, false≢true, get_or_past, inl, inr, length, length-map, names_of, nth_text, once, place_names, rises, rules, subst, sym, table_among, texts_now, true, ℕ, ◌<◌, ◌↔◌, ◌∙◌, ◌≡◌, ◌≤◌}
 use Rattle.cargo_toml_resolve.proofs.{InPlace.edge_at, InPlace.has_place, InPlace.names_at, NumberRows.key_text, NumberRows.keys_fit, ByFilter.flag_at, ByFilter.flag_is, ByFilter.own_table, Steps.has_row}
-use Rattle.cargo_toml_features.specs.{Places.nth_text, declared.features.Feature.Feature, InOrder.AreInOrder, InOrder.names_of, InOrder.AreTable, InOrder.table_among}
-use Rattle.cargo_toml_features.proofs.ByPlace.{among_at, once, rises}
 use Rattle.cargo_toml_resolve.proofs.numbering.number.Goals as goal
 
 -- a flag past the end doesn't stand

@@ -1,5 +1,4 @@
-use Rattle.std.proofs.Common.{sym, ◌∙◌}
-use Rattle.std.proofs.lemmas.Bool.{false≢true}
+use Rattle.cargo_toml_resolve.proofs.Cited.{false≢true, sym, ◌∙◌}
 use Rattle.cargo_toml_resolve.proofs.NumberRows.{action_left, action_plain}
 use Rattle.cargo_toml_resolve.proofs.numbering.push_action.Goals as goal
 

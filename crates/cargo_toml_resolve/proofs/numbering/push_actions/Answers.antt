@@ -1,6 +1,4 @@
-use Rattle.std.proofs.Common.{rules, ◌≡◌, Some, Bor, ap, map, option_map}
-use Rattle.std.{proofs.lemmas.Map.Iter.btree_map_turn, proofs.lemmas.Map.Iter.iter_end, proofs.lemmas.Result.on_ok_weaker, specs.Cmp.Lexicographic.on_texts, specs.Map.Iter.deref_pair}
-use Rattle.{cargo_toml_graph.specs.Action.Text, cargo_toml_features.specs.Views.action_at, cargo_toml_features.specs.Views.action_of}
+use Rattle.cargo_toml_resolve.proofs.Cited.{Bor, Some, Text, action_at, action_of, ap, btree_map_turn, deref_pair, iter_end, map, on_ok_weaker, on_texts, option_map, rules, ◌≡◌}
 use Rattle.cargo_toml_resolve.proofs.NumberRows.{action_put, all_actions, one_acted}
 use Rattle.cargo_toml_resolve.proofs.numbering.push_actions.Goals as goal
 

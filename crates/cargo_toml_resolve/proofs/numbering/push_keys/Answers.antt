@@ -1,5 +1,4 @@
-use Rattle.std.proofs.Common.{rules, take, take_all, ◌+◌, sym, subst, ◌∙◌}
-use Rattle.{std.proofs.lemmas.Bool.false≢true, cargo_toml_graph.specs.Reach.Among, cargo_toml_resolve.specs.Numbering.Gains}
+use Rattle.cargo_toml_resolve.proofs.Cited.{Among, Gains, false≢true, rules, subst, sym, take, take_all, ◌+◌, ◌∙◌}
 use Rattle.cargo_toml_resolve.proofs.{NumberRows.node_left, NumberRows.node_put, Steps.item_is, numbering.push_keys.Goals.then-is_other_key+in_ok-push, numbering.push_keys.Goals.else-is_other_key}
 use Rattle.cargo_toml_resolve.proofs.numbering.push_keys.Goals as goal
 

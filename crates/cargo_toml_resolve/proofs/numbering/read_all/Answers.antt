@@ -1,7 +1,6 @@
-use Rattle.std.proofs.Common.{rules, ◌≡◌, ◌⊎◌, ◌<◌, ℕ, true, IsTrue, inl, inr, length, refl, subst}
-use Rattle.{std.proofs.lemmas.Option.slice_get_read, cargo_toml_graph.specs.Reach.Among}
-use Rattle.cargo_toml_resolve.{specs.Numbers.IsWanted, specs.Texts.texts_now, proofs.NumberRows.none_read, proofs.NumberRows.one_more_read}
-use Rattle.cargo_toml_resolve.proofs.{numbering.read_all.Goals.else-leads_nowhere+in_ok-read+in_ok-push, numbering.read_all.Goals.then-leads_nowhere+in_ok-push_none, NumberRows.RowsSoFar, NumberRows.all_read, NumberRows.no_rows}
+use Rattle.cargo_toml_resolve.proofs.Cited.{Among, IsTrue, IsWanted, inl, inr, length, refl, rules, slice_get_read, subst, texts_now, true, ℕ, ◌<◌, ◌≡◌, ◌⊎◌}
+use Rattle.cargo_toml_resolve.proofs.NumberRows.{none_read, one_more_read, RowsSoFar, all_read, no_rows}
+use Rattle.cargo_toml_resolve.proofs.{numbering.read_all.Goals.else-leads_nowhere+in_ok-read+in_ok-push, numbering.read_all.Goals.then-leads_nowhere+in_ok-push_none}
 use Rattle.cargo_toml_resolve.proofs.numbering.read_all.Goals as goal
 
 pub loop-own-init : goal.loop-own-init

@@ -1,5 +1,4 @@
-use Rattle.std.proofs.Common.{◌&&◌, length, nat_eq, not, rules, sym, tests, ◌∙◌}
-use Rattle.std.proofs.lemmas.{Iterator.YieldsList-from_slice, Iterator.YieldsList-from_zip, Iterator.Search.any_from_yields_List}
+use Rattle.cargo_toml_resolve.proofs.Cited.{YieldsList-from_slice, YieldsList-from_zip, any_from_yields_List, length, nat_eq, not, rules, sym, tests, ◌&&◌, ◌∙◌}
 use Rattle.cargo_toml_resolve.proofs.BinTurns.{none_had}
 use Rattle.cargo_toml_resolve.proofs.passing.have_bins.Goals as goal
 

@@ -1,6 +1,4 @@
-use Rattle.std.proofs.Common.{rules, ◌<◌, true, false, take, length, ap, refl, sym, subst, ◌∙◌, arith}
-use Rattle.{std.proofs.lemmas.Grind.common_steps, cargo_toml_graph.specs.Reach.Among}
-use Rattle.cargo_toml_resolve.specs.{Numbers.IsWanted, Numbers.Leads, Numbers.row_items, Passing.bins_of, Passing.Puts, Parts.but_bins}
+use Rattle.cargo_toml_resolve.proofs.Cited.{Among, IsWanted, Leads, Puts, ap, arith, bins_of, but_bins, common_steps, false, length, refl, row_items, rules, subst, sym, take, true, ◌<◌, ◌∙◌}
 use Rattle.cargo_toml_resolve.proofs.{BinTurns.kept_turn, BinTurns.none_passed, BinTurns.one_turn, InPlace.alike_len, passing.pass_bins.Goals.then-flags-r+in_ok-pass_from, passing.pass_bins.Goals.else-flags-r}
 use Rattle.cargo_toml_resolve.proofs.passing.pass_bins.Goals as goal
 

@@ -1,7 +1,5 @@
-use Rattle.std.proofs.Common.{◌≡◌, ◌≤◌, ◌+◌, take, length, get_or, take_all, arith}
-use Rattle.{std.proofs.lemmas.Grind.common_steps, cargo_toml_graph.specs.Reach.Among}
-use Rattle.cargo_toml_resolve.{specs.Parts.but_bins, specs.Texts.texts_now, proofs.InPlace.alike_len}
-use Rattle.cargo_toml_resolve.proofs.{passing.put_along.Goals.else-place-len, passing.put_along.Goals.then-place-len+in_ok-put_at, Steps.among_more, Steps.item_at, Steps.item_is, BinTurns.put_nowhere, BinTurns.put_past, BinTurns.then_put}
+use Rattle.cargo_toml_resolve.proofs.Cited.{Among, arith, but_bins, common_steps, get_or, length, take, take_all, texts_now, ◌+◌, ◌≡◌, ◌≤◌}
+use Rattle.cargo_toml_resolve.proofs.{InPlace.alike_len, passing.put_along.Goals.else-place-len, passing.put_along.Goals.then-place-len+in_ok-put_at, Steps.among_more, Steps.item_at, Steps.item_is, BinTurns.put_nowhere, BinTurns.put_past, BinTurns.then_put}
 use Rattle.cargo_toml_resolve.proofs.passing.put_along.Goals as goal
 
 pub loop-at-init : goal.loop-at-init

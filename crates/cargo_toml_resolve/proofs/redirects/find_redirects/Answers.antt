@@ -1,8 +1,6 @@
-use Rattle.std.proofs.Common.{rules, arith, ◌↔◌, ◌<◌, ℕ, List, Bool, true, false, ◌∙◌, subst, length, length-set}
-use Rattle.{std.proofs.lemmas.Grind.common_steps, cargo_toml_graph.specs.Reach.Among}
-use Rattle.cargo_toml_resolve.specs.Numbers.{IsWanted, HasLabel, IsPassed, Moves, Replaces}
+use Rattle.cargo_toml_resolve.proofs.Cited.{Among, Bool, HasLabel, IsPassed, IsWanted, List, Moves, Replaces, arith, common_steps, false, length, length-set, rules, subst, true, ℕ, ◌<◌, ◌↔◌, ◌∙◌}
 use Rattle.cargo_toml_resolve.proofs.RowsInOrder.{none_finished, finds_redirects, first_rows, none_moved, one_more_own, one_more_row, skipped_rows, still_own, one_more_finished, still_finished}
-use Rattle.cargo_toml_resolve.proofs.redirects.find_redirects.Goals.{then-is_removed-r+in_ok-moved-2, else-is_removed-r}
+use Rattle.cargo_toml_resolve.proofs.{redirects.find_redirects.Goals.then-is_removed-r+in_ok-moved-2, redirects.find_redirects.Goals.else-is_removed-r}
 use Rattle.cargo_toml_resolve.proofs.redirects.find_redirects.Goals as goal
 
 pub loop-r-init : goal.loop-r-init

@@ -1,13 +1,8 @@
 -- What features hold in their places once walks have been made and binaries are passed on.
-use Rattle.std.proofs.Common.{◌≡◌, ◌↔◌, ◌<◌, ◌≤◌, ◌++◌, ℕ, zero, suc, Bool, true, false, cond, List, [], ◌∷◌, length, nat_eq, IsTrue, refl, sym, subst, ◌∙◌, arith, map, option_map, Some, slice_get, ap, rules, inr}
-use Rattle.std.{proofs.lemmas.Bool.cases_eq, proofs.lemmas.Option.slice_get_within, proofs.lemmas.Grind.common_steps, specs.List.list_any, specs.List.slice_index_or, specs.Option.option_map_or}
-use Rattle.cargo_toml_graph.specs.{Action.Text, Admitted.is_below, Graph.KeepsName, Graph.Table, Reach.Among, Redirects.RedirectsTo, Removal.pass_all, Removal.unremoved, Removal.without_all, Ascending.Ascend}
-use Rattle.cargo_toml_graph.proofs.{BinLists.among-either, BinLists.among-first, BinLists.among-second, Edges.unremoved_is, Elimination.all_taken_out, InByteOrder.ascending_last, InByteOrder.ascending_once, InByteOrder.last_passes}
-use Rattle.cargo_toml_graph.proofs.{Members.label_within, RedirectsInOrder.below_one_way, SortedTexts.none_ascend, Texts.by_true}
-use Rattle.cargo_toml_features.specs.{Places.nth_text, declared.features.Feature.Feature, InOrder.HaveNoEnablers, InOrder.feature_at, Views.set_has}
-use Rattle.cargo_toml_resolve.specs.{NumberedTables.HasNumber, Numbers.IsWanted, Numbers.Leads, Numbers.row_items, Numbers.FindsRedirects, KeptFeatures.ArePassedAt, KeptFeatures.StandFor, KeptFeatures.IsKeptFeature, KeptFeatures.own_bins}
-use Rattle.cargo_toml_resolve.specs.{Passing.bins_of, Passing.passed_below, Passing.AreSameButBins, Holding.AllTakeOver, Dense.AreRedirects, Parts.but_bins, Parts.deeds_of, Parts.Said, Texts.texts_now}
-use Rattle.cargo_toml_resolve.proofs.{BinTurns.stands_true, BinTurns.true_stands, Answered.is_kept_feature, InPlace.found_at, InPlace.no_enabler, InPlace.alike_at, InPlace.alike_len, InPlace.alike_place, InPlace.stood, InPlace.alike_too}
+use Rattle.cargo_toml_resolve.proofs.Cited.{AllTakeOver, Among, ArePassedAt, AreRedirects, AreSameButBins, Ascend, Bool, Feature, FindsRedirects, HasNumber, HaveNoEnablers, IsKeptFeature, IsTrue, IsWanted, KeepsName, Leads, List, RedirectsTo, Said, Some, StandFor, Table, Text, [], all_taken_out, among-either, among-first, among-second, ap, arith, ascending_last, ascending_once, below_one_way, bins_of, but_bins, by_true, cases_eq, common_steps, cond, deeds_of, false}
+use Rattle.cargo_toml_resolve.proofs.Cited.{feature_at, inr, is_below, label_within, last_passes, length, list_any, map, nat_eq, none_ascend, nth_text, option_map, option_map_or, own_bins, pass_all, passed_below, refl, row_items, rules, set_has, slice_get, slice_get_within, slice_index_or, subst, suc, sym, texts_now, true, unremoved, unremoved_is, without_all, zero, ℕ, ◌++◌, ◌<◌, ◌↔◌, ◌∙◌, ◌∷◌, ◌≡◌, ◌≤◌}
+use Rattle.cargo_toml_resolve.proofs.InPlace.{found_at, no_enabler, alike_at, alike_len, alike_place, stood, alike_too}
+use Rattle.cargo_toml_resolve.proofs.{BinTurns.stands_true, BinTurns.true_stands, Answered.is_kept_feature}
 use Rattle.cargo_toml_resolve.proofs.Answered as numbered
 use Rattle.cargo_toml_resolve.proofs.removal.remove.Goals as goal
 

@@ -1,7 +1,4 @@
-use Rattle.std.proofs.Common.{◌<◌, ℕ, false, length, [], subst}
-use Rattle.std.{proofs.lemmas.Bool.false≢true, specs.List.slice_index_or}
-use Rattle.cargo_toml_features.specs.{Places.nth_text, InOrder.names_of}
-use Rattle.cargo_toml_resolve.specs.{Filter.IsFlagOf}
+use Rattle.cargo_toml_resolve.proofs.Cited.{IsFlagOf, [], false, false≢true, length, names_of, nth_text, slice_index_or, subst, ℕ, ◌<◌}
 use Rattle.cargo_toml_resolve.proofs.{ByFilter.are_kept_by, Learning.if_ok_weaker}
 use Rattle.cargo_toml_resolve.proofs.resolution.kept_by.Goals as goal
 

@@ -1,13 +1,6 @@
 -- From all that is resolved, and what is kept of it once hidden features are taken out, to the whole answer.
-use Rattle.std.proofs.Common.{arith, not, hash_map_len, bytes_eq, ◌∷◌, ◌≡◌, ◌↔◌, Bool, length, true, false, List, [], Bor, map, Option, IsTrue, IfSome, Some, is_some, option_map, refl, sym, ◌∙◌, subst}
-use Rattle.std.{proofs.lemmas.Bool.false≢true, specs.BTreeSet.BTreeSet, specs.HashMap.HashMap, specs.Option.option_map_or, specs.Map.lookup, proofs.lemmas.Slice.Eq.bytes_eq-Decides}
-use Rattle.cargo_toml_graph.specs.{Action.Text, Admitted.Listed, Admitted.is_below, Bins.ArePassedOn, Graph.Table, Redirects.RedirectsTo, Removal.unremoved}
-use Rattle.cargo_toml_graph.proofs.InByteOrder.{alike_itself, passed_all_alike, passed_has}
-use Rattle.cargo_toml_features.specs.{declared.features.Feature.Feature, declared.features.Features.Features, InOrder.AreTable, InOrder.feature_at, InOrder.table_among, Reached.IsKeyed, Marks.NamedDetails}
-use Rattle.cargo_toml_features.specs.{Marks.marked, Marks.marks_in, Marks.marks_of, Marks.named_details, Recorded.Entry, Recorded.entries_at, Recorded.recorded_of, Resolved.IsAnswerWithout, Resolved.SameRecorded, Resolved.table_of}
-use Rattle.cargo_toml_features.specs.{Views.answer_of, Views.set_has, Views.value_at, Views.listed_of, Views.entry_of, Views.recorded_in, OwnBins.own_of, OwnBins.bin_requirement}
-use Rattle.cargo_toml_package.specs.Details.{plain_detail}
-use Rattle.cargo_toml_resolve.specs.{KeptFeatures.own_bins, KeptFeatures.AreKept, Parts.said_of, Removed.IsRemovedBy}
+use Rattle.cargo_toml_resolve.proofs.Cited.{AreKept, ArePassedOn, AreTable, BTreeSet, Bool, Bor, Entry, Feature, Features, HashMap, IfSome, IsAnswerWithout, IsKeyed, IsRemovedBy, IsTrue, List, Listed, NamedDetails, Option, RedirectsTo, SameRecorded, Some, Table, Text, [], alike_itself, answer_of, arith, bin_requirement, bytes_eq, bytes_eq-Decides, entries_at, entry_of, false, false≢true, feature_at, hash_map_len, is_below}
+use Rattle.cargo_toml_resolve.proofs.Cited.{is_some, length, listed_of, lookup, map, marked, marks_in, marks_of, named_details, not, option_map, option_map_or, own_bins, own_of, passed_all_alike, passed_has, plain_detail, recorded_in, recorded_of, refl, said_of, set_has, subst, sym, table_among, table_of, true, unremoved, value_at, ◌↔◌, ◌∙◌, ◌∷◌, ◌≡◌}
 use Rattle.cargo_toml_resolve.proofs.{InPlace.found_stands, ByFilter.answer_alike, ByFilter.answer_by, ByFilter.own_table}
 use Rattle.cargo_toml_resolve.proofs.resolution.resolve.Goals as goal
 

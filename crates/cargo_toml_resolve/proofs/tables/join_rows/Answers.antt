@@ -1,6 +1,5 @@
-use Rattle.std.proofs.Common.{◌<◌, ◌↔◌, ◌⊎◌, ℕ, length, ap, sym, subst, ◌∙◌, arith}
-use Rattle.std.{proofs.lemmas.List.with_items_is, specs.Vec.with_items}
-use Rattle.cargo_toml_resolve.{specs.Bits.HasBit, specs.Bits.Holds, proofs.Steps.among_at, proofs.Steps.item_at, proofs.Steps.list_read, proofs.Tabled.gains_more}
+use Rattle.cargo_toml_resolve.proofs.Cited.{HasBit, Holds, ap, arith, length, subst, sym, with_items, with_items_is, ℕ, ◌<◌, ◌↔◌, ◌∙◌, ◌⊎◌}
+use Rattle.cargo_toml_resolve.proofs.{Steps.among_at, Steps.item_at, Steps.list_read, Tabled.gains_more}
 use Rattle.cargo_toml_resolve.proofs.tables.join_rows.Goals as goal
 
 pub index_mut-requires : goal.index_mut-requires

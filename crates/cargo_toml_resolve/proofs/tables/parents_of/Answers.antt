@@ -1,5 +1,4 @@
-use Rattle.std.proofs.Common.{rules, ◌+◌, ◌<◌, ◌↔◌, ℕ, ◌++◌, ◌∷◌, [], length, ap, sym, subst, ◌∙◌, arith}
-use Rattle.{std.proofs.lemmas.Bool.false≢true, cargo_toml_graph.specs.Reach.Among, cargo_toml_resolve.specs.Bits.HasBit, cargo_toml_resolve.specs.Bits.Holds}
+use Rattle.cargo_toml_resolve.proofs.Cited.{Among, HasBit, Holds, [], ap, arith, false≢true, length, rules, subst, sym, ℕ, ◌++◌, ◌+◌, ◌<◌, ◌↔◌, ◌∙◌, ◌∷◌}
 use Rattle.cargo_toml_resolve.proofs.{Steps.list_read, Tabled.holds_inside, Tabled.none_more_held, Tabled.one_more_held, tables.parents_of.Goals.then-has_bit+in_ok-push, tables.parents_of.Goals.else-has_bit}
 use Rattle.cargo_toml_resolve.proofs.tables.parents_of.Goals as goal
 

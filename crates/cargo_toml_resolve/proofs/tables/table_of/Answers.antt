@@ -1,6 +1,5 @@
-use Rattle.std.proofs.Common.{rules, ◌≡◌, ◌+◌, ◌↔◌, ℕ, length, sym, subst, ◌∙◌, ap, arith}
-use Rattle.{std.proofs.lemmas.Grind.common_steps, cargo_toml_graph.specs.Reach.Among}
-use Rattle.cargo_toml_resolve.{specs.Bits.HasBit, specs.Numbers.Leads, specs.Numbers.row_items, proofs.Steps.has_row, proofs.Tabled.IsTabled, proofs.Tabled.tabled_all, proofs.Tabled.tabled_more}
+use Rattle.cargo_toml_resolve.proofs.Cited.{Among, HasBit, Leads, ap, arith, common_steps, length, row_items, rules, subst, sym, ℕ, ◌+◌, ◌↔◌, ◌∙◌, ◌≡◌}
+use Rattle.cargo_toml_resolve.proofs.{Steps.has_row, Tabled.IsTabled, Tabled.tabled_all, Tabled.tabled_more}
 use Rattle.cargo_toml_resolve.proofs.tables.table_of.Goals as goal
 
 pub bits_of-requires : goal.bits_of-requires

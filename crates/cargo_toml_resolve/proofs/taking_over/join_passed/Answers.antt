@@ -1,7 +1,5 @@
-use Rattle.std.proofs.Common.{rules, ◌≡◌, ◌<◌, ◌⊎◌, Some, get_or, length, subst, take_all}
-use Rattle.{std.proofs.lemmas.Option.slice_get-get_or, cargo_toml_graph.specs.Action.IsJoin, cargo_toml_graph.specs.Action.Text, cargo_toml_graph.specs.Reach.Among}
-use Rattle.cargo_toml_features.specs.Views.{action_at}
-use Rattle.cargo_toml_resolve.{specs.Holding.DoesAt, proofs.Steps.among_at, proofs.Steps.item_at, proofs.TakenOver.begin_join, proofs.TakenOver.next_join, proofs.InOrder.place_below}
+use Rattle.cargo_toml_resolve.proofs.Cited.{Among, DoesAt, IsJoin, Some, Text, action_at, get_or, length, rules, slice_get-get_or, subst, take_all, ◌<◌, ◌≡◌, ◌⊎◌}
+use Rattle.cargo_toml_resolve.proofs.{Steps.among_at, Steps.item_at, TakenOver.begin_join, TakenOver.next_join, InOrder.place_below}
 use Rattle.cargo_toml_resolve.proofs.taking_over.join_passed.Goals as goal
 
 pub loop-b-init : goal.loop-b-init

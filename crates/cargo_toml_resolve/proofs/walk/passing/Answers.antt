@@ -1,6 +1,5 @@
-use Rattle.std.proofs.Common.{rules, ◌<◌, ap, length, true, false, List, ℕ, [], subst, ◌∙◌, arith}
-use Rattle.{std.proofs.lemmas.List.length-replicate, cargo_toml_graph.specs.Reach.Among}
-use Rattle.cargo_toml_resolve.{specs.Numbers.IsWanted, specs.Numbers.Leads, specs.Numbers.FindsNamed, proofs.Steps.begins, proofs.Steps.goes_on, proofs.Steps.ends, proofs.Steps.next_below}
+use Rattle.cargo_toml_resolve.proofs.Cited.{Among, FindsNamed, IsWanted, Leads, List, [], ap, arith, false, length, length-replicate, rules, subst, true, ℕ, ◌<◌, ◌∙◌}
+use Rattle.cargo_toml_resolve.proofs.Steps.{begins, goes_on, ends, next_below}
 use Rattle.cargo_toml_resolve.proofs.walk.passing.Goals as goal
 
 pub loop-next-init : goal.loop-next-init

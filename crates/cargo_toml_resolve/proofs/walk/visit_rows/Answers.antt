@@ -1,6 +1,5 @@
-use Rattle.std.proofs.Common.{arith, rules, false, subst, ◌∙◌, ap, get_or, [], ℕ, take_all}
-use Rattle.cargo_toml_graph.specs.Reach.{Among}
-use Rattle.cargo_toml_resolve.{specs.Numbers.IsWanted, specs.Numbers.FindsNamed, specs.Numbers.Leads, proofs.Steps.among_at, proofs.Steps.item_is, proofs.Steps.one_more_list, proofs.Steps.begin_list}
+use Rattle.cargo_toml_resolve.proofs.Cited.{Among, FindsNamed, IsWanted, Leads, [], ap, arith, false, get_or, rules, subst, take_all, ℕ, ◌∙◌}
+use Rattle.cargo_toml_resolve.proofs.Steps.{among_at, item_is, one_more_list, begin_list}
 use Rattle.cargo_toml_resolve.proofs.walk.visit_rows.Goals as goal
 
 pub loop-b-init : goal.loop-b-init

@@ -1,5 +1,4 @@
-use Rattle.{std.proofs.Common.take, std.proofs.Common.false, std.proofs.Common.ℕ, cargo_toml_graph.specs.Reach.Among}
-use Rattle.cargo_toml_resolve.specs.Numbers.{IsWanted, Leads, FindsNamed}
+use Rattle.cargo_toml_resolve.proofs.Cited.{Among, FindsNamed, IsWanted, Leads, false, take, ℕ}
 use Rattle.cargo_toml_resolve.proofs.walk.visit_rows.Given as goal
 
 abbrev pub invariant-loop-b : goal.invariant-loop-b

@@ -1,8 +1,5 @@
-use Rattle.std.proofs.Common.{[], ◌∷◌, Some, codes, refl, true}
-use Rattle.std.specs.List.Sorted.{IsStrictlySortedBy}
-use Rattle.toml.specs.Data.{Items, array, item, no_items, no_members, string}
-use Rattle.cargo_toml_package.specs.Dependencies.{DetailMeaning, no_detail}
-use Rattle.cargo_toml_write.{proofs.Rows.all_written, specs.WrittenDependencies.known_rows}
+use Rattle.cargo_toml_write.proofs.Cited.{DetailMeaning, IsStrictlySortedBy, Items, Some, [], array, codes, item, known_rows, no_detail, no_items, no_members, refl, string, true, ◌∷◌}
+use Rattle.cargo_toml_write.proofs.Rows.{all_written}
 use Rattle.cargo_toml_write.proofs.examples.a_dependency_is_written.Goals as goal
 
 pub returns : goal.returns

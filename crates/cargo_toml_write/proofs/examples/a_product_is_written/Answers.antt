@@ -1,6 +1,5 @@
-use Rattle.std.proofs.Common.{Some, refl}
-use Rattle.toml.specs.Data.{array, no_items, no_members}
-use Rattle.cargo_toml_write.{proofs.Rows.all_written, specs.Examples.untested_binary, specs.WrittenTables.product_rows}
+use Rattle.cargo_toml_write.proofs.Cited.{Some, array, no_items, no_members, product_rows, refl, untested_binary}
+use Rattle.cargo_toml_write.proofs.Rows.{all_written}
 use Rattle.cargo_toml_write.proofs.examples.a_product_is_written.Goals as goal
 
 pub returns : goal.returns

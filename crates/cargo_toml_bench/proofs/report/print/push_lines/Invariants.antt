@@ -1,6 +1,4 @@
-use Rattle.std.proofs.Common.{◌≡◌, ◌++◌, string_bytes, take}
-use Rattle.cargo_toml_bench.specs.Printing.{lines_with}
-use Rattle.cargo_toml_resolve.specs.Texts.{texts_now}
+use Rattle.cargo_toml_bench.proofs.Cited.{lines_with, string_bytes, take, texts_now, ◌++◌, ◌≡◌}
 use Rattle.cargo_toml_bench.proofs.report.print.push_lines.Given as goal
 
 abbrev pub invariant-loop-name : goal.invariant-loop-name

@@ -1,7 +1,4 @@
-use Rattle.std.proofs.Common.{ap, sym, subst, ◌∙◌}
-use Rattle.toml.specs.{View.view, declared.value.Value.Value}
-use Rattle.cargo_toml.specs.{Manifest.Manifest, Manifests.manifest_meaning}
-use Rattle.cargo_toml_bench.specs.{Printing.report_text, Reports.texts, Spelled.Spells}
+use Rattle.cargo_toml_bench.proofs.Cited.{Manifest, Spells, Value, ap, manifest_meaning, report_text, subst, sym, texts, view, ◌∙◌}
 use Rattle.cargo_toml_bench.proofs.report.print.report_of.Goals as goal
 
 pub returns-clause-text : goal.returns-clause-text

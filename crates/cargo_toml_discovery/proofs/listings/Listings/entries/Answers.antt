@@ -1,11 +1,5 @@
-use Rattle.std.proofs.Common.{◌≡◌, ◌++◌, ◌∙◌, sym, ap, List, [], map, subst, string_bytes, append-nil, Option, unwrap_or, String}
-use Rattle.std.specs.{Map.Iter.deref, declared.alloc.Global.Global}
-use Rattle.std.proofs.lemmas.Map.Iter.{rest_all}
-use Rattle.cargo_toml_discovery.{proofs.Unique.Sorted, proofs.Unique.ascend-set, specs.Found.Named}
-use Rattle.cargo_toml_discovery.proofs.Ascend.{ascend-named, none-ascend}
-use Rattle.cargo_toml_discovery.specs.Answers.{answers_of, names_in, named_in}
-use Rattle.cargo_toml_discovery.specs.{Names.Name, Walk.NamesAscend, Walk.all_named, Walk.named_of}
-use Rattle.cargo_toml_discovery.specs.declared.listings.Entry.{Entry}
+use Rattle.cargo_toml_discovery.proofs.Cited.{Entry, Global, List, Name, Named, NamesAscend, Option, String, [], all_named, answers_of, ap, append-nil, deref, map, named_in, named_of, names_in, rest_all, string_bytes, subst, sym, unwrap_or, ◌++◌, ◌∙◌, ◌≡◌}
+use Rattle.cargo_toml_discovery.proofs.{Unique.Sorted, Unique.ascend-set, Ascend.ascend-named, Ascend.none-ascend}
 use Rattle.cargo_toml_discovery.proofs.listings.Listings.entries.Goals as goal
 
 pub returns-clause-ascend : goal.returns-clause-ascend

@@ -1,6 +1,4 @@
-use Rattle.std.proofs.Common.{◌≡◌, map, ◌++◌, string_bytes}
-use Rattle.cargo_toml_discovery.specs.Answers.{answers_of, names_in, named_in}
-use Rattle.cargo_toml_discovery.specs.Walk.{named_of}
+use Rattle.cargo_toml_discovery.proofs.Cited.{answers_of, map, named_in, named_of, names_in, string_bytes, ◌++◌, ◌≡◌}
 use Rattle.cargo_toml_discovery.proofs.listings.Listings.entries.Given as goal
 
 abbrev pub invariant-loop-name : goal.invariant-loop-name

@@ -1,5 +1,4 @@
-use Rattle.std.proofs.Common.{◌≡◌, map, ◌++◌, string_bytes}
-use Rattle.cargo_toml_discovery.specs.Answers.{answers_of, names_in, below}
+use Rattle.cargo_toml_discovery.proofs.Cited.{answers_of, below, map, names_in, string_bytes, ◌++◌, ◌≡◌}
 use Rattle.cargo_toml_discovery.proofs.listings.Listings.folders_in.Given as goal
 
 abbrev pub invariant-loop-name : goal.invariant-loop-name

@@ -1,8 +1,6 @@
 -- A feature of a map whose features stand under their own keys is found under its key.
-use Rattle.std.proofs.Common.{◌≡◌, ◌<◌, ℕ, zero, suc, List, [], ◌∷◌, length, Some, is_some, IsSome, Bor, bytes_eq, slice_get, slice_index_or, sym, ap, ◌∙◌, inl, inr, arith}
-use Rattle.std.{proofs.lemmas.Map.Entries.hash_map_get_place, specs.Cmp.Lexicographic.on_texts_equal, specs.HashMap.HashMap, specs.HashMap.IsUnique, specs.Map.values_of}
-use Rattle.cargo_toml_graph.specs.Action.{Text}
-use Rattle.cargo_toml_features.{specs.declared.features.Feature.Feature, specs.Reached.IsHeldBy, specs.Reached.IsKeyed, specs.Views.value_at, proofs.Pending.key_of}
+use Rattle.cargo_toml_features.proofs.Cited.{Bor, Feature, HashMap, IsHeldBy, IsKeyed, IsSome, IsUnique, List, Some, Text, [], ap, arith, bytes_eq, hash_map_get_place, inl, inr, is_some, length, on_texts_equal, slice_get, slice_index_or, suc, sym, value_at, values_of, zero, ℕ, ◌<◌, ◌∙◌, ◌∷◌, ◌≡◌}
+use Rattle.cargo_toml_features.proofs.Pending.{key_of}
 use Rattle.cargo_toml_features.proofs.features.Feature.held.Goals as goal
 
 -- the value at an index stands there under some key

@@ -1,7 +1,4 @@
-use Rattle.std.proofs.Common.{List, Bor, not, bytes_eq, codes, sym, subst}
-use Rattle.std.{proofs.lemmas.List.Kept.IsStrictlySortedBy-filter, specs.List.Sorted.IsStrictlySortedBy, specs.Cmp.Lexicographic.slice_cmp, specs.Ordering.nat_cmp}
-use Rattle.cargo_toml_graph.specs.Action.{Text}
-use Rattle.cargo_toml_features.specs.NonDefault.{without_default}
+use Rattle.cargo_toml_features.proofs.Cited.{Bor, IsStrictlySortedBy, IsStrictlySortedBy-filter, List, Text, bytes_eq, codes, nat_cmp, not, slice_cmp, subst, sym, without_default}
 use Rattle.cargo_toml_features.proofs.features.Feature.non_default_enabled_by.Goals as goal
 
 pub returns-clause-in_order : goal.returns-clause-in_order

@@ -1,10 +1,5 @@
 -- The next name that an iterator without `default` yields.
-use Rattle.std.proofs.Common.{◌≡◌, Bool, true, false, cond, List, [], ◌∷◌, ◌++◌, map, filter, Option, Some, None, MatchOption, IfSome, Bor, refl, sym, ap, subst, ◌∙◌, arith, rules, tests, not, bytes_eq, codes}
-use Rattle.std.proofs.lemmas.{List.Elements.filter-append, Map.Iter.rest_so_far, Grind.common_steps}
-use Rattle.std.specs.{Option.option_copied, Fn.CalledAt, List.FoldsTo, Iterator.YieldsThen, Iterator.YieldsFirst, Map.Iter.TakesFirst, Map.Iter.deref}
-use denote.Param.Members.{Mut}
-use Rattle.cargo_toml_graph.specs.Action.{Text}
-use Rattle.cargo_toml_features.specs.NonDefault.{without_default}
+use Rattle.cargo_toml_features.proofs.Cited.{Bool, Bor, CalledAt, FoldsTo, IfSome, List, MatchOption, Mut, None, Option, Some, TakesFirst, Text, YieldsFirst, YieldsThen, [], ap, arith, bytes_eq, codes, common_steps, cond, deref, false, filter, filter-append, map, not, option_copied, refl, rest_so_far, rules, subst, sym, tests, true, without_default, ◌++◌, ◌∙◌, ◌∷◌, ◌≡◌}
 use Rattle.cargo_toml_features.proofs.questions.NonDefaultEnabledByIterator.next.Goals as goal
 
 module _ {X F : Type 0} (g : Mut F (Bor (Bor X) × Unit {0}) Bool) (test : X → Bool) (f : F) (pure : (x : Bor X) (b : Bool) (q : F) → CalledAt g f x b q → (q ≡ f) × (b ≡ test x.now)) where

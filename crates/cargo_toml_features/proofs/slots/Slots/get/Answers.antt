@@ -1,5 +1,4 @@
-use Rattle.std.proofs.Common.{rules}
-use Rattle.std.proofs.lemmas.List.{length-map}
+use Rattle.cargo_toml_features.proofs.Cited.{length-map, rules}
 use Rattle.cargo_toml_features.proofs.Placed.{held_at, held_missing}
 use Rattle.cargo_toml_features.proofs.slots.Slots.get.Goals as goal
 

@@ -1,5 +1,4 @@
-use Rattle.std.{proofs.Common.◌∙◌, proofs.Common.sym, specs.Option.option_copied}
-use Rattle.cargo_toml_manifest.specs.Told.{heard}
+use Rattle.cargo_toml_manifest.proofs.Cited.{heard, option_copied, sym, ◌∙◌}
 use Rattle.cargo_toml_manifest.proofs.Rooted.{found_there, heard_found, lost_at, lost_unread, root_as_told, unread_as_told}
 use Rattle.cargo_toml_manifest.proofs.afs.AbstractFilesystem.parse_root_workspace.Goals as goal
 

@@ -1,9 +1,4 @@
-use Rattle.std.proofs.Common.{◌≡◌, false, inl, sym, subst}
-use Rattle.std.{specs.Prelude.IfSome, proofs.lemmas.Result.IfErr-weaker, proofs.lemmas.Result.IfOk-weaker}
-use Rattle.toml.specs.{View.view, declared.value.Value.Value}
-use Rattle.cargo_toml_package.specs.Inheriting.{IsFilled}
-use Rattle.cargo_toml_manifest.specs.Manifests.{held, manifest_meaning, manifest_reads}
-use Rattle.cargo_toml_manifest.specs.{Inheriting.needs, declared.manifest.Manifest.Manifest, RealFiles.IsReadAndCompleted, Texts.any_tree}
+use Rattle.cargo_toml_manifest.proofs.Cited.{IfErr-weaker, IfOk-weaker, IfSome, IsFilled, IsReadAndCompleted, Manifest, Value, any_tree, false, held, inl, manifest_meaning, manifest_reads, needs, subst, sym, view, ◌≡◌}
 use Rattle.cargo_toml_manifest.proofs.held.HeldManifest.from_path.Goals as goal
 
 pub returns-in-Ok-clause-given : goal.returns-in-Ok-clause-given

@@ -1,11 +1,5 @@
-use Rattle.std.proofs.{Common.refl, Common.sym, Common.subst, lemmas.Result.err_from_is_err_and}
-use Rattle.std.specs.Prelude.{option_map}
-use Rattle.cargo_toml_discovery.specs.Answers.{filled}
-use Rattle.cargo_toml_manifest.specs.Choosing.{RootsTold, handed_of, roots_of}
-use Rattle.cargo_toml_manifest.specs.{Completing.GivenBy, Manifests.ManifestMeaning, Manifests.held}
-use Rattle.cargo_toml_manifest.proofs.Answering.{met_given, met_refused, refused_by}
-use Rattle.cargo_toml_manifest.proofs.Lasting.{complete_done, known, complete_lasts}
-use Rattle.cargo_toml_manifest.proofs.Meeting.{given_again, put_in}
+use Rattle.cargo_toml_manifest.proofs.Cited.{GivenBy, ManifestMeaning, RootsTold, err_from_is_err_and, filled, handed_of, held, option_map, refl, roots_of, subst, sym}
+use Rattle.cargo_toml_manifest.proofs.{Answering.met_given, Answering.met_refused, Answering.refused_by, Lasting.complete_done, Lasting.known, Lasting.complete_lasts, Meeting.given_again, Meeting.put_in}
 use Rattle.cargo_toml_manifest.proofs.manifest.Manifest.complete_from_abstract_filesystem.Goals as goal
 
 pub returns-in_err-parts-clause-outcome : goal.returns-in_err-parts-clause-outcome

@@ -1,6 +1,4 @@
-use Rattle.std.proofs.Common.{inl, inr}
-use Rattle.std.proofs.lemmas.Result.{err_from_is_err_and, IfErr-weaker, IfOk-weaker}
-use Rattle.cargo_toml_discovery.proofs.Faults.{from_input}
+use Rattle.cargo_toml_manifest.proofs.Cited.{IfErr-weaker, IfOk-weaker, err_from_is_err_and, from_input, inl, inr}
 use Rattle.cargo_toml_manifest.proofs.manifest.Manifest.from_path_with_metadata.Goals as goal
 
 pub returns-in_err-text-clause-refused : goal.returns-in_err-text-clause-refused

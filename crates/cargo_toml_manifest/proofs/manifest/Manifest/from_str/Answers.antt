@@ -1,6 +1,5 @@
-use Rattle.toml.specs.View.{view}
-use Rattle.cargo_toml_manifest.specs.Manifests.{manifest_meaning, manifest_reads, ManifestRefuses}
-use Rattle.cargo_toml_manifest.{specs.Texts.AnyRefuses, specs.Texts.any_tree, proofs.Trees.of_text}
+use Rattle.cargo_toml_manifest.proofs.Cited.{AnyRefuses, ManifestRefuses, any_tree, manifest_meaning, manifest_reads, view}
+use Rattle.cargo_toml_manifest.proofs.Trees.{of_text}
 use Rattle.cargo_toml_manifest.proofs.manifest.Manifest.from_str.Goals as goal
 
 pub returns : goal.returns

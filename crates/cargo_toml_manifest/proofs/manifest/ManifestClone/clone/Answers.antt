@@ -1,5 +1,4 @@
-use Rattle.std.proofs.Common.{arith}
-use Rattle.cargo_toml_parts.proofs.CopiedFields.{copied, ends, steady, surely}
+use Rattle.cargo_toml_manifest.proofs.Cited.{arith, copied, ends, steady, surely}
 use Rattle.cargo_toml_manifest.proofs.manifest.ManifestClone.clone.Goals as goal
 
 pub returns : goal.returns

@@ -1,9 +1,4 @@
-use Rattle.std.proofs.Common.{ap, codes, refl}
-use Rattle.toml.specs.View.{table_view}
-use Rattle.cargo_toml_parts.specs.Faults.{IsShape, wrong_shape}
-use Rattle.cargo_toml_parts.proofs.Chain.{ends, shape_map}
-use Rattle.cargo_toml_parts.proofs.Places.{begins, ends_told, held_in, told}
-use Rattle.cargo_toml_package.specs.Targets.{target_of}
+use Rattle.cargo_toml_package.proofs.Cited.{IsShape, ap, begins, codes, ends, ends_told, held_in, refl, shape_map, table_view, target_of, told, wrong_shape}
 use Rattle.cargo_toml_package.proofs.target.TargetRead.read_owned.Goals as goal
 
 pub returns-clause-reads : goal.returns-clause-reads

@@ -1,6 +1,4 @@
-use Rattle.std.proofs.Common.{rules}
-use Rattle.cargo_toml_package.specs.Dependencies.{detail_meaning, inherited_meaning}
-use Rattle.cargo_toml_package.specs.InheritedDependencies.{IsShort}
+use Rattle.cargo_toml_package.proofs.Cited.{IsShort, detail_meaning, inherited_meaning, rules}
 use Rattle.cargo_toml_package.proofs.workspace_dependencies.entry.detail_with_entry.Goals as goal
 
 pub returns-then-is_short : goal.returns-then-is_short

@@ -1,7 +1,4 @@
-use Rattle.std.proofs.Common.{rules, drop, refl}
-use Rattle.std.specs.Vec.Iter.{into_iter_items}
-use Rattle.cargo_toml_package.specs.Replacing.{next_target, replaced_targets}
-use Rattle.cargo_toml_package.specs.Targets.{target_meaning}
+use Rattle.cargo_toml_package.proofs.Cited.{drop, into_iter_items, next_target, refl, replaced_targets, rules, target_meaning}
 use Rattle.cargo_toml_package.proofs.Replaced.{replaced-by}
 use Rattle.cargo_toml_package.proofs.workspace_dependencies.targets.replace_targets.Goals as goal
 

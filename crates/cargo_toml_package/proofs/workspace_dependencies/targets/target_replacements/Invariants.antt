@@ -1,8 +1,4 @@
-use Rattle.std.proofs.Common.{map, option_map, string_bytes}
-use Rattle.std.specs.Option.{option_copied}
-use Rattle.cargo_toml_parts.specs.Reads.{map_meaning}
-use Rattle.cargo_toml_package.specs.Dependencies.{dependency_meaning}
-use Rattle.cargo_toml_package.specs.Targets.{target_meaning}
+use Rattle.cargo_toml_package.proofs.Cited.{dependency_meaning, map, map_meaning, option_copied, option_map, string_bytes, target_meaning}
 use Rattle.cargo_toml_package.proofs.Targets.{IsMade}
 use Rattle.cargo_toml_package.proofs.workspace_dependencies.targets.target_replacements.Given as goal
 

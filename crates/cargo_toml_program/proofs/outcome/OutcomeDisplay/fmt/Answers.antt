@@ -1,5 +1,4 @@
-use Rattle.std.proofs.{Common.◌++◌, Common.codes, Common.refl, Output.has_written_append}
-use Rattle.cargo_toml_program.specs.Outcomes.{line}
+use Rattle.cargo_toml_program.proofs.Cited.{codes, has_written_append, line, refl, ◌++◌}
 use Rattle.cargo_toml_program.proofs.outcome.OutcomeDisplay.fmt.Goals as goal
 
 pub returns-in_ok-fmt-in-Refused-clause-words : goal.returns-in_ok-fmt-in-Refused-clause-words

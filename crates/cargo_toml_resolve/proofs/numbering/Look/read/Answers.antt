@@ -1,7 +1,4 @@
-use Rattle.std.proofs.Common.{◌≡◌, ◌<◌, ◌↔◌, IsTrue, ℕ, Bor, length, take, refl, sym, subst, [], arith}
-use Rattle.{std.proofs.lemmas.Result.on_ok_weaker, std.proofs.lemmas.List.length-take-le, std.proofs.lemmas.List.take-map, cargo_toml_resolve.specs.Numbering.Gains, cargo_toml_resolve.specs.Texts.texts_now}
-use Rattle.cargo_toml_graph.specs.{Action.Text, Ascending.Ascend, Reach.Among, Graph.IsPlain}
-use Rattle.cargo_toml_features.specs.{Places.nth_text, Views.action_at, Views.set_has}
+use Rattle.cargo_toml_resolve.proofs.Cited.{Among, Ascend, Bor, Gains, IsPlain, IsTrue, Text, [], action_at, arith, length, length-take-le, nth_text, on_ok_weaker, refl, set_has, subst, sym, take, take-map, texts_now, ℕ, ◌<◌, ◌↔◌, ◌≡◌}
 use Rattle.cargo_toml_resolve.proofs.NumberRows.{both_gained, gained_alike, named_gained, fits_now, front_still, front_text, nth_still, texts_longer}
 use Rattle.cargo_toml_resolve.proofs.numbering.Look.read.Goals as goal
 

@@ -1,6 +1,5 @@
-use Rattle.std.specs.{List.Sorted.IsStrictlySortedBy, String.string_cmp}
-use Rattle.cargo_toml_write.proofs.Writers.{◌≡◌, Ascend, Gathers, ap, ascend-bytes, detail_of, err_from_is_err_and, feature_way, features_meaning, gather_end, gather_err, gather_start, gather_step, keys_of, makes_table, map, map_meaning}
-use Rattle.cargo_toml_write.proofs.Writers.{pairs_ascend, rules, same_names, string_bytes, subst, told_features, with_details}
+use Rattle.cargo_toml_write.proofs.Cited.{IsStrictlySortedBy, string_cmp}
+use Rattle.cargo_toml_write.proofs.Writers.{◌≡◌, Ascend, Gathers, ap, ascend-bytes, detail_of, err_from_is_err_and, feature_way, features_meaning, gather_end, gather_err, gather_start, gather_step, keys_of, makes_table, map, map_meaning, pairs_ascend, rules, same_names, string_bytes, subst, told_features, with_details}
 use Rattle.cargo_toml_write.proofs.write.dependency.table_of.Goals as goal
 
 pub loop-name-init : goal.loop-name-init

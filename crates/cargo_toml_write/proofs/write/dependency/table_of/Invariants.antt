@@ -1,6 +1,4 @@
-use Rattle.cargo_toml_package.specs.{Details.detail_of, Features.features_meaning}
-use Rattle.cargo_toml_parts.specs.Reads.{map_meaning}
-use Rattle.cargo_toml_write.specs.WrittenDependencies.{feature_way, told_features}
+use Rattle.cargo_toml_write.proofs.Cited.{detail_of, feature_way, features_meaning, map_meaning, told_features}
 use Rattle.cargo_toml_write.proofs.Rows.{Gathers, with_details}
 use Rattle.cargo_toml_write.proofs.write.dependency.table_of.Given as goal
 

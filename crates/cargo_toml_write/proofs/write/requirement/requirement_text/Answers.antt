@@ -1,8 +1,4 @@
-use Rattle.std.proofs.Common.{◌++◌, ◌∙◌, ap, codes, map, string_bytes, sym}
-use Rattle.std.proofs.{lemmas.List.take_all, lemmas.List.Folds.flat_map-map}
-use Rattle.std.specs.List.{flat_map}
-use Rattle.semver.specs.{Identifiers.comparator_view, Parse.Held, declared.Comparator.Comparator}
-use Rattle.cargo_toml_write.specs.Requirements.{comparator_text, requirement_text}
+use Rattle.cargo_toml_write.proofs.Cited.{Comparator, Held, ap, codes, comparator_text, comparator_view, flat_map, flat_map-map, map, requirement_text, string_bytes, sym, take_all, ◌++◌, ◌∙◌}
 use Rattle.cargo_toml_write.proofs.write.requirement.requirement_text.Goals as goal
 
 pub returns : goal.returns

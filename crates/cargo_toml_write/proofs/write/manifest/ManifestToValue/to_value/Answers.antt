@@ -1,5 +1,4 @@
-use Rattle.cargo_toml_manifest.specs.Manifests.{manifest_meaning, manifest_reads}
-use Rattle.cargo_toml_write.specs.WrittenManifests.{all_features, manifest_rows, manifest_way}
+use Rattle.cargo_toml_write.proofs.Cited.{all_features, manifest_meaning, manifest_reads, manifest_rows, manifest_way}
 use Rattle.cargo_toml_write.proofs.Writers.{◌then◌, alone, done, ends, features_in, manifest_again, manifest_features, reread, tree_again}
 use Rattle.cargo_toml_write.proofs.write.manifest.ManifestToValue.to_value.Goals as goal
 

@@ -1,5 +1,4 @@
-use Rattle.std.proofs.Common.{arith}
-use Rattle.toml.proofs.Views.{view-Boolean, view-String}
+use Rattle.cargo_toml_write.proofs.Cited.{arith, view-Boolean, view-String}
 use Rattle.cargo_toml_write.proofs.write.plain.OptionalFileToValue.to_value.Goals as goal
 
 pub returns-in-Flag-clause-written : goal.returns-in-Flag-clause-written

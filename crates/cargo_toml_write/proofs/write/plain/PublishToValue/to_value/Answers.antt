@@ -1,5 +1,4 @@
-use Rattle.cargo_toml_parts.specs.Settings.{among, publish_of}
-use Rattle.toml.proofs.Views.{view-Boolean}
+use Rattle.cargo_toml_write.proofs.Cited.{among, publish_of, view-Boolean}
 use Rattle.cargo_toml_write.proofs.Writers.{alone, publish_again, refl, texts_way, tree_again}
 use Rattle.cargo_toml_write.proofs.write.plain.PublishToValue.to_value.Goals as goal
 

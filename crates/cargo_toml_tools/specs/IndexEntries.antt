@@ -9,14 +9,13 @@ use Rattle.serde_json.specs.Data.{Data, Members, array, boolean, null, put, stri
 use Rattle.serde_json.specs.Data.{object, number, unsigned}
 use Rattle.serde_json.specs.View.{items_of}
 use Rattle.toml.specs.Data.{Members as TomlMembers, as_bool}
-use Rattle.cargo_toml.specs.Action.{Text, Item, item_of}
 use Rattle.cargo_toml.specs.Dependencies.{DependencyMeaning, simple, inherited, detailed}
 use Rattle.cargo_toml.specs.Dependencies.{is_optional, package_of}
 use Rattle.cargo_toml.specs.Kind.TheVariants.{Build, Dev, Normal}
-use Rattle.cargo_toml.specs.{InheritableValues.value_of, Packages.PackageMeaning, Kind.Kind}
-use Rattle.cargo_toml.specs.{Requirements.requirement_text, Action.Item.Name, Action.Item.On}
-use Rattle.cargo_toml.specs.{InheritedDependencies.Entries, InheritedDependencies.entry_at}
-use Rattle.cargo_toml.specs.{Manifests.ManifestMeaning}
+use Rattle.cargo_toml.specs.InheritedDependencies.{Entries, entry_at}
+use Rattle.cargo_toml.specs.{Action.Text, Action.Item, Action.item_of, InheritableValues.value_of}
+use Rattle.cargo_toml.specs.{Packages.PackageMeaning, Kind.Kind, Requirements.requirement_text}
+use Rattle.cargo_toml.specs.{Action.Item.Name, Action.Item.On, Manifests.ManifestMeaning}
 use Rattle.cargo_toml_lint.specs.Findings.{asked_of}
 use Rattle.cargo_toml_tools.specs.Indexed.{DependencyTable, Wanted, elsewhere, lacks_version}
 use Rattle.cargo_toml_tools.specs.Indexed.{source_of, written_flag, dependency_tables, written}

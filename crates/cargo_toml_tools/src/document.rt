@@ -46,21 +46,17 @@ fn push_table(page: &mut String, rows: &[Row<'_>], is_listed: bool) -> Result<()
     if !is_listed {
         page.push_str("\n## Optional dependencies\n")?;
     }
-    page.push_str(table_head(has_texts))?;
+    page.push_str(if has_texts {
+        "\n| Feature | Text | Default | Features | Dependencies |\n|---|---|---|---|---|\n"
+    } else {
+        "\n| Feature | Default | Features | Dependencies |\n|---|---|---|---|\n"
+    })?;
     for row in rows {
         if row.is_listed == is_listed {
             push_row(page, row, has_texts)?;
         }
     }
     Ok(())
-}
-
-fn table_head(has_texts: bool) -> &'static str {
-    if has_texts {
-        "\n| Feature | Text | Default | Features | Dependencies |\n|---|---|---|---|---|\n"
-    } else {
-        "\n| Feature | Default | Features | Dependencies |\n|---|---|---|---|\n"
-    }
 }
 
 fn push_row(page: &mut String, row: &Row<'_>, has_texts: bool) -> Result<(), AllocError> {

@@ -1,6 +1,6 @@
 //! The line of JSON that a registry's index has of a crate, by the rules of Cargo's.
 ghost use Rattle.std.specs.Prelude.{◌≡◌, ◌⊎◌, IfErr, IfOk, None, OnOk, Some, map, option_and_then};
-ghost use Rattle.std.specs.Prelude.{option_map, string_bytes};
+ghost use Rattle.std.specs.Prelude.{IsErrAnd, option_map, string_bytes};
 ghost use Rattle.std.specs.Option.{option_copied};
 ghost use Rattle.semver.specs.Identifiers.{parts_of, parts_text};
 ghost use Rattle.serde_json.specs.View.{members_view, view};
@@ -111,13 +111,13 @@ pub fn index_entry<M>(
         ≡ index_data (wanted_of options.entry) text.now (held manifest.now)) }
 {
     let Some(package) = &manifest.package else {
-        return Err(error_of(alloc, (Fault::NoPackage, "")));
+        return refuse(alloc, (Fault::NoPackage, ""));
     };
     let document = document_of(alloc, text)?;
     let sections = sections(alloc, manifest, &document)?;
     let sections = sections.as_slice();
     if let Some(refusal) = package_refusal(package, &document, sections, findings, options) {
-        return Err(error_of(alloc, refusal));
+        return refuse(alloc, refusal);
     }
     Ok(line_of(alloc, package, sections, &manifest.features, options)?)
 }
@@ -133,14 +133,11 @@ fn document_of(alloc: Global, text: &str) -> Result<Table, AllocError>
     }
 }
 
-fn error_of(alloc: Global, refusal: Refusal<'_>) -> IndexError
-    ensures { (result ≡ Memory) ⊎ (told result ≡ Some (refused refusal.entry)) }
+fn refuse(alloc: Global, refusal: Refusal<'_>) -> Result<Value, IndexError>
+    ensures { IsErrAnd result (λ e. (e ≡ Memory) ⊎ (told e ≡ Some (refused refusal.entry))) }
 {
     let (fault, subject) = refusal;
-    match String::from_str(alloc, subject) {
-        Ok(name) => IndexError::Refused(fault, name),
-        Err(_) => IndexError::Memory,
-    }
+    Err(IndexError::Refused(fault, String::from_str(alloc, subject)?))
 }
 
 /// The line of a crate that an index takes.

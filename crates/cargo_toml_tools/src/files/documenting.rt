@@ -1,5 +1,5 @@
 //! What is documented of features.
-ghost use Rattle.std.specs.Prelude.{◌≡◌, true, IfErr, IfOk, OnOk};
+ghost use Rattle.std.specs.Prelude.{true, IfErr, IfOk, OnOk};
 ghost use Rattle.cargo_toml.specs.{Limits.MAX_ITEMS, Manifests.held, Parsed.IsParsed};
 ghost use Rattle.cargo_toml.specs.{Reached.IsKeyed, Views.answer_of};
 ghost use Rattle.cargo_toml_tools.specs.FromFiles.{IsDocumented, IsOfInput, IsUndocumented};
@@ -41,26 +41,13 @@ pub fn document_text<R: RandomSource + AllocGlobal>(
     ensures { IfErr result (IsUndocumented text.now) }
 {
     if dot {
-        return graph_of(rt, text);
+        let held = HeldManifest::from_str(rt.alloc(), text)?;
+        let resolved = resolved(rt, &*held.manifest)?;
+        return Ok(graph(rt.alloc(), &*held.manifest, &resolved)?);
     }
     let mut page = String::new(rt.alloc());
     document(rt, text, &mut page)?;
     Ok(page)
-}
-
-/// The graph of the features of the manifest in this text.
-fn graph_of<R: RandomSource + AllocGlobal>(rt: &R, text: &str) -> Result<String, Error>
-    ensures { IfErr result (IsUndocumented text.now) }
-{
-    let held = HeldManifest::from_str(rt.alloc(), text)?;
-    let resolved = resolved(rt, &*held.manifest)?;
-    Ok(graph(rt.alloc(), &*held.manifest, &resolved)?)
-}
-
-fn keep_every(_name: &str) -> bool
-    ensures { result ≡ true }
-{
-    true
 }
 
 /// The features of a manifest, hidden ones like others.
@@ -74,7 +61,7 @@ pub fn resolved<'m, R: RandomSource + AllocGlobal>(
     ensures refused { IfErr result IsOfInput }
 {
     let state = RandomState::new(rt)?;
-    let keep = keep_every;
+    let keep = |_name: &str| true;
     let resolver = Resolver::new_with_hasher_and_filter(state, &keep);
     resolver.parse(rt.alloc(), manifest)
 }

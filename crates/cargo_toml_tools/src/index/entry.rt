@@ -1,11 +1,11 @@
 //! The entries that an index has of a crate's dependencies.
-ghost use Rattle.std.specs.Prelude.{◌≡◌, ◌++◌, [], IfOk, OnOk, map, string_bytes};
+ghost use Rattle.std.specs.Prelude.{◌≡◌, [], IfOk, OnOk, map, string_bytes};
 ghost use Rattle.std.specs.List.{flat_map};
 ghost use Rattle.serde_json.specs.View.{members_view, view};
 ghost use Rattle.cargo_toml.specs.Dependencies.{dependency_meaning};
-ghost use Rattle.cargo_toml_tools.specs.IndexEntries.{has_default, index_entries, index_rows};
-ghost use Rattle.cargo_toml_tools.specs.IndexEntries.{kind_text, req_text, required_version};
-ghost use Rattle.cargo_toml_tools.specs.IndexEntries.{table_entries, wanted_rows, with_rows};
+ghost use Rattle.cargo_toml_tools.specs.IndexEntries.{has_default, index_rows, kind_text, req_text};
+ghost use Rattle.cargo_toml_tools.specs.IndexEntries.{required_version, table_entries, wanted_rows};
+ghost use Rattle.cargo_toml_tools.specs.IndexEntries.{with_rows};
 ghost use Rattle.cargo_toml_tools.specs.Sections.{table_of, wanted_of};
 
 use super::Options;
@@ -21,7 +21,8 @@ use serde_json::{Map, Value, push, put};
 use std::alloc::{AllocError, Global};
 use toml::Value as Written;
 
-/// The entries of all dependencies.
+/// The entries of all dependencies. One with a path or a repository and no version has none: it is
+/// for tests.
 #[tactic(auto, using(crate::proofs::Grown::nested))]
 pub(super) fn entries(
     alloc: Global,
@@ -34,37 +35,14 @@ pub(super) fn entries(
     let mut entries = Vec::new(alloc);
     for section in sections {
         for (key, dependency) in section.entries {
-            push_dependency(
-                alloc,
-                &mut entries,
-                options,
-                section,
-                (key.as_str(), dependency),
-            )?;
+            if lacks_version(dependency) {
+                continue;
+            }
+            let entry = entry(alloc, options, section, key.as_str(), dependency)?;
+            push(&mut entries, Value::from(entry))?;
         }
     }
     Ok(entries)
-}
-
-/// Adds the entry of a dependency, behind its key. One with a path or a repository and no version
-/// has none: it is for tests.
-fn push_dependency(
-    alloc: Global,
-    entries: &mut Vec<Value>,
-    options: Options<'_>,
-    section: &Section<'_>,
-    dependency: (&str, &Dependency),
-) -> Result<(), AllocError>
-    ensures { OnOk result (map view entries.new.items ≡ map view entries.old.items
-        ++ index_entries (wanted_of options.entry) (table_of section.now)
-        (dependency.entry.0.now, dependency_meaning dependency.entry.1.now)) }
-{
-    let (key, dependency) = dependency;
-    if lacks_version(dependency) {
-        return Ok(());
-    }
-    let entry = entry(alloc, options, section, key, dependency)?;
-    push(entries, Value::from(entry))
 }
 
 /// The entry of a dependency.

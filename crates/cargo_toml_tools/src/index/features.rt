@@ -1,13 +1,13 @@
 //! What the line of an index has of a crate's features.
-ghost use Rattle.std.specs.Prelude.{◌≡◌, ◌++◌, ◌∷◌, [], IfOk, OnOk, false, filter, map, true};
-ghost use Rattle.std.{specs.Prelude.string_bytes, specs.List.flat_map, specs.List.list_any};
+ghost use Rattle.std.specs.Prelude.{◌≡◌, [], IfOk, OnOk, false, filter, map, true, string_bytes};
+ghost use Rattle.std.specs.List.{flat_map, list_any};
 ghost use Rattle.serde_json.specs.View.{members_view};
 ghost use Rattle.cargo_toml.specs.Action.{item_of};
 ghost use Rattle.cargo_toml_package.specs.Replacing.{entries_meaning};
 ghost use Rattle.cargo_toml_tools.specs.IndexEntries.{feature_rows, is_extended, is_kept, is_newer};
 ghost use Rattle.cargo_toml_tools.specs.IndexEntries.{keeps, kept_lists, list_rows, stays};
-ghost use Rattle.cargo_toml_tools.specs.{IndexEntries.with_rows, Sections.lists_meaning};
-ghost use Rattle.cargo_toml_tools.specs.Sections.{table_of};
+ghost use Rattle.cargo_toml_tools.specs.IndexEntries.{with_rows};
+ghost use Rattle.cargo_toml_tools.specs.Sections.{lists_meaning, table_of};
 
 use super::refusals::lacks_version;
 use super::sections::Section;
@@ -100,25 +100,11 @@ fn kept<'m>(
     ensures { IfOk result (λ v. map (λ t. t.now) v.items
         ≡ filter (is_kept (map table_of sections.now)) (map string_bytes texts.now)) }
 {
-    let mut all = Vec::new(alloc);
-    for text in texts {
-        push_kept(&mut all, sections, text.as_str())?;
-    }
-    Ok(all)
-}
-
-fn push_kept<'m>(
-    all: &mut Vec<&'m str>,
-    sections: &[Section<'_>],
-    text: &'m str,
-) -> Result<(), AllocError>
-    ensures { OnOk result (map (λ t. t.now) all.new.items ≡ map (λ t. t.now) all.old.items
-        ++ filter (is_kept (map table_of sections.now)) (text.now ∷ [])) }
-{
-    if is_kept(sections, text) {
-        all.push(text)?;
-    }
-    Ok(())
+    texts
+        .iter()
+        .map(|text| text.as_str())
+        .filter(|text| is_kept(sections, *text))
+        .collect(alloc)
 }
 
 /// Whether a text of a list stays.
@@ -126,33 +112,21 @@ fn is_kept(sections: &[Section<'_>], text: &str) -> bool
     ensures { result ≡ is_kept (map table_of sections.now) text.now }
 {
     let action = read_action(text);
-    if action.acts() {
-        stays(sections, action.target)
-    } else {
-        true
-    }
+    !action.acts() || stays(sections, action.target)
 }
 
 /// Whether the line has a dependency of this key.
 fn stays(sections: &[Section<'_>], key: &str) -> bool
     ensures { result ≡ stays (map table_of sections.now) key.now }
 {
-    for section in sections {
-        if keeps(section.entries, key) {
-            return true;
-        }
-    }
-    false
+    sections.iter().any(|section| keeps(section.entries, key))
 }
 
 /// Whether a table has a dependency of this key that isn't left out.
 fn keeps(table: &DepsSet, key: &str) -> bool
     ensures { result ≡ keeps (entries_meaning table.now) key.now }
 {
-    match table.get(key) {
-        Some(dependency) => !lacks_version(dependency),
-        None => false,
-    }
+    table.get(key).is_some_and(|dependency| !lacks_version(dependency))
 }
 
 /// Whether some text of a list is of the second version of the index.
@@ -166,9 +140,5 @@ fn is_newer(text: &str) -> bool
     ensures { result ≡ is_newer (item_of text.now) }
 {
     let action = read_action(text);
-    if action.acts() {
-        action.is_dep_only | action.is_conditional
-    } else {
-        false
-    }
+    action.acts() && (action.is_dep_only || action.is_conditional)
 }

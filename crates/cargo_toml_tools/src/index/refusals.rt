@@ -3,13 +3,12 @@ ghost use Rattle.std.specs.Prelude.{◌≡◌, map, option_map, string_bytes};
 ghost use Rattle.std.specs.List.{list_any};
 ghost use Rattle.semver.specs.Identifiers.{parts_of};
 ghost use Rattle.toml.specs.View.{table_view, view};
-ghost use Rattle.cargo_toml.specs.{Dependencies.dependency_meaning, Inheritable.TheVariants.Set};
-ghost use Rattle.cargo_toml.specs.{InheritedDependencies.is_left, InheritedPackages.is_left_there};
-ghost use Rattle.cargo_toml.specs.{Inherits.inheritable_map, Manifests.is_zero};
-ghost use Rattle.cargo_toml.specs.{Packages.held_package, Settings.publish_meaning};
-ghost use Rattle.cargo_toml_tools.specs.Indexed.{choice_refusal, entry_refusal, finding_refusal};
-ghost use Rattle.cargo_toml_tools.specs.Indexed.{first_refusal, has_other_flag, in_package};
-ghost use Rattle.cargo_toml_tools.specs.Indexed.{is_error, is_named, is_open, is_published};
+ghost use Rattle.cargo_toml.specs.Dependencies.{dependency_meaning};
+ghost use Rattle.cargo_toml.specs.{Inheritable.TheVariants.Set, Inherits.inheritable_map};
+ghost use Rattle.cargo_toml.specs.{Manifests.is_zero, Packages.held_package};
+ghost use Rattle.cargo_toml.specs.{Settings.publish_meaning};
+ghost use Rattle.cargo_toml_tools.specs.Indexed.{entry_refusal, finding_refusal, first_refusal};
+ghost use Rattle.cargo_toml_tools.specs.Indexed.{in_package, is_named, is_open};
 ghost use Rattle.cargo_toml_tools.specs.Indexed.{keeps_other_flag, lacks_version, package_refusal};
 ghost use Rattle.cargo_toml_tools.specs.Indexed.{publish_refusal, table_refusal, version_refusal};
 ghost use Rattle.cargo_toml_tools.specs.Sections.{names_of, refused, table_of, wanted_of};
@@ -63,32 +62,16 @@ pub(super) fn package_refusal<'a, M>(
         findings.now (table_view document.now) (map table_of sections.now)
         (held_package «package».now) }
 {
-    if let Some(refusal) = version_refusal(&package.version, document) {
-        return Some(refusal);
-    }
-    if let Some(refusal) = tables_refusal(options.names, sections) {
-        return Some(refusal);
-    }
-    if is_left_there(&package.rust_version) {
-        return Some((Fault::Incomplete, "rust-version"));
-    }
-    choice_refusal(package, document, findings, options)
-}
-
-/// The refusal of what a caller may want all the same.
-fn choice_refusal<'a, M>(
-    package: &'a Package<M>,
-    document: &Table,
-    findings: &'a [Finding<'a>],
-    options: Options<'a>,
-) -> Option<Refusal<'a>>
-    ensures { option_map refused result ≡ choice_refusal (wanted_of options.entry)
-        findings.now (table_view document.now) (held_package «package».now) }
-{
+    let is_left = matches!(package.rust_version, Some(Inheritable::Inherited));
+    let refusal = version_refusal(&package.version, document)
+        .or(tables_refusal(options.names, sections))
+        .or(is_left.then_some((Fault::Incomplete, "rust-version")));
     if options.force {
-        return None;
+        return refusal;
     }
-    publish_refusal(options, document, &package.publish).or(features_refusal(findings))
+    refusal
+        .or(publish_refusal(options, document, &package.publish))
+        .or(features_refusal(findings))
 }
 
 /// A manifest without a version reads as of version 0.0.0.
@@ -119,13 +102,6 @@ fn in_package<'a>(document: &'a Table, key: &str) -> Option<&'a Value>
     ensures { option_map (λ v. view v.now) result ≡ in_package key.now (table_view document.now) }
 {
     member(table_in(document, "package")?, key)
-}
-
-/// What a package may leave to the workspace.
-fn is_left_there(text: &Option<Inheritable<String>>) -> bool
-    ensures { result ≡ is_left_there (option_map (inheritable_map string_bytes) text.now) }
-{
-    matches!(text, Some(Inheritable::Inherited))
 }
 
 /// The first refusal of these tables.
@@ -167,9 +143,9 @@ fn entry_refusal<'a>(
         ≡ entry_refusal (names_of names.now) (table_of section.now)
         (key.now, dependency_meaning dependency.now) }
 {
-    if is_left(dependency) {
+    if matches!(dependency, Dependency::Inherited(_)) {
         Some((Fault::Incomplete, key))
-    } else if has_other_flag(section, key, dependency) {
+    } else if section.flag(key, "default_features").is_some() || keeps_other_flag(dependency) {
         Some((Fault::OtherFlag, key))
     } else if lacks_version(dependency) {
         // a dev-dependency is left out
@@ -183,21 +159,7 @@ fn entry_refusal<'a>(
     }
 }
 
-/// Whether a dependency is left to the workspace.
-fn is_left(dependency: &Dependency) -> bool
-    ensures { result ≡ is_left (dependency_meaning dependency.now) }
-{
-    matches!(dependency, Dependency::Inherited(_))
-}
-
-/// Whether the entry of a dependency has `default_features`, or what it inherits has it.
-fn has_other_flag(section: &Section<'_>, key: &str, dependency: &Dependency) -> bool
-    ensures { result ≡ has_other_flag (table_of section.now).written
-        (key.now, dependency_meaning dependency.now) }
-{
-    section.flag(key, "default_features").is_some() || keeps_other_flag(dependency)
-}
-
+/// Whether what a dependency inherits has `default_features`.
 fn keeps_other_flag(dependency: &Dependency) -> bool
     ensures { result ≡ keeps_other_flag (dependency_meaning dependency.now) }
 {
@@ -231,18 +193,11 @@ fn publish_refusal(
     let Inheritable::Set(publish) = publish else {
         return Some((Fault::Incomplete, "publish"));
     };
-    let is_published = is_published(options, document, publish);
-    (!is_published).then_some((Fault::NotPublished, ""))
-}
-
-fn is_published(options: Options<'_>, document: &Table, publish: &Publish) -> bool
-    ensures { result ≡ is_published (wanted_of options.entry) (table_view document.now)
-        (publish_meaning publish.now) }
-{
-    match publish {
+    let is_published = match publish {
         Publish::Flag(everywhere) => *everywhere || is_open(document),
         Publish::Registry(names) => names_registry(options, names.as_slice()),
-    }
+    };
+    (!is_published).then_some((Fault::NotPublished, ""))
 }
 
 /// Whether nothing is written of publishing, or that it is wanted. A package of version 0.0.0 reads
@@ -250,10 +205,7 @@ fn is_published(options: Options<'_>, document: &Table, publish: &Publish) -> bo
 fn is_open(document: &Table) -> bool
     ensures { result ≡ is_open (table_view document.now) }
 {
-    match in_package(document, "publish") {
-        Some(flag) => flag.as_bool().unwrap_or(false),
-        None => true,
-    }
+    in_package(document, "publish").is_none_or(|flag| flag.as_bool().unwrap_or(false))
 }
 
 /// Whether one of these names is that of the registry.
@@ -261,12 +213,9 @@ fn names_registry(options: Options<'_>, names: &[String]) -> bool
     ensures { result ≡ list_any (is_named options.entry.registry.now
         (names_of options.entry.names.now)) (map string_bytes names.now) }
 {
-    for name in names {
-        if address_named(options.names, name.as_str()) == Some(options.registry) {
-            return true;
-        }
-    }
-    false
+    names
+        .iter()
+        .any(|name| address_named(options.names, name.as_str()) == Some(options.registry))
 }
 
 /// The first error of features.
@@ -274,15 +223,9 @@ fn features_refusal<'a>(findings: &'a [Finding<'a>]) -> Option<Refusal<'a>>
     ensures { option_map refused result ≡ first_refusal finding_refusal findings.now }
 {
     for finding in findings {
-        if is_error(finding.code.level()) {
+        if matches!(finding.code.level(), Level::Error) {
             return Some((Fault::Features, finding.feature));
         }
     }
     None
-}
-
-fn is_error(level: Level) -> bool
-    ensures { result ≡ is_error level }
-{
-    matches!(level, Level::Error)
 }

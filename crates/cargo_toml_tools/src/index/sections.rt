@@ -4,9 +4,8 @@ ghost use Rattle.std.specs.Option.{option_copied};
 ghost use Rattle.toml.specs.View.{table_view, view};
 ghost use Rattle.cargo_toml.specs.{Manifests.held, Targets.target_meaning};
 ghost use Rattle.cargo_toml_package.specs.Replacing.{entries_meaning};
-ghost use Rattle.cargo_toml_tools.specs.Indexed.{dependency_tables, name_in, other_name, place_of};
-ghost use Rattle.cargo_toml_tools.specs.Indexed.{section_in, table_at, table_in, table_name};
-ghost use Rattle.cargo_toml_tools.specs.Indexed.{target_tables, written_flag};
+ghost use Rattle.cargo_toml_tools.specs.Indexed.{dependency_tables, other_name, section_in};
+ghost use Rattle.cargo_toml_tools.specs.Indexed.{table_at, table_in, target_tables, written_flag};
 ghost use Rattle.cargo_toml_tools.specs.Sections.{table_of};
 
 use cargo_toml::features::Kind;
@@ -59,7 +58,7 @@ fn push_target<'a>(
     ensures { OnOk result (map table_of all.new.items ≡ map table_of all.old.items
         ++ target_tables (table_view document.now) (name.now, target_meaning target.now)) }
 {
-    let place = place_of(document, name);
+    let place = table_in(document, "target").and_then(|targets| table_in(targets, name));
     let name = Some(name);
     all.push(section_at(name, place, Kind::Normal, &target.dependencies))?;
     all.push(section_at(name, place, Kind::Build, &target.build_dependencies))?;
@@ -86,20 +85,16 @@ fn section_at<'a>(
     }
 }
 
-/// The table in which a target's tables are written.
-fn place_of<'a>(document: &'a Table, target: &str) -> Option<&'a Table>
-    ensures { option_map (λ t. table_view t.now) result
-        ≡ place_of (table_view document.now) target.now }
-{
-    table_in(table_in(document, "target")?, target)
-}
-
 /// The table of dependencies of a kind, as it is written.
 fn section_in(place: Option<&Table>, kind: Kind) -> Option<&Table>
     ensures { option_map (λ t. table_view t.now) result
         ≡ section_in (option_map (λ t. table_view t.now) place.entry) kind }
 {
-    table_in(place?, table_name(kind))
+    match kind {
+        Kind::Normal => table_in(place?, "dependencies"),
+        Kind::Dev => table_in(place?, "dev-dependencies"),
+        Kind::Build => table_in(place?, "build-dependencies"),
+    }
 }
 
 /// The table of this key in another.
@@ -109,16 +104,6 @@ pub(super) fn table_in<'a>(table: &'a Table, key: &str) -> Option<&'a Table>
     member(table, key)?.as_table()
 }
 
-fn table_name(kind: Kind) -> &'static str
-    ensures { result.now ≡ table_name kind }
-{
-    match kind {
-        Kind::Normal => "dependencies",
-        Kind::Dev => "dev-dependencies",
-        Kind::Build => "build-dependencies",
-    }
-}
-
 /// The name with `_` under which a table of the kind is written.
 fn other_name(place: Option<&Table>, kind: Kind) -> Option<&'static str>
     ensures { option_copied result
@@ -126,17 +111,9 @@ fn other_name(place: Option<&Table>, kind: Kind) -> Option<&'static str>
 {
     match kind {
         Kind::Normal => None,
-        Kind::Dev => name_in(place?, "dev_dependencies"),
-        Kind::Build => name_in(place?, "build_dependencies"),
+        Kind::Dev => member(place?, "dev_dependencies").map(|_| "dev_dependencies"),
+        Kind::Build => member(place?, "build_dependencies").map(|_| "build_dependencies"),
     }
-}
-
-/// A name, where something is written under it.
-fn name_in(table: &Table, name: &'static str) -> Option<&'static str>
-    ensures { option_copied result ≡ name_in name.now (table_view table.now) }
-{
-    member(table, name)?;
-    Some(name)
 }
 
 impl<'a> Section<'a> {

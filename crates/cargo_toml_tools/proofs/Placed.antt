@@ -1,6 +1,7 @@
 -- Members that are put into an object one after another.
 use Rattle.std.proofs.Common.{arith, ◌≡◌, ◌++◌, ◌∙◌, Bool, true, false, if◌then◌else◌, List, [], ◌∷◌, map, refl, sym, ap}
 use Rattle.std.{proofs.lemmas.List.map-append, specs.Prelude.codes, specs.List.list_any}
+use Rattle.{cargo_toml_lint.proofs.Adding.asked_is, cargo_toml_tools.proofs.Grown.mapped_left, cargo_toml_tools.proofs.Grown.rest_next, cargo_toml_tools.proofs.Grown.rest_none}
 use Rattle.serde_json.specs.{Data.Data, Data.Members, Data.number, Data.put, Data.unsigned, View.view, declared.value.Value.Value}
 use Rattle.cargo_toml.specs.Action.{Text}
 use Rattle.cargo_toml_tools.specs.{IndexEntries.with_rows, IndexEntries.feature_rows, IndexEntries.is_extended, IndexEntries.lists_object}
@@ -28,6 +29,11 @@ in_five r s t u v a b c d e f first second third fourth fifth =
 
 pub put_same : (key : Text) (d e : Data) (a b : Members) → b ≡ put key d a → d ≡ e → b ≡ put key e a
 put_same key d e a b puts same = puts ∙ ap (λ x. put key x a) same
+
+-- of what a dependency asks for, and of the entries of all
+pub ruleset wanted = (in_five, put_same, asked_is)
+
+pub ruleset listed = (mapped_left, rest_next, rest_none, one_entry)
 
 -- the features, with those of the second version
 pub second_version : (fs : List (Text × List Text)) (a b c d : Members) (x y z : Data) → b ≡ put (codes "features") x a → x ≡ lists_object false fs

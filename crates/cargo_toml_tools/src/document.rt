@@ -19,9 +19,7 @@ use std::fmt::Write;
 /// by default, and what it turns on, by any number of steps. Optional dependencies that serve as
 /// features stand in a table of their own. Hidden and private features are left out.
 impl TakesRows for String {
-    ghost use Rattle.std.specs.Prelude.{⊤};
-
-    ghost took = { λ _ _ _. ⊤ };
+    ghost took = { λ _ _ _. Unit {0} };
 
     fn take(&mut self, name: Option<&str>, rows: &[Row<'_>]) -> Result<(), AllocError> {
         self.push_str("# Features")?;

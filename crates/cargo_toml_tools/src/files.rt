@@ -1,4 +1,5 @@
 //! What the tools make of files: each manifest is read, completed and held here, on the heap.
+#![tactic(auto, using(crate::proofs::Told::faults))]
 
 mod documenting;
 mod indexing;

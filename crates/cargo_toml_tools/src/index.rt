@@ -68,9 +68,8 @@ impl From<AllocError> for IndexError {
 /// What each fault says above, in words.
 impl fmt::Display for IndexError {
     fn fmt<W: fmt::Write>(&self, f: &mut fmt::Formatter<W>) -> fmt::Result {
-        let (fault, name) = match self {
-            IndexError::Refused(fault, name) => (*fault, name),
-            IndexError::Memory => return f.write_str("out of memory"),
+        let IndexError::Refused(fault, name) = self else {
+            return f.write_str("out of memory");
         };
         match fault {
             Fault::NoPackage => f.write_str("there is no package"),

@@ -53,8 +53,11 @@ pub fn put_texts(
         ≡ with_member key.now (text_array (map string_bytes texts.now))
         (members_view object.old.entries)) }
 {
-    let texts: Vec<&str> = texts.iter().map(|text| text.as_str()).collect(alloc)?;
-    put(object, alloc, key, array(alloc, texts.as_slice())?)
+    let mut items = Vec::new(alloc);
+    for text in texts {
+        push(&mut items, Value::try_from_str(alloc, text.as_str())?)?;
+    }
+    put(object, alloc, key, Value::from(items))
 }
 
 /// A list of texts.

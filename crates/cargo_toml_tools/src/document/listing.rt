@@ -80,13 +80,12 @@ fn row_of<'m, S: BuildHasher>(
         ↔ IsOn t features.now (codes "default") x)
         → IsRowOf t features.now row feature.now) }
 {
-    let turns_on = reach(alloc, links, features, feature.key)?;
     Ok(Row {
         name: feature.key,
         is_listed: feature.explicit,
         doc: feature.doc,
         is_default: defaults.contains(feature.key),
-        turns_on,
+        turns_on: reach(alloc, links, features, feature.key)?,
     })
 }
 

@@ -3,7 +3,7 @@ ghost use Rattle.std.specs.Prelude.{◌≡◌, IfErr, IfOk, IsSome, OnOk, string
 ghost use Rattle.std.specs.{Option.option_copied, Path.path_parent};
 ghost use Rattle.cargo_toml.specs.{Error.Memory, Manifests.held};
 ghost use Rattle.cargo_toml_tools.specs.IndexedFiles.{IsIndexFault, IsLineOf, sum_at, sum_of};
-ghost use Rattle.cargo_toml_tools.specs.Sections.{wanted_of};
+ghost use Rattle.cargo_toml_tools.specs.{IndexedFiles.WritesOwnWords, Sections.wanted_of};
 ghost use Rattle.cargo_toml_tools.specs.declared.files.indexing.Fault.TheVariants as fault;
 
 use super::reading::{completed_of, findings_of};
@@ -50,8 +50,6 @@ impl From<AllocError> for Fault {
 
 /// The words of the fault inside.
 impl fmt::Display for Fault {
-    ghost use Rattle.cargo_toml_tools.specs.IndexedFiles.{WritesOwnWords};
-
     fn fmt<W: fmt::Write>(&self, f: &mut fmt::Formatter<W>) -> fmt::Result
         ensures words { WritesOwnWords W.write_str_gives f.old result self.now f.new }
     {
@@ -79,7 +77,7 @@ pub fn index_of<R: Files + RandomSource + AllocGlobal>(
     rt: &R,
     file: &str,
     text: &str,
-    options: Options<'_>,
+    mut options: Options<'_>,
     sums: &BTreeMap<&str, &str>,
 ) -> Result<Indexed, Fault>
     ensures printed { IfOk result (λ indexed. IsLineOf file.now text.now
@@ -91,12 +89,8 @@ pub fn index_of<R: Files + RandomSource + AllocGlobal>(
     let held = completed_of(rt, file, text)?;
     let manifest = &*held.manifest;
     let found = sum_of(alloc, manifest, sums)?;
-    let checksum = options.checksum.or(found);
+    options.checksum = options.checksum.or(found);
     let findings = findings_of(rt, manifest)?;
-    let options = Options {
-        checksum,
-        ..options
-    };
     let entry = index_entry(alloc, manifest, text, findings.as_slice(), options)?;
     let mut line = entry.to_string(alloc)?;
     line.push_str("\n")?;

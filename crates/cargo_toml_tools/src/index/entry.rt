@@ -11,7 +11,7 @@ ghost use Rattle.cargo_toml_tools.specs.Sections.{table_of, wanted_of};
 use super::Options;
 use super::refusals::lacks_version;
 use super::registries::{elsewhere, source_of};
-use super::sections::Section;
+use super::sections::{Section, flag_in};
 use crate::json::{put_text, put_text_if, put_texts};
 use crate::requirement::required_version;
 use cargo_toml::Dependency;
@@ -23,7 +23,7 @@ use toml::Value as Written;
 
 /// The entries of all dependencies. One with a path or a repository and no version has none: it is
 /// for tests.
-#[tactic(auto, using(crate::proofs::Grown::nested))]
+#[tactic(auto, using(crate::proofs::Placed::listed))]
 pub(super) fn entries(
     alloc: Global,
     options: Options<'_>,
@@ -46,6 +46,7 @@ pub(super) fn entries(
 }
 
 /// The entry of a dependency.
+#[tactic(auto, using(crate::proofs::Placed::in_four))]
 fn entry(
     alloc: Global,
     options: Options<'_>,
@@ -68,6 +69,7 @@ fn entry(
 }
 
 /// The members that say what a dependency asks for.
+#[tactic(auto, using(crate::proofs::Placed::wanted))]
 fn put_wanted(
     alloc: Global,
     entry: &mut Map<String, Value>,
@@ -108,7 +110,7 @@ fn has_default(section: &Section<'_>, key: &str, dependency: &Dependency) -> boo
     let Dependency::Detailed(detail) = dependency else {
         return true;
     };
-    let flag = section.flag(key, "default-features");
+    let flag = flag_in(section, key, "default-features");
     detail.default_features || flag.and_then(Written::as_bool).unwrap_or(false)
 }
 

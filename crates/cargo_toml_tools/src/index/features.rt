@@ -100,11 +100,13 @@ fn kept<'m>(
     ensures { IfOk result (λ v. map (λ t. t.now) v.items
         ≡ filter (is_kept (map table_of sections.now)) (map string_bytes texts.now)) }
 {
-    texts
-        .iter()
-        .map(|text| text.as_str())
-        .filter(|text| is_kept(sections, *text))
-        .collect(alloc)
+    let mut all = Vec::new(alloc);
+    for text in texts {
+        if is_kept(sections, text.as_str()) {
+            all.push(text.as_str())?;
+        }
+    }
+    Ok(all)
 }
 
 /// Whether a text of a list stays.
@@ -119,7 +121,12 @@ fn is_kept(sections: &[Section<'_>], text: &str) -> bool
 fn stays(sections: &[Section<'_>], key: &str) -> bool
     ensures { result ≡ stays (map table_of sections.now) key.now }
 {
-    sections.iter().any(|section| keeps(section.entries, key))
+    for section in sections {
+        if keeps(section.entries, key) {
+            return true;
+        }
+    }
+    false
 }
 
 /// Whether a table has a dependency of this key that isn't left out.

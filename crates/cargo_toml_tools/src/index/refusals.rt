@@ -4,8 +4,7 @@ ghost use Rattle.std.specs.List.{list_any};
 ghost use Rattle.semver.specs.Identifiers.{parts_of};
 ghost use Rattle.toml.specs.View.{table_view, view};
 ghost use Rattle.cargo_toml.specs.Dependencies.{dependency_meaning};
-ghost use Rattle.cargo_toml.specs.{Inheritable.TheVariants.Set, Inherits.inheritable_map};
-ghost use Rattle.cargo_toml.specs.{Manifests.is_zero, Packages.held_package};
+ghost use Rattle.cargo_toml.specs.{Inherits.inheritable_map, Packages.held_package};
 ghost use Rattle.cargo_toml.specs.{Settings.publish_meaning};
 ghost use Rattle.cargo_toml_tools.specs.Indexed.{entry_refusal, finding_refusal, first_refusal};
 ghost use Rattle.cargo_toml_tools.specs.Indexed.{in_package, is_named, is_open};
@@ -15,7 +14,7 @@ ghost use Rattle.cargo_toml_tools.specs.Sections.{names_of, refused, table_of, w
 
 use super::Options;
 use super::registries::{Named, address_named, source_of};
-use super::sections::{Section, table_in};
+use super::sections::{Section, flag_in, table_in};
 use cargo_toml::features::Kind;
 use cargo_toml::{Dependency, Inheritable, Package, Publish, SemVer};
 use cargo_toml_lint::{Finding, Level};
@@ -82,19 +81,13 @@ fn version_refusal(version: &Inheritable<SemVer>, document: &Table) -> Option<Re
     let Inheritable::Set(version) = version else {
         return Some((Fault::Incomplete, "version"));
     };
-    let is_missing = is_zero(version) && in_package(document, "version").is_none();
-    is_missing.then_some((Fault::NoVersion, ""))
-}
-
-/// Whether the version is 0.0.0, with nothing behind it.
-fn is_zero(version: &SemVer) -> bool
-    ensures { result ≡ is_zero (Set (parts_of version.now)) }
-{
-    version.major == 0
+    let is_missing = version.major == 0
         && version.minor == 0
         && version.patch == 0
         && version.pre.is_empty()
         && version.build.is_empty()
+        && in_package(document, "version").is_none();
+    is_missing.then_some((Fault::NoVersion, ""))
 }
 
 /// What the table `package` has under a key.
@@ -145,7 +138,7 @@ fn entry_refusal<'a>(
 {
     if matches!(dependency, Dependency::Inherited(_)) {
         Some((Fault::Incomplete, key))
-    } else if section.flag(key, "default_features").is_some() || keeps_other_flag(dependency) {
+    } else if flag_in(section, key, "default_features").is_some() || keeps_other_flag(dependency) {
         Some((Fault::OtherFlag, key))
     } else if lacks_version(dependency) {
         // a dev-dependency is left out
@@ -213,9 +206,12 @@ fn names_registry(options: Options<'_>, names: &[String]) -> bool
     ensures { result ≡ list_any (is_named options.entry.registry.now
         (names_of options.entry.names.now)) (map string_bytes names.now) }
 {
-    names
-        .iter()
-        .any(|name| address_named(options.names, name.as_str()) == Some(options.registry))
+    for name in names {
+        if address_named(options.names, name.as_str()) == Some(options.registry) {
+            return true;
+        }
+    }
+    false
 }
 
 /// The first error of features.

@@ -1,11 +1,13 @@
 //! The tables of dependencies that a crate has, each with what is written of it.
+#![tactic(auto, using(crate::proofs::Grown::tables))]
 ghost use Rattle.std.specs.Prelude.{◌≡◌, ◌++◌, IfOk, OnOk, map, option_map};
 ghost use Rattle.std.specs.Option.{option_copied};
 ghost use Rattle.toml.specs.View.{table_view, view};
 ghost use Rattle.cargo_toml.specs.{Manifests.held, Targets.target_meaning};
 ghost use Rattle.cargo_toml_package.specs.Replacing.{entries_meaning};
 ghost use Rattle.cargo_toml_tools.specs.Indexed.{dependency_tables, other_name, section_in};
-ghost use Rattle.cargo_toml_tools.specs.Indexed.{table_at, table_in, target_tables, written_flag};
+ghost use Rattle.cargo_toml_tools.specs.Indexed.{table_at, table_in, table_name, target_tables};
+ghost use Rattle.cargo_toml_tools.specs.Indexed.{written_flag};
 ghost use Rattle.cargo_toml_tools.specs.Sections.{table_of};
 
 use cargo_toml::features::Kind;
@@ -28,7 +30,6 @@ pub(super) struct Section<'a> {
 
 /// All tables of dependencies of a manifest, which was read from this document: its own, and then
 /// those of targets.
-#[tactic(auto, using(crate::proofs::Grown::tables))]
 pub(super) fn sections<'a, M>(
     alloc: Global,
     manifest: &'a Manifest<M>,
@@ -90,11 +91,7 @@ fn section_in(place: Option<&Table>, kind: Kind) -> Option<&Table>
     ensures { option_map (λ t. table_view t.now) result
         ≡ section_in (option_map (λ t. table_view t.now) place.entry) kind }
 {
-    match kind {
-        Kind::Normal => table_in(place?, "dependencies"),
-        Kind::Dev => table_in(place?, "dev-dependencies"),
-        Kind::Build => table_in(place?, "build-dependencies"),
-    }
+    table_in(place?, table_name(kind))
 }
 
 /// The table of this key in another.
@@ -102,6 +99,16 @@ pub(super) fn table_in<'a>(table: &'a Table, key: &str) -> Option<&'a Table>
     ensures { option_map (λ t. table_view t.now) result ≡ table_in key.now (table_view table.now) }
 {
     member(table, key)?.as_table()
+}
+
+fn table_name(kind: Kind) -> &'static str
+    ensures { result.now ≡ table_name kind }
+{
+    match kind {
+        Kind::Normal => "dependencies",
+        Kind::Dev => "dev-dependencies",
+        Kind::Build => "build-dependencies",
+    }
 }
 
 /// The name with `_` under which a table of the kind is written.
@@ -116,12 +123,10 @@ fn other_name(place: Option<&Table>, kind: Kind) -> Option<&'static str>
     }
 }
 
-impl<'a> Section<'a> {
-    /// What is written under a key in the entry of a dependency.
-    pub(super) fn flag(&self, dependency: &str, key: &str) -> Option<&'a Value>
-        ensures { option_map (λ v. view v.now) result
-            ≡ written_flag (table_of self.now).written dependency.now key.now }
-    {
-        member(table_in(self.written?, dependency)?, key)
-    }
+/// What is written under a key in the entry of a dependency.
+pub(super) fn flag_in<'a>(section: &Section<'a>, dependency: &str, key: &str) -> Option<&'a Value>
+    ensures { option_map (λ v. view v.now) result
+        ≡ written_flag (table_of section.now).written dependency.now key.now }
+{
+    member(table_in(section.written?, dependency)?, key)
 }

@@ -1,7 +1,8 @@
-use Rattle.std.proofs.Common.{◌∙◌, Some, ap, map, option_map, sym}
+use Rattle.std.proofs.Common.{[], ◌∙◌, Some, ap, map, option_map, sym}
 use Rattle.cargo_toml.specs.{Manifests.manifest_meaning, Packages.package_meaning}
-use Rattle.cargo_toml_tools.specs.Indexed.{dependency_tables, package_refusal, refusal_if_any, written}
+use Rattle.cargo_toml_tools.specs.Indexed.{dependency_tables, package_refusal, written}
 use Rattle.cargo_toml_tools.specs.{IndexEntries.line_data, Sections.refused, Sections.table_of, Sections.wanted_of}
+use Rattle.{std.specs.Option.option_map_or, cargo_toml_tools.specs.declared.index.refusals.Fault.TheVariants.NoPackage}
 use Rattle.cargo_toml_tools.proofs.index.index_entry.Goals as goal
 
 pub returns-clause-taken : goal.returns-clause-taken
@@ -12,7 +13,7 @@ returns-clause-taken g c =
     let findings = c.args.findings.now in
     let document = written c.args.text.now in
     let tables = ap (map table_of) c.as_slice-sections.ensures.value ∙ c.in_ok-sections.ensures ∙ ap (λ d. dependency_tables d m) c.in_ok-document.ensures in
-    ap (refusal_if_any w findings document (dependency_tables document m)) (ap (option_map (package_meaning (λ m. m))) c.in-Some.is)
+    ap (λ o. option_map_or (package_refusal w findings document (dependency_tables document m)) o (Some (NoPackage, []))) (ap (option_map (package_meaning (λ m. m))) c.in-Some.is)
     ∙ sym (ap (λ d. package_refusal w findings d (map table_of c.as_slice-sections.result.now) p) c.in_ok-document.ensures
     ∙ ap (λ ts. package_refusal w findings document ts p) tables)
     ∙ sym c.package_refusal.ensures ∙ ap (option_map refused) c.in_default-package_refusal.is

@@ -1,17 +1,11 @@
 use Rattle.{std.proofs.lemmas.Result.err_from_is_err_and, std.specs.Option.option_copied, std.specs.Option.option_or, serde_json.specs.View.view}
-use Rattle.std.proofs.Common.{◌∙◌, ◌≡◌, Bor, None, Option, Some, ap, refl, rules, string_bytes, subst}
+use Rattle.std.proofs.Common.{◌∙◌, ◌≡◌, Bor, None, Option, Some, ap, refl, string_bytes, subst}
 use Rattle.{cargo_toml.specs.Manifests.held, cargo_toml_tools.specs.IndexEntries.index_data, cargo_toml_tools.specs.Sections.wanted_of}
 use Rattle.cargo_toml_tools.proofs.files.indexing.index_of.Goals as goal
 
 or_copied : {A : Type 0} (o p : Option (Bor A)) → option_copied (option_or o p) ≡ option_or (option_copied o) (option_copied p)
 or_copied None p = refl
 or_copied (Some x) p = refl
-
-pub returns-in_err-held-clause-refused : goal.returns-in_err-held-clause-refused
-returns-in_err-held-clause-refused g c = search (rules, err_from_is_err_and)
-
-pub returns-in_err-findings-clause-refused : goal.returns-in_err-findings-clause-refused
-returns-in_err-findings-clause-refused g c = search (rules, err_from_is_err_and)
 
 pub returns-in_err-entry-clause-refused : goal.returns-in_err-entry-clause-refused
 returns-in_err-entry-clause-refused g c =

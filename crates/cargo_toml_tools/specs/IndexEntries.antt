@@ -33,15 +33,6 @@ text_or_null (Some text) = string text
 abbrev pub text_array : List Text → Data
 text_array ts = array (items_of (map string ts))
 
--- what is of the package alone
-abbrev pub rows_of_package : {M : Type 0} → PackageMeaning M → List (Text × Data)
-rows_of_package p =
-    (codes "name", string p.name)
-    ∷ (codes "vers", text_or_null (option_map parts_text (value_of p.version)))
-    ∷ (codes "yanked", boolean false)
-    ∷ (codes "links", text_or_null p.links)
-    ∷ (codes "rust_version", text_or_null (option_and_then value_of p.rust_version)) ∷ []
-
 -- a text under a key, where there is one
 abbrev pub rows_if : Text → Option Text → List (Text × Data)
 rows_if key None = []
@@ -71,20 +62,16 @@ kind_text Normal = codes "normal"
 kind_text Build = codes "build"
 kind_text Dev = codes "dev"
 
--- what a dependency asks for, under its key
-abbrev pub wanted_rows : DependencyTable → Text → DependencyMeaning → List (Text × Data)
-wanted_rows t key d =
-    (codes "name", string key)
-    ∷ (codes "req", string (req_text (required_version d)))
-    ∷ (codes "features", text_array (asked_of d))
-    ∷ (codes "optional", boolean (is_optional d))
-    ∷ (codes "default_features", boolean (has_default t.written key d)) ∷ []
-
--- all members of an entry: `package` where it states the name of the crate. `registry` is there
--- where the dependency is of another one
+-- all members of the entry of a dependency, under its key: `package` where it states the name of
+-- the crate. `registry` is there where the dependency is of another one
 abbrev pub index_rows : Wanted → DependencyTable → Text × DependencyMeaning → List (Text × Data)
 index_rows w t e =
-    wanted_rows t e.0 e.1 ++ (rows_if (codes "package") (package_of e.1)
+    (codes "name", string e.0)
+    ∷ (codes "req", string (req_text (required_version e.1)))
+    ∷ (codes "features", text_array (asked_of e.1))
+    ∷ (codes "optional", boolean (is_optional e.1))
+    ∷ (codes "default_features", boolean (has_default t.written e.0 e.1))
+    ∷ (rows_if (codes "package") (package_of e.1)
     ++ ((codes "target", text_or_null t.target) ∷ (codes "kind", string (kind_text t.kind))
     ∷ (codes "registry", text_or_null (elsewhere w.registry (source_of w.names e.1))) ∷ []))
 
@@ -150,9 +137,13 @@ feature_rows fs =
 abbrev pub line_data : {M : Type 0} → Wanted → List DependencyTable → List (Text × List Text)
     → PackageMeaning M → Data
 line_data w ts features p = object (with_rows
-    (rows_of_package p
-    ++ ((codes "deps", array (items_of (flat_map (table_entries w) ts)))
-    ∷ (feature_rows (kept_lists ts features) ++ rows_if (codes "cksum") w.checksum))) no_members)
+    ((codes "name", string p.name)
+    ∷ (codes "vers", text_or_null (option_map parts_text (value_of p.version)))
+    ∷ (codes "yanked", boolean false)
+    ∷ (codes "links", text_or_null p.links)
+    ∷ (codes "rust_version", text_or_null (option_and_then value_of p.rust_version))
+    ∷ (codes "deps", array (items_of (flat_map (table_entries w) ts)))
+    ∷ (feature_rows (kept_lists ts features) ++ rows_if (codes "cksum") w.checksum)) no_members)
 
 -- that of a manifest, which was read from the text
 abbrev pub index_data : {M : Type 0} → Wanted → Text → ManifestMeaning M → Option Data

@@ -1,10 +1,8 @@
 //! The entries that an index has of a crate's dependencies.
-ghost use Rattle.std.specs.Prelude.{◌≡◌, [], IfOk, OnOk, map, string_bytes};
-ghost use Rattle.std.specs.List.{flat_map};
+ghost use Rattle.std.specs.{Prelude.◌≡◌, Prelude.[], Prelude.IfOk, Prelude.map, List.flat_map};
 ghost use Rattle.serde_json.specs.View.{members_view, view};
 ghost use Rattle.cargo_toml.specs.Dependencies.{dependency_meaning};
-ghost use Rattle.cargo_toml_tools.specs.IndexEntries.{has_default, index_rows, kind_text, req_text};
-ghost use Rattle.cargo_toml_tools.specs.IndexEntries.{required_version, table_entries, wanted_rows};
+ghost use Rattle.cargo_toml_tools.specs.IndexEntries.{has_default, index_rows, table_entries};
 ghost use Rattle.cargo_toml_tools.specs.IndexEntries.{with_rows};
 ghost use Rattle.cargo_toml_tools.specs.Sections.{table_of, wanted_of};
 
@@ -45,8 +43,8 @@ pub(super) fn entries(
     Ok(entries)
 }
 
-/// The entry of a dependency.
-#[tactic(auto, using(crate::proofs::Placed::in_four))]
+/// The entry of a dependency, in which `*` is any version.
+#[tactic(auto, using(crate::proofs::Placed::wanted))]
 fn entry(
     alloc: Global,
     options: Options<'_>,
@@ -58,47 +56,28 @@ fn entry(
         ≡ with_rows (index_rows (wanted_of options.entry) (table_of section.now)
         (key.now, dependency_meaning dependency.now)) (members_view [])) }
 {
+    let requirement = match required_version(dependency) {
+        Some(requirement) => requirement_text(alloc, requirement)?,
+        None => String::from_str(alloc, "*")?,
+    };
+    let has_default = has_default(section, key, dependency);
+    let kind = match section.kind {
+        Kind::Normal => "normal",
+        Kind::Build => "build",
+        Kind::Dev => "dev",
+    };
     let mut entry = Map::new(alloc);
-    put_wanted(alloc, &mut entry, section, key, dependency)?;
+    put_text(alloc, &mut entry, "name", Some(key))?;
+    put(&mut entry, alloc, "req", Value::from(requirement))?;
+    put_texts(alloc, &mut entry, "features", dependency.req_features())?;
+    put(&mut entry, alloc, "optional", Value::from(dependency.optional()))?;
+    put(&mut entry, alloc, "default_features", Value::from(has_default))?;
     put_text_if(alloc, &mut entry, "package", dependency.package())?;
     put_text(alloc, &mut entry, "target", section.target)?;
-    put_text(alloc, &mut entry, "kind", Some(kind_text(section.kind)))?;
+    put_text(alloc, &mut entry, "kind", Some(kind))?;
     let registry = elsewhere(options.registry, source_of(options.names, dependency));
     put_text(alloc, &mut entry, "registry", registry)?;
     Ok(entry)
-}
-
-/// The members that say what a dependency asks for.
-#[tactic(auto, using(crate::proofs::Placed::wanted))]
-fn put_wanted(
-    alloc: Global,
-    entry: &mut Map<String, Value>,
-    section: &Section<'_>,
-    key: &str,
-    dependency: &Dependency,
-) -> Result<(), AllocError>
-    ensures { OnOk result (members_view entry.new.entries
-        ≡ with_rows (wanted_rows (table_of section.now) key.now
-        (dependency_meaning dependency.now)) (members_view entry.old.entries)) }
-{
-    let requirement = requirement(alloc, dependency)?;
-    let has_default = has_default(section, key, dependency);
-    put_text(alloc, entry, "name", Some(key))?;
-    put(entry, alloc, "req", Value::from(requirement))?;
-    put_texts(alloc, entry, "features", dependency.req_features())?;
-    put(entry, alloc, "optional", Value::from(dependency.optional()))?;
-    put(entry, alloc, "default_features", Value::from(has_default))
-}
-
-/// The requirement on the version, as the index has it: `*` is any.
-fn requirement(alloc: Global, dependency: &Dependency) -> Result<String, AllocError>
-    ensures { IfOk result (λ text. string_bytes text
-        ≡ req_text (required_version (dependency_meaning dependency.now))) }
-{
-    match required_version(dependency) {
-        Some(requirement) => requirement_text(alloc, requirement),
-        None => String::from_str(alloc, "*"),
-    }
 }
 
 /// Whether a dependency's default features are on: an entry may say so where it leaves the rest to
@@ -112,14 +91,4 @@ fn has_default(section: &Section<'_>, key: &str, dependency: &Dependency) -> boo
     };
     let flag = flag_in(section, key, "default-features");
     detail.default_features || flag.and_then(Written::as_bool).unwrap_or(false)
-}
-
-fn kind_text(kind: Kind) -> &'static str
-    ensures { result.now ≡ kind_text kind }
-{
-    match kind {
-        Kind::Normal => "normal",
-        Kind::Build => "build",
-        Kind::Dev => "dev",
-    }
 }

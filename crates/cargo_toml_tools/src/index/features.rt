@@ -18,6 +18,7 @@ use serde_json::{Map, Value, put};
 use std::alloc::{AllocError, Global};
 
 /// Puts the members that are of the features.
+#[tactic(auto, using(crate::proofs::Placed::put_same))]
 pub(super) fn put_features(
     alloc: Global,
     line: &mut Map<String, Value>,
@@ -39,7 +40,8 @@ pub(super) fn put_features(
     put(line, alloc, "v", Value::from(2u8))
 }
 
-/// Puts what stays of each list, and says whether one is extended.
+/// Puts what stays of each list, and says whether one is extended: then `features2` has it, and in
+/// `features` it is empty, so that others may name its feature.
 fn put_lists(
     alloc: Global,
     first: &mut Map<String, Value>,
@@ -59,36 +61,16 @@ fn put_lists(
     let mut has_second = false;
     for (name, texts) in features {
         let texts = kept(alloc, sections, texts.as_slice())?;
-        has_second |= put_list(alloc, first, second, name.as_str(), texts.as_slice())?;
+        let list = array(alloc, texts.as_slice())?;
+        if !is_extended(texts.as_slice()) {
+            put(first, alloc, name.as_str(), list)?;
+            continue;
+        }
+        put(first, alloc, name.as_str(), array(alloc, &[])?)?;
+        put(second, alloc, name.as_str(), list)?;
+        has_second = true;
     }
     Ok(has_second)
-}
-
-/// Puts a list, and says whether it is extended: then `features2` has it, and in `features` it is
-/// empty, so that others may name its feature.
-fn put_list(
-    alloc: Global,
-    first: &mut Map<String, Value>,
-    second: &mut Map<String, Value>,
-    name: &str,
-    texts: &[&str],
-) -> Result<bool, AllocError>
-    ensures first { OnOk result (members_view first.new.entries
-        ≡ with_rows (list_rows false (name.now, map (λ t. t.now) texts.now))
-        (members_view first.old.entries)) }
-    ensures second { OnOk result (members_view second.new.entries
-        ≡ with_rows (list_rows true (name.now, map (λ t. t.now) texts.now))
-        (members_view second.old.entries)) }
-    ensures extended { IfOk result (λ is. is ≡ is_extended (map (λ t. t.now) texts.now)) }
-{
-    let list = array(alloc, texts)?;
-    if !is_extended(texts) {
-        put(first, alloc, name, list)?;
-        return Ok(false);
-    }
-    put(first, alloc, name, array(alloc, &[])?)?;
-    put(second, alloc, name, list)?;
-    Ok(true)
 }
 
 /// The texts of a list that stay: no text that acts on a dependency that the line hasn't.

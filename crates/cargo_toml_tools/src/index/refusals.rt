@@ -3,13 +3,12 @@ ghost use Rattle.std.specs.Prelude.{◌≡◌, map, option_map, string_bytes};
 ghost use Rattle.std.specs.List.{list_any};
 ghost use Rattle.semver.specs.Identifiers.{parts_of};
 ghost use Rattle.toml.specs.View.{table_view, view};
-ghost use Rattle.cargo_toml.specs.Dependencies.{dependency_meaning};
-ghost use Rattle.cargo_toml.specs.{Inherits.inheritable_map, Packages.held_package};
-ghost use Rattle.cargo_toml.specs.{Settings.publish_meaning};
+ghost use Rattle.cargo_toml.specs.{Dependencies.dependency_meaning, Inherits.inheritable_map};
+ghost use Rattle.cargo_toml.specs.{Packages.held_package, Settings.publish_meaning};
 ghost use Rattle.cargo_toml_tools.specs.Indexed.{entry_refusal, finding_refusal, first_refusal};
-ghost use Rattle.cargo_toml_tools.specs.Indexed.{in_package, is_named, is_open};
-ghost use Rattle.cargo_toml_tools.specs.Indexed.{keeps_other_flag, lacks_version, package_refusal};
-ghost use Rattle.cargo_toml_tools.specs.Indexed.{publish_refusal, table_refusal, version_refusal};
+ghost use Rattle.cargo_toml_tools.specs.Indexed.{in_package, is_named, is_open, keeps_other_flag};
+ghost use Rattle.cargo_toml_tools.specs.Indexed.{lacks_version, package_refusal, publish_refusal};
+ghost use Rattle.cargo_toml_tools.specs.Indexed.{table_refusal, version_refusal};
 ghost use Rattle.cargo_toml_tools.specs.Sections.{names_of, refused, table_of, wanted_of};
 
 use super::Options;

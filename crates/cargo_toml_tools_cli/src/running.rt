@@ -49,10 +49,12 @@ impl<'a, R: Files + Input + Print + Eprint + RandomSource + Clock + AllocGlobal>
     ) -> io::Result<Outcome> {
         let alloc = self.rt.alloc();
         let mut lines = String::new(alloc);
-        if let Request::Index(_, Wanted { checksums: Some(file), .. }) = request {
-            match text_of(self.rt, *file) {
-                Ok(text) => lines = text,
-                Err(fault) => return self.refuse(*file, "", fault),
+        if let Request::Index(_, wanted) = request {
+            if let Some(file) = wanted.checksums {
+                match text_of(self.rt, file) {
+                    Ok(text) => lines = text,
+                    Err(fault) => return self.refuse(file, "", fault),
+                }
             }
         }
         let sums = checksums(alloc, lines.as_str())?;
@@ -60,8 +62,7 @@ impl<'a, R: Files + Input + Print + Eprint + RandomSource + Clock + AllocGlobal>
         let files = self.files_of(inputs, &mut outcome)?;
         self.files = files.len();
         for file in &files {
-            let one = self.answer_one(request, &sums, file.as_str())?;
-            outcome = one.max(outcome);
+            outcome = outcome.max(self.answer_one(request, &sums, file.as_str())?);
         }
         self.clear()?;
         Ok(outcome)

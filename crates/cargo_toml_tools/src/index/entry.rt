@@ -60,7 +60,8 @@ fn entry(
         Some(requirement) => requirement_text(alloc, requirement)?,
         None => String::from_str(alloc, "*")?,
     };
-    let has_default = has_default(section, key, dependency);
+    let optional = Value::from(dependency.optional());
+    let has_default = Value::from(has_default(section, key, dependency));
     let kind = match section.kind {
         Kind::Normal => "normal",
         Kind::Build => "build",
@@ -70,8 +71,8 @@ fn entry(
     put_text(alloc, &mut entry, "name", Some(key))?;
     put(&mut entry, alloc, "req", Value::from(requirement))?;
     put_texts(alloc, &mut entry, "features", dependency.req_features())?;
-    put(&mut entry, alloc, "optional", Value::from(dependency.optional()))?;
-    put(&mut entry, alloc, "default_features", Value::from(has_default))?;
+    put(&mut entry, alloc, "optional", optional)?;
+    put(&mut entry, alloc, "default_features", has_default)?;
     put_text_if(alloc, &mut entry, "package", dependency.package())?;
     put_text(alloc, &mut entry, "target", section.target)?;
     put_text(alloc, &mut entry, "kind", Some(kind))?;

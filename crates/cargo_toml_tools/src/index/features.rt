@@ -115,7 +115,9 @@ fn stays(sections: &[Section<'_>], key: &str) -> bool
 fn keeps(table: &DepsSet, key: &str) -> bool
     ensures { result ≡ keeps (entries_meaning table.now) key.now }
 {
-    table.get(key).is_some_and(|dependency| !lacks_version(dependency))
+    table
+        .get(key)
+        .is_some_and(|dependency| !lacks_version(dependency))
 }
 
 /// Whether some text of a list is of the second version of the index.

@@ -1,5 +1,6 @@
 //! The tables of dependencies that a crate has, each with what is written of it.
 #![tactic(auto, using(crate::proofs::Grown::tables))]
+
 ghost use Rattle.std.specs.Prelude.{◌≡◌, ◌++◌, IfOk, OnOk, map, option_map};
 ghost use Rattle.std.specs.Option.{option_copied};
 ghost use Rattle.toml.specs.View.{table_view, view};

@@ -1,10 +1,10 @@
 -- Members that are put into an object one after another.
-use Rattle.std.proofs.Common.{◌≡◌, ◌++◌, ◌∙◌, Bool, false, if◌then◌else◌, List, [], ◌∷◌, map, refl, sym, ap}
-use Rattle.std.{proofs.lemmas.List.map-append}
+use Rattle.std.proofs.Common.{arith, ◌≡◌, ◌++◌, ◌∙◌, Bool, true, false, if◌then◌else◌, List, [], ◌∷◌, map, refl, sym, ap}
+use Rattle.std.{proofs.lemmas.List.map-append, specs.Prelude.codes, specs.List.list_any}
 use Rattle.{cargo_toml_lint.proofs.Adding.asked_is, cargo_toml_tools.proofs.Grown.mapped_left, cargo_toml_tools.proofs.Grown.rest_next, cargo_toml_tools.proofs.Grown.rest_none}
-use Rattle.serde_json.specs.{Data.Data, Data.Members, Data.put, View.view, declared.value.Value.Value}
+use Rattle.serde_json.specs.{Data.Data, Data.Members, Data.number, Data.put, Data.unsigned, View.view, declared.value.Value.Value}
 use Rattle.cargo_toml.specs.Action.{Text}
-use Rattle.cargo_toml_tools.specs.{IndexEntries.with_rows}
+use Rattle.cargo_toml_tools.specs.{IndexEntries.with_rows, IndexEntries.feature_rows, IndexEntries.is_extended, IndexEntries.lists_object}
 
 pub with_both : (xs ys : List (Text × Data)) (ms : Members) → with_rows (xs ++ ys) ms ≡ with_rows ys (with_rows xs ms)
 with_both [] ys ms = refl
@@ -23,3 +23,9 @@ put_same key d e a b puts same = puts ∙ ap (λ x. put key x a) same
 pub ruleset wanted = (with_both, asked_is)
 
 pub ruleset listed = (mapped_left, rest_next, rest_none, one_entry)
+
+-- the features, with those of the second version
+pub second_version : (fs : List (Text × List Text)) (a b c d : Members) (x y z : Data) → b ≡ put (codes "features") x a → x ≡ lists_object false fs
+    → list_any (λ (f : Text × List Text). is_extended f.1) fs ≡ true → c ≡ put (codes "features2") y b → y ≡ lists_object true fs
+    → d ≡ put (codes "v") z c → z ≡ number (unsigned 2) → d ≡ with_rows (feature_rows fs) a
+second_version fs a b c d x y z first is some second is_too third two = grind (arith, put_same)

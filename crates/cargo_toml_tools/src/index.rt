@@ -1,7 +1,11 @@
 //! The line of JSON that a registry's index has of a crate, by the rules of Cargo's.
 ghost use Rattle.std.specs.Prelude.{◌≡◌, ◌⊎◌, IfErr, IfOk, None, OnOk, Some, map, IsErrAnd};
+ghost use Rattle.std.specs.Prelude.{option_and_then, option_map, string_bytes};
+ghost use Rattle.std.specs.Option.{option_copied};
+ghost use Rattle.semver.specs.Identifiers.{parts_of, parts_text};
 ghost use Rattle.serde_json.specs.View.{view};
 ghost use Rattle.toml.specs.View.{table_view};
+ghost use Rattle.cargo_toml.specs.{InheritableValues.value_of, Inherits.inheritable_map};
 ghost use Rattle.cargo_toml.specs.{Manifests.held, Packages.held_package};
 ghost use Rattle.cargo_toml_tools.specs.declared.index.IndexError.TheVariants.{Memory};
 ghost use Rattle.cargo_toml_tools.specs.Indexed.{refusal_in, refusal_of, written};
@@ -16,7 +20,7 @@ mod registries;
 mod sections;
 
 use crate::json::{put_text, put_text_if};
-use cargo_toml::{FeatureSet, Inheritable, Manifest, Package};
+use cargo_toml::{FeatureSet, Inheritable, Manifest, Package, SemVer};
 use cargo_toml_lint::Finding;
 use entry::entries;
 use features::put_features;
@@ -165,23 +169,42 @@ fn line_of<M>(
         (map table_of sections.now) (lists_meaning features.now)
         (held_package «package».now)) }
 {
-    let version = match &package.version {
-        Inheritable::Set(version) => Some(format!(in alloc; "{version}")?),
-        Inheritable::Inherited => None,
-    };
-    let rust_version = match &package.rust_version {
-        Some(Inheritable::Set(text)) => Some(text.as_str()),
-        _ => None,
-    };
+    let version = version_text(alloc, &package.version)?;
     let mut line = Map::new(alloc);
     put_text(alloc, &mut line, "name", Some(package.name.as_str()))?;
     put_text(alloc, &mut line, "vers", version.as_deref())?;
     put(&mut line, alloc, "yanked", Value::from(false))?;
     put_text(alloc, &mut line, "links", package.links.as_deref())?;
-    put_text(alloc, &mut line, "rust_version", rust_version)?;
+    put_text(
+        alloc,
+        &mut line,
+        "rust_version",
+        stated(&package.rust_version),
+    )?;
     let entries = entries(alloc, options, sections)?;
     put(&mut line, alloc, "deps", Value::from(entries))?;
     put_features(alloc, &mut line, sections, features)?;
     put_text_if(alloc, &mut line, "cksum", options.checksum)?;
     Ok(Value::from(line))
+}
+
+fn version_text(alloc: Global, version: &Inheritable<SemVer>) -> Result<Option<String>, AllocError>
+    ensures { IfOk result (λ text. option_map string_bytes text
+        ≡ option_map parts_text (value_of (inheritable_map parts_of version.now))) }
+{
+    match version {
+        Inheritable::Set(version) => Ok(Some(format!(in alloc; "{version}")?)),
+        Inheritable::Inherited => Ok(None),
+    }
+}
+
+/// A text that is there, and not left to the workspace.
+fn stated(text: &Option<Inheritable<String>>) -> Option<&str>
+    ensures { option_copied result
+        ≡ option_and_then value_of (option_map (inheritable_map string_bytes) text.now) }
+{
+    match text {
+        Some(Inheritable::Set(text)) => Some(text.as_str()),
+        _ => None,
+    }
 }

@@ -1,5 +1,5 @@
 //! What is documented of features.
-ghost use Rattle.std.specs.Prelude.{true, IfErr, IfOk, OnOk};
+ghost use Rattle.std.specs.Prelude.{◌≡◌, true, IfErr, IfOk, OnOk};
 ghost use Rattle.cargo_toml.specs.{Limits.MAX_ITEMS, Manifests.held, Parsed.IsParsed};
 ghost use Rattle.cargo_toml.specs.{Reached.IsKeyed, Views.answer_of};
 ghost use Rattle.cargo_toml_tools.specs.FromFiles.{IsDocumented, IsOfInput, IsUndocumented};
@@ -50,6 +50,12 @@ pub fn document_text<R: RandomSource + AllocGlobal>(
     Ok(page)
 }
 
+fn keep_every(_name: &str) -> bool
+    ensures { result ≡ true }
+{
+    true
+}
+
 /// The features of a manifest, hidden ones like others.
 pub fn resolved<'m, R: RandomSource + AllocGlobal>(
     rt: &R,
@@ -61,7 +67,7 @@ pub fn resolved<'m, R: RandomSource + AllocGlobal>(
     ensures refused { IfErr result IsOfInput }
 {
     let state = RandomState::new(rt)?;
-    let keep = |_name: &str| true;
+    let keep = keep_every;
     let resolver = Resolver::new_with_hasher_and_filter(state, &keep);
     resolver.parse(rt.alloc(), manifest)
 }

@@ -6,8 +6,8 @@ ghost use Rattle.cargo_toml_tools.specs.IndexedFiles.{IsIndexFault, IsLineOf, su
 ghost use Rattle.cargo_toml_tools.specs.{IndexedFiles.WritesOwnWords, Sections.wanted_of};
 ghost use Rattle.cargo_toml_tools.specs.declared.files.indexing.Fault.TheVariants as fault;
 
-use super::reading::{findings_of, read_both};
-use crate::index::{IndexError, Options, entry_of};
+use super::reading::{completed_of, findings_of};
+use crate::index::{IndexError, Options, index_entry};
 use cargo_toml::{Error, Inheritable, Manifest};
 use std::alloc::{AllocError, Global};
 use std::collections::BTreeMap;
@@ -77,7 +77,7 @@ pub fn index_of<R: Files + RandomSource + AllocGlobal>(
     rt: &R,
     file: &str,
     text: &str,
-    mut options: Options<'_>,
+    options: Options<'_>,
     sums: &BTreeMap<&str, &str>,
 ) -> Result<Indexed, Fault>
     ensures printed { IfOk result (λ indexed. IsLineOf file.now text.now
@@ -86,13 +86,16 @@ pub fn index_of<R: Files + RandomSource + AllocGlobal>(
     ensures refused { IfErr result (IsIndexFault file.now text.now (wanted_of options.entry)) }
 {
     let alloc = rt.alloc();
-    let (mut held, document) = read_both(alloc, text)?;
-    held.manifest.complete_from_path(rt, alloc, file)?;
+    let held = completed_of(rt, file, text)?;
     let manifest = &*held.manifest;
     let found = sum_of(alloc, manifest, sums)?;
-    options.checksum = options.checksum.or(found);
+    let checksum = options.checksum.or(found);
     let findings = findings_of(rt, manifest)?;
-    let entry = entry_of(alloc, manifest, &document, findings.as_slice(), options)?;
+    let options = Options {
+        checksum,
+        ..options
+    };
+    let entry = index_entry(alloc, manifest, text, findings.as_slice(), options)?;
     let mut line = entry.to_string(alloc)?;
     line.push_str("\n")?;
     let name = match &manifest.package {

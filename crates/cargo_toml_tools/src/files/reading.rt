@@ -1,23 +1,18 @@
 //! Manifests that are read from files and held on the heap, and what is amiss with their features.
-ghost use Rattle.std.specs.Prelude.{◌≡◌, IfErr, IfOk, IsSome, OnOk};
-ghost use Rattle.std.specs.{Path.path_parent};
-ghost use Rattle.toml.specs.View.{table_view, view};
-ghost use Rattle.cargo_toml.specs.Manifests.{ManifestRefuses, held, manifest_meaning};
-ghost use Rattle.cargo_toml.specs.{Action.Text, Manifests.manifest_reads};
-ghost use Rattle.cargo_toml.specs.Texts.{AnyRefuses, IsFromText, any_tree};
+ghost use Rattle.std.specs.{Path.path_parent, Prelude.IfErr, Prelude.IfOk, Prelude.IsSome};
+ghost use Rattle.std.specs.Prelude.{OnOk};
+ghost use Rattle.cargo_toml.specs.{Action.Text, Manifests.held};
 ghost use Rattle.cargo_toml_tools.specs.FromFiles.{IsCompletedIn, IsManifestIn, IsOfInput};
 ghost use Rattle.cargo_toml_tools.specs.FromFiles.{IsUncompleted, IsUnreadable};
-ghost use Rattle.cargo_toml_tools.specs.{Indexed.written, Linted.AreFindingsOf};
+ghost use Rattle.cargo_toml_tools.specs.Linted.{AreFindingsOf};
 
 use cargo_toml::{Error, Manifest};
 use cargo_toml_lint::Finding;
 use cargo_toml_manifest::HeldManifest;
-use std::alloc::Global;
 use std::fs;
 use std::hash::RandomState;
 use std::random::RandomSource;
 use std::rt::Files;
-use toml::{Table, Value};
 
 /// The text of a file.
 pub fn text_in<R: Files + AllocGlobal>(rt: &R, file: &str) -> Result<String, Error>
@@ -39,18 +34,6 @@ pub fn completed_of<R: Files + AllocGlobal>(
     let mut held = HeldManifest::from_str(rt.alloc(), text)?;
     held.manifest.complete_from_path(rt, rt.alloc(), file)?;
     Ok(held)
-}
-
-/// The manifest in this text, and the document that the text is.
-pub(super) fn read_both(alloc: Global, text: &str) -> Result<(HeldManifest, Table), Error>
-    ensures read { IsFromText (λ r. manifest_meaning view r.0.manifest.value)
-        (manifest_reads any_tree) (ManifestRefuses any_tree AnyRefuses) text.now result }
-    ensures document { IfOk result (λ r. table_view r.1 ≡ written text.now) }
-{
-    let document = toml::table_from_str(alloc, text)?;
-    let copy = document.clone()?;
-    let held = HeldManifest::from_value(alloc, Value::Table(copy))?;
-    Ok((held, document))
 }
 
 /// The manifest in this file.

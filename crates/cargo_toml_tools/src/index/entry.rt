@@ -1,9 +1,10 @@
 //! The entries that an index has of a crate's dependencies.
-ghost use Rattle.std.specs.{Prelude.◌≡◌, Prelude.[], Prelude.IfOk, Prelude.map, List.flat_map};
+ghost use Rattle.std.specs.Prelude.{◌≡◌, [], IfOk, map, string_bytes};
+ghost use Rattle.std.specs.List.{flat_map};
 ghost use Rattle.serde_json.specs.View.{members_view, view};
 ghost use Rattle.cargo_toml.specs.Dependencies.{dependency_meaning};
-ghost use Rattle.cargo_toml_tools.specs.IndexEntries.{has_default, index_rows, table_entries};
-ghost use Rattle.cargo_toml_tools.specs.IndexEntries.{with_rows};
+ghost use Rattle.cargo_toml_tools.specs.IndexEntries.{has_default, index_rows, kind_text, req_text};
+ghost use Rattle.cargo_toml_tools.specs.IndexEntries.{required_version, table_entries, with_rows};
 ghost use Rattle.cargo_toml_tools.specs.Sections.{table_of, wanted_of};
 
 use super::Options;
@@ -43,7 +44,7 @@ pub(super) fn entries(
     Ok(entries)
 }
 
-/// The entry of a dependency, in which `*` is any version.
+/// The entry of a dependency.
 #[tactic(auto, using(crate::proofs::Placed::wanted))]
 fn entry(
     alloc: Global,
@@ -56,17 +57,9 @@ fn entry(
         ≡ with_rows (index_rows (wanted_of options.entry) (table_of section.now)
         (key.now, dependency_meaning dependency.now)) (members_view [])) }
 {
-    let requirement = match required_version(dependency) {
-        Some(requirement) => requirement_text(alloc, requirement)?,
-        None => String::from_str(alloc, "*")?,
-    };
+    let requirement = requirement(alloc, dependency)?;
     let optional = Value::from(dependency.optional());
     let has_default = Value::from(has_default(section, key, dependency));
-    let kind = match section.kind {
-        Kind::Normal => "normal",
-        Kind::Build => "build",
-        Kind::Dev => "dev",
-    };
     let mut entry = Map::new(alloc);
     put_text(alloc, &mut entry, "name", Some(key))?;
     put(&mut entry, alloc, "req", Value::from(requirement))?;
@@ -75,10 +68,21 @@ fn entry(
     put(&mut entry, alloc, "default_features", has_default)?;
     put_text_if(alloc, &mut entry, "package", dependency.package())?;
     put_text(alloc, &mut entry, "target", section.target)?;
-    put_text(alloc, &mut entry, "kind", Some(kind))?;
+    put_text(alloc, &mut entry, "kind", Some(kind_text(section.kind)))?;
     let registry = elsewhere(options.registry, source_of(options.names, dependency));
     put_text(alloc, &mut entry, "registry", registry)?;
     Ok(entry)
+}
+
+/// The requirement on the version, as the index has it: `*` is any.
+fn requirement(alloc: Global, dependency: &Dependency) -> Result<String, AllocError>
+    ensures { IfOk result (λ text. string_bytes text
+        ≡ req_text (required_version (dependency_meaning dependency.now))) }
+{
+    match required_version(dependency) {
+        Some(requirement) => requirement_text(alloc, requirement),
+        None => String::from_str(alloc, "*"),
+    }
 }
 
 /// Whether a dependency's default features are on: an entry may say so where it leaves the rest to
@@ -92,4 +96,14 @@ fn has_default(section: &Section<'_>, key: &str, dependency: &Dependency) -> boo
     };
     let flag = flag_in(section, key, "default-features");
     detail.default_features || flag.and_then(Written::as_bool).unwrap_or(false)
+}
+
+fn kind_text(kind: Kind) -> &'static str
+    ensures { result.now ≡ kind_text kind }
+{
+    match kind {
+        Kind::Normal => "normal",
+        Kind::Build => "build",
+        Kind::Dev => "dev",
+    }
 }

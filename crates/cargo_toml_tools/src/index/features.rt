@@ -18,7 +18,6 @@ use serde_json::{Map, Value, put};
 use std::alloc::{AllocError, Global};
 
 /// Puts the members that are of the features.
-#[tactic(auto, using(crate::proofs::Placed::put_same))]
 pub(super) fn put_features(
     alloc: Global,
     line: &mut Map<String, Value>,

@@ -4,7 +4,8 @@ ghost use Rattle.std.specs.List.{list_any};
 ghost use Rattle.semver.specs.Identifiers.{parts_of};
 ghost use Rattle.toml.specs.View.{table_view, view};
 ghost use Rattle.cargo_toml.specs.{Dependencies.dependency_meaning, Inherits.inheritable_map};
-ghost use Rattle.cargo_toml.specs.{Packages.held_package, Settings.publish_meaning};
+ghost use Rattle.cargo_toml.specs.{InheritedPackages.is_left_there, Packages.held_package};
+ghost use Rattle.cargo_toml.specs.{Settings.publish_meaning};
 ghost use Rattle.cargo_toml_tools.specs.Indexed.{entry_refusal, finding_refusal, first_refusal};
 ghost use Rattle.cargo_toml_tools.specs.Indexed.{in_package, is_named, is_open, keeps_other_flag};
 ghost use Rattle.cargo_toml_tools.specs.Indexed.{lacks_version, package_refusal, publish_refusal};
@@ -60,16 +61,19 @@ pub(super) fn package_refusal<'a, M>(
         findings.now (table_view document.now) (map table_of sections.now)
         (held_package «package».now) }
 {
-    let is_left = matches!(package.rust_version, Some(Inheritable::Inherited));
-    let refusal = version_refusal(&package.version, document)
-        .or(tables_refusal(options.names, sections))
-        .or(is_left.then_some((Fault::Incomplete, "rust-version")));
-    if options.force {
-        return refusal;
+    if let Some(refusal) = version_refusal(&package.version, document) {
+        return Some(refusal);
     }
-    refusal
-        .or(publish_refusal(options, document, &package.publish))
-        .or(features_refusal(findings))
+    if let Some(refusal) = tables_refusal(options.names, sections) {
+        return Some(refusal);
+    }
+    if is_left_there(&package.rust_version) {
+        return Some((Fault::Incomplete, "rust-version"));
+    }
+    if options.force {
+        return None;
+    }
+    publish_refusal(options, document, &package.publish).or(features_refusal(findings))
 }
 
 /// A manifest without a version reads as of version 0.0.0.
@@ -94,6 +98,13 @@ fn in_package<'a>(document: &'a Table, key: &str) -> Option<&'a Value>
     ensures { option_map (λ v. view v.now) result ≡ in_package key.now (table_view document.now) }
 {
     member(table_in(document, "package")?, key)
+}
+
+/// What a package may leave to the workspace.
+fn is_left_there(text: &Option<Inheritable<String>>) -> bool
+    ensures { result ≡ is_left_there (option_map (inheritable_map string_bytes) text.now) }
+{
+    matches!(text, Some(Inheritable::Inherited))
 }
 
 /// The first refusal of these tables.

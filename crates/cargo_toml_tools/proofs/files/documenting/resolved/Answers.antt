@@ -1,8 +1,13 @@
 use Rattle.{std.proofs.Common.Bool, std.proofs.Common.inl, std.proofs.Common.true, cargo_toml.specs.Action.Text, cargo_toml.specs.Limits.MAX_ITEMS}
-use Rattle.std.proofs.lemmas.Result.{IfErr-weaker, IfOk-weaker}
+use Rattle.std.proofs.lemmas.Result.{IfErr-weaker, IfOk-weaker, err_from_is_err_and}
 use Rattle.{cargo_toml.specs.Manifests.manifest_meaning, cargo_toml.specs.Parsed.IsParsed, cargo_toml.specs.Views.answer_of}
-use Rattle.{cargo_toml_lint.proofs.Resolving.parsed_at, cargo_toml_lint.proofs.Resolving.tells_of}
+use Rattle.{cargo_toml_discovery.proofs.Faults.from_input, cargo_toml_lint.proofs.Resolving.parsed_at, cargo_toml_lint.proofs.Resolving.tells_of}
 use Rattle.cargo_toml_tools.proofs.files.documenting.resolved.Goals as goal
+
+pub returns-in_err-state-clause-refused : goal.returns-in_err-state-clause-refused
+returns-in_err-state-clause-refused g c =
+    let p = err_from_is_err_and c.from_residual.result c.from_residual.ensures.1 in
+    rw p.1 (from_input _ p.0 p.2)
 
 pub returns-clause-whole : goal.returns-clause-whole
 returns-clause-whole g c =

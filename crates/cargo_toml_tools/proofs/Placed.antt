@@ -1,6 +1,7 @@
 -- Members that are put into an object one after another.
 use Rattle.std.proofs.Common.{arith, ◌≡◌, ◌++◌, ◌∙◌, Bool, true, false, if◌then◌else◌, List, [], ◌∷◌, map, refl, sym, ap}
 use Rattle.std.{proofs.lemmas.List.map-append, specs.Prelude.codes, specs.List.list_any}
+use Rattle.{cargo_toml_lint.proofs.Adding.asked_is, cargo_toml_tools.proofs.Grown.mapped_left, cargo_toml_tools.proofs.Grown.rest_next, cargo_toml_tools.proofs.Grown.rest_none}
 use Rattle.serde_json.specs.{Data.Data, Data.Members, Data.number, Data.put, Data.unsigned, View.view, declared.value.Value.Value}
 use Rattle.cargo_toml.specs.Action.{Text}
 use Rattle.cargo_toml_tools.specs.{IndexEntries.with_rows, IndexEntries.feature_rows, IndexEntries.is_extended, IndexEntries.lists_object}
@@ -9,25 +10,19 @@ pub with_both : (xs ys : List (Text × Data)) (ms : Members) → with_rows (xs +
 with_both [] ys ms = refl
 with_both (x ∷ xs) ys ms = with_both xs ys (put x.0 x.1 ms)
 
--- the members of an entry, in four parts
-pub in_four : (ws xs ys zs : List (Text × Data)) (a b c d e : Members) → b ≡ with_rows ws a → c ≡ with_rows xs b → d ≡ with_rows ys c → e ≡ with_rows zs d
-    → e ≡ with_rows (ws ++ (xs ++ (ys ++ zs))) a
-in_four ws xs ys zs a b c d e first second third fourth = grind (arith, with_both)
-
 -- one more entry, or none
 pub one_entry : (old new : List Value) (v : Value) (d : Data) (lacks : Bool) → new ≡ old ++ v ∷ [] → view v ≡ d → lacks ≡ false
     → map view new ≡ map view old ++ (if lacks then [] else d ∷ [])
 one_entry old new v d lacks e is h =
     ap (map view) e ∙ map-append view old (v ∷ []) ∙ ap (λ x. map view old ++ x ∷ []) is ∙ ap (λ b. map view old ++ (if b then [] else d ∷ [])) (sym h)
 
--- five members, and what stands for each
-pub in_five : (r s t u v : Text × Data) (a b c d e f : Members) → b ≡ put r.0 r.1 a → c ≡ put s.0 s.1 b → d ≡ put t.0 t.1 c → e ≡ put u.0 u.1 d → f ≡ put v.0 v.1 e
-    → f ≡ with_rows (r ∷ s ∷ t ∷ u ∷ v ∷ []) a
-in_five r s t u v a b c d e f first second third fourth fifth =
-    fifth ∙ ap (put v.0 v.1) (fourth ∙ ap (put u.0 u.1) (third ∙ ap (put t.0 t.1) (second ∙ ap (put s.0 s.1) first)))
-
 pub put_same : (key : Text) (d e : Data) (a b : Members) → b ≡ put key d a → d ≡ e → b ≡ put key e a
 put_same key d e a b puts same = puts ∙ ap (λ x. put key x a) same
+
+-- of an entry, and of all
+pub ruleset wanted = (with_both, asked_is)
+
+pub ruleset listed = (mapped_left, rest_next, rest_none, one_entry)
 
 -- the features, with those of the second version
 pub second_version : (fs : List (Text × List Text)) (a b c d : Members) (x y z : Data) → b ≡ put (codes "features") x a → x ≡ lists_object false fs

@@ -15,20 +15,16 @@ use Rattle.cargo_toml_tools.specs.declared.document.{listing.Row.Row, reached.Re
 abbrev pub is_internal : Feature → Bool
 is_internal f = not f.public || starts_with nat_eq f.key.now (codes "_")
 
--- a feature that is told of: `default` only where the manifest has it
-abbrev pub is_shown : Bool → Feature → Bool
-is_shown has_default f =
-    not (is_internal f) && (has_default || not (bytes_eq f.key.now (codes "default")))
-
 -- the feature x is told of beside that of this name: it is another one, neither hidden nor private
 abbrev pub is_beside : {S : Type 0} → HashMap (Bor Text) Feature S → Text → Text → Bool
 is_beside m name x = option_map_or
     (λ f. not (bytes_eq f.key.now name) && not (is_internal f)) (value_at m x) false
 
--- the feature of a name, if it is told of
+-- the feature of a name, if it is told of: `default` only where the manifest has it
 abbrev pub told_at : {S : Type 0} → HashMap (Bor Text) Feature S → Bool → Text → Option Feature
-told_at m has_default f =
-    option_and_then (λ v. if is_shown has_default v then Some v else None) (value_at m f)
+told_at m has_default f = option_and_then
+    (λ v. if not (is_internal v) && (has_default || not (bytes_eq v.key.now (codes "default")))
+    then Some v else None) (value_at m f)
 
 -- some feature of these acts so on the dependency k
 abbrev pub ActsOf : {S : Type 0} → HashMap (Bor Text) Feature S → (Text → Type 0) → Text → Action

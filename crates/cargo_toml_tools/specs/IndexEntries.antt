@@ -9,14 +9,13 @@ use Rattle.serde_json.specs.Data.{Data, Members, array, boolean, null, put, stri
 use Rattle.serde_json.specs.Data.{object, number, unsigned}
 use Rattle.serde_json.specs.View.{items_of}
 use Rattle.toml.specs.Data.{Members as TomlMembers, as_bool}
-use Rattle.cargo_toml.specs.Action.{Text, Item, item_of}
 use Rattle.cargo_toml.specs.Dependencies.{DependencyMeaning, simple, inherited, detailed}
 use Rattle.cargo_toml.specs.Dependencies.{is_optional, package_of}
 use Rattle.cargo_toml.specs.Kind.TheVariants.{Build, Dev, Normal}
-use Rattle.cargo_toml.specs.{InheritableValues.value_of, Packages.PackageMeaning, Kind.Kind}
-use Rattle.cargo_toml.specs.{Requirements.requirement_text, Action.Item.Name, Action.Item.On}
-use Rattle.cargo_toml.specs.{InheritedDependencies.Entries, InheritedDependencies.entry_at}
-use Rattle.cargo_toml.specs.{Manifests.ManifestMeaning}
+use Rattle.cargo_toml.specs.InheritedDependencies.{Entries, entry_at}
+use Rattle.cargo_toml.specs.{Action.Text, Action.Item, Action.item_of, InheritableValues.value_of}
+use Rattle.cargo_toml.specs.{Packages.PackageMeaning, Kind.Kind, Requirements.requirement_text}
+use Rattle.cargo_toml.specs.{Action.Item.Name, Action.Item.On, Manifests.ManifestMeaning}
 use Rattle.cargo_toml_lint.specs.Findings.{asked_of}
 use Rattle.cargo_toml_tools.specs.Indexed.{DependencyTable, Wanted, elsewhere, lacks_version}
 use Rattle.cargo_toml_tools.specs.Indexed.{source_of, written_flag, dependency_tables, written}
@@ -33,15 +32,6 @@ text_or_null (Some text) = string text
 -- a list of texts
 abbrev pub text_array : List Text → Data
 text_array ts = array (items_of (map string ts))
-
--- what is of the package alone
-abbrev pub rows_of_package : {M : Type 0} → PackageMeaning M → List (Text × Data)
-rows_of_package p =
-    (codes "name", string p.name)
-    ∷ (codes "vers", text_or_null (option_map parts_text (value_of p.version)))
-    ∷ (codes "yanked", boolean false)
-    ∷ (codes "links", text_or_null p.links)
-    ∷ (codes "rust_version", text_or_null (option_and_then value_of p.rust_version)) ∷ []
 
 -- a text under a key, where there is one
 abbrev pub rows_if : Text → Option Text → List (Text × Data)
@@ -72,20 +62,16 @@ kind_text Normal = codes "normal"
 kind_text Build = codes "build"
 kind_text Dev = codes "dev"
 
--- what a dependency asks for, under its key
-abbrev pub wanted_rows : DependencyTable → Text → DependencyMeaning → List (Text × Data)
-wanted_rows t key d =
-    (codes "name", string key)
-    ∷ (codes "req", string (req_text (required_version d)))
-    ∷ (codes "features", text_array (asked_of d))
-    ∷ (codes "optional", boolean (is_optional d))
-    ∷ (codes "default_features", boolean (has_default t.written key d)) ∷ []
-
--- all members of an entry: `package` where it states the name of the crate. `registry` is there
--- where the dependency is of another one
+-- all members of the entry of a dependency, under its key: `package` where it states the name of
+-- the crate. `registry` is there where the dependency is of another one
 abbrev pub index_rows : Wanted → DependencyTable → Text × DependencyMeaning → List (Text × Data)
 index_rows w t e =
-    wanted_rows t e.0 e.1 ++ (rows_if (codes "package") (package_of e.1)
+    (codes "name", string e.0)
+    ∷ (codes "req", string (req_text (required_version e.1)))
+    ∷ (codes "features", text_array (asked_of e.1))
+    ∷ (codes "optional", boolean (is_optional e.1))
+    ∷ (codes "default_features", boolean (has_default t.written e.0 e.1))
+    ∷ (rows_if (codes "package") (package_of e.1)
     ++ ((codes "target", text_or_null t.target) ∷ (codes "kind", string (kind_text t.kind))
     ∷ (codes "registry", text_or_null (elsewhere w.registry (source_of w.names e.1))) ∷ []))
 
@@ -151,11 +137,18 @@ feature_rows fs =
 abbrev pub line_data : {M : Type 0} → Wanted → List DependencyTable → List (Text × List Text)
     → PackageMeaning M → Data
 line_data w ts features p = object (with_rows
-    (rows_of_package p
-    ++ ((codes "deps", array (items_of (flat_map (table_entries w) ts)))
-    ∷ (feature_rows (kept_lists ts features) ++ rows_if (codes "cksum") w.checksum))) no_members)
+    ((codes "name", string p.name)
+    ∷ (codes "vers", text_or_null (option_map parts_text (value_of p.version)))
+    ∷ (codes "yanked", boolean false)
+    ∷ (codes "links", text_or_null p.links)
+    ∷ (codes "rust_version", text_or_null (option_and_then value_of p.rust_version))
+    ∷ (codes "deps", array (items_of (flat_map (table_entries w) ts)))
+    ∷ (feature_rows (kept_lists ts features) ++ rows_if (codes "cksum") w.checksum)) no_members)
 
--- that of a manifest, which was read from the text
+-- that of a manifest, which was read from the document, or from the text
+abbrev pub data_in : {M : Type 0} → Wanted → TomlMembers → ManifestMeaning M → Option Data
+data_in w document m =
+    option_map (line_data w (dependency_tables document m) m.features) m.«package»
+
 abbrev pub index_data : {M : Type 0} → Wanted → Text → ManifestMeaning M → Option Data
-index_data w text m =
-    option_map (line_data w (dependency_tables (written text) m) m.features) m.«package»
+index_data w text m = data_in w (written text) m

@@ -167,9 +167,6 @@ keeps_other_flag (simple r) = false
 keeps_other_flag (inherited i) = false
 keeps_other_flag (detailed d) = list_any (λ e. bytes_eq other_flag e.0) d.unstable
 
-abbrev pub has_other_flag : Option Members → Text × DependencyMeaning → Bool
-has_other_flag table e = is_some (written_flag table e.0 other_flag) || keeps_other_flag e.1
-
 -- a dependency that lacks its version is left out, if it is for tests
 abbrev pub unversioned_refusal : Kind → Text → Option Refusal
 unversioned_refusal Normal key = Some (fault.NoRequirement, key)
@@ -181,7 +178,8 @@ abbrev pub entry_refusal : List (Text × Text) → DependencyTable → Text × D
     → Option Refusal
 entry_refusal names t e =
     if is_left e.1 then Some (fault.Incomplete, e.0)
-    else if has_other_flag t.written e then Some (fault.OtherFlag, e.0)
+    else if is_some (written_flag t.written e.0 other_flag) || keeps_other_flag e.1
+    then Some (fault.OtherFlag, e.0)
     else if lacks_version e.1 then unversioned_refusal t.kind e.0
     else refuse_if (is_none (source_of names e.1)) fault.NoAddress e.0
 
@@ -230,13 +228,7 @@ is_error Warning = false
 abbrev pub finding_refusal : Finding → Option Refusal
 finding_refusal x = refuse_if (is_error (code_level x.code)) fault.Features x.feature.now
 
--- of what isn't published in the registry, or has features at fault, unless it is wanted so
-abbrev pub choice_refusal : {M : Type 0} → Wanted → List Finding → Members → PackageMeaning M
-    → Option Refusal
-choice_refusal w findings document p =
-    if w.force then None
-    else option_or (publish_refusal w document p.publish) (first_refusal finding_refusal findings)
-
+-- what isn't published in the registry, or has features at fault, may be wanted so
 abbrev pub package_refusal : {M : Type 0} → Wanted → List Finding → Members
     → List DependencyTable → PackageMeaning M → Option Refusal
 package_refusal w findings document ts p =
@@ -244,16 +236,18 @@ package_refusal w findings document ts p =
     (option_or
     (option_or (version_refusal document p.version) (first_refusal (table_refusal w.names) ts))
     (refuse_if (is_left_there p.rust_version) fault.Incomplete (codes "rust-version")))
-    (choice_refusal w findings document p)
+    (if w.force then None
+    else option_or (publish_refusal w document p.publish) (first_refusal finding_refusal findings))
 
-abbrev pub refusal_if_any : {M : Type 0} → Wanted → List Finding → Members
-    → List DependencyTable → Option (PackageMeaning M) → Option Refusal
-refusal_if_any w findings document ts None = Some (fault.NoPackage, [])
-refusal_if_any w findings document ts (Some p) = package_refusal w findings document ts p
+-- why an index doesn't take the crate of a manifest, which was read from the document, where lint
+-- finds this of it; `None` where it takes it
+abbrev pub refusal_in : {M : Type 0} → Wanted → List Finding → Members → ManifestMeaning M
+    → Option Refusal
+refusal_in w findings document m = option_map_or
+    (package_refusal w findings document (dependency_tables document m))
+    m.«package» (Some (fault.NoPackage, []))
 
--- why an index doesn't take the crate of a manifest, which was read from the text, where lint finds
--- this of it; `None` where it takes it
+-- the same of one that was read from the text
 abbrev pub refusal_of : {M : Type 0} → Wanted → List Finding → Text → ManifestMeaning M
     → Option Refusal
-refusal_of w findings text m =
-    refusal_if_any w findings (written text) (dependency_tables (written text) m) m.«package»
+refusal_of w findings text m = refusal_in w findings (written text) m

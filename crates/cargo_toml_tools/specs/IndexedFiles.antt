@@ -1,23 +1,22 @@
 -- What `index` answers of a text of a file.
-use Rattle.std.specs.Prelude.{◌≡◌, ◌⊎◌, ◌++◌, [], ◌∷◌, List, None, Option, Result, Some, ⊤}
-use Rattle.std.specs.Prelude.{codes, option_and_then}
+use Rattle.std.specs.Prelude.{◌≡◌, ◌⊎◌, ◌++◌, [], ◌∷◌, List, None, Option, Result, Some, ⊤, codes}
+use Rattle.std.specs.Prelude.{option_and_then}
 use Rattle.std.specs.{BTreeMap.BTreeMap, BTreeMap.get_by, Borrow.Bor, Cmp.Lexicographic.slice_cmp}
 use Rattle.std.specs.{Option.option_copied, Option.option_or, Ordering.nat_cmp}
-use Rattle.std.specs.declared.fmt.{Error.Error as FmtError, Formatter.Formatter}
+use Rattle.std.specs.{declared.fmt.Error.Error as FmtError, declared.fmt.Formatter.Formatter}
 use Rattle.semver.specs.Identifiers.{parts_text}
 use Rattle.serde_json.specs.{Data.Data, Written.IsInOrder}
 use Rattle.toml.specs.declared.value.Value.{Value}
+use Rattle.cargo_toml.specs.Manifests.{held, ManifestMeaning}
 use Rattle.cargo_toml.specs.{Action.Text, InheritableValues.value_of, Manifest.Manifest}
-use Rattle.cargo_toml.specs.{Manifests.held, Manifests.ManifestMeaning}
 use Rattle.cargo_toml_parts.specs.OwnWords.{HasOwnWords, WritesSome}
 use Rattle.cargo_toml_lint.specs.declared.finding.Finding.{Finding}
 use Rattle.cargo_toml_tools.specs.FromFiles.{IsCompletedIn, IsOfInput, IsUncompleted}
-use Rattle.cargo_toml_tools.specs.{IndexEntries.index_data, Indexed.Wanted, Indexed.refusal_of}
-use Rattle.cargo_toml_tools.specs.{Linted.AreFindingsOf, Sections.told}
-use Rattle.cargo_toml_tools.specs.{declared.files.indexing.Fault.Fault}
+use Rattle.cargo_toml_tools.specs.Indexed.{Wanted, refusal_of}
+use Rattle.cargo_toml_tools.specs.{IndexEntries.index_data, declared.index.IndexError.IndexError}
+use Rattle.cargo_toml_tools.specs.{Linted.AreFindingsOf, declared.files.indexing.Fault.Fault}
+use Rattle.cargo_toml_tools.specs.{Sections.told, declared.index.IndexError.TheVariants.Memory}
 use Rattle.cargo_toml_tools.specs.declared.files.indexing.Fault.TheVariants as fault
-use Rattle.cargo_toml_tools.specs.declared.index.IndexError.{IndexError}
-use Rattle.cargo_toml_tools.specs.declared.index.IndexError.TheVariants.{Memory}
 
 -- the text reads and completes as this manifest, of which lint finds this
 pub record IsLookedAt (path text : Text) (m : Manifest Value) (findings : List Finding)

@@ -19,9 +19,7 @@ use std::fmt::Write;
 /// by default, and what it turns on, by any number of steps. Optional dependencies that serve as
 /// features stand in a table of their own. Hidden and private features are left out.
 impl TakesRows for String {
-    ghost use Rattle.std.specs.Prelude.{⊤};
-
-    ghost took = { λ _ _ _. ⊤ };
+    ghost took = { λ _ _ _. Unit {0} };
 
     fn take(&mut self, name: Option<&str>, rows: &[Row<'_>]) -> Result<(), AllocError> {
         self.push_str("# Features")?;
@@ -46,21 +44,17 @@ fn push_table(page: &mut String, rows: &[Row<'_>], is_listed: bool) -> Result<()
     if !is_listed {
         page.push_str("\n## Optional dependencies\n")?;
     }
-    page.push_str(table_head(has_texts))?;
+    page.push_str(if has_texts {
+        "\n| Feature | Text | Default | Features | Dependencies |\n|---|---|---|---|---|\n"
+    } else {
+        "\n| Feature | Default | Features | Dependencies |\n|---|---|---|---|\n"
+    })?;
     for row in rows {
         if row.is_listed == is_listed {
             push_row(page, row, has_texts)?;
         }
     }
     Ok(())
-}
-
-fn table_head(has_texts: bool) -> &'static str {
-    if has_texts {
-        "\n| Feature | Text | Default | Features | Dependencies |\n|---|---|---|---|---|\n"
-    } else {
-        "\n| Feature | Default | Features | Dependencies |\n|---|---|---|---|\n"
-    }
 }
 
 fn push_row(page: &mut String, row: &Row<'_>, has_texts: bool) -> Result<(), AllocError> {

@@ -1,4 +1,5 @@
 //! What the tools make of files: each manifest is read, completed and held here, on the heap.
+#![tactic(auto, using(std::proofs::lemmas::Result::err_from_is_err_and))]
 
 mod documenting;
 mod indexing;

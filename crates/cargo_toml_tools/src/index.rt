@@ -1,16 +1,15 @@
 //! The line of JSON that a registry's index has of a crate, by the rules of Cargo's.
-ghost use Rattle.std.specs.Prelude.{◌≡◌, ◌⊎◌, IfErr, IfOk, None, OnOk, Some, map, option_and_then};
-ghost use Rattle.std.specs.Prelude.{option_map, string_bytes};
+ghost use Rattle.std.specs.Prelude.{◌≡◌, ◌⊎◌, IfErr, IfOk, None, OnOk, Some, map, IsErrAnd};
+ghost use Rattle.std.specs.Prelude.{option_and_then, option_map, string_bytes};
 ghost use Rattle.std.specs.Option.{option_copied};
 ghost use Rattle.semver.specs.Identifiers.{parts_of, parts_text};
-ghost use Rattle.serde_json.specs.View.{members_view, view};
+ghost use Rattle.serde_json.specs.View.{view};
 ghost use Rattle.toml.specs.View.{table_view};
 ghost use Rattle.cargo_toml.specs.{InheritableValues.value_of, Inherits.inheritable_map};
 ghost use Rattle.cargo_toml.specs.{Manifests.held, Packages.held_package};
 ghost use Rattle.cargo_toml_tools.specs.declared.index.IndexError.TheVariants.{Memory};
-ghost use Rattle.cargo_toml_tools.specs.Indexed.{refusal_of, written};
-ghost use Rattle.cargo_toml_tools.specs.IndexEntries.{index_data, line_data};
-ghost use Rattle.cargo_toml_tools.specs.IndexEntries.{rows_of_package, with_rows};
+ghost use Rattle.cargo_toml_tools.specs.Indexed.{refusal_in, refusal_of, written};
+ghost use Rattle.cargo_toml_tools.specs.IndexEntries.{data_in, index_data, line_data};
 ghost use Rattle.cargo_toml_tools.specs.Sections.{lists_meaning, refused, table_of, told};
 ghost use Rattle.cargo_toml_tools.specs.Sections.{wanted_of};
 
@@ -68,9 +67,8 @@ impl From<AllocError> for IndexError {
 /// What each fault says above, in words.
 impl fmt::Display for IndexError {
     fn fmt<W: fmt::Write>(&self, f: &mut fmt::Formatter<W>) -> fmt::Result {
-        let (fault, name) = match self {
-            IndexError::Refused(fault, name) => (*fault, name),
-            IndexError::Memory => return f.write_str("out of memory"),
+        let IndexError::Refused(fault, name) = self else {
+            return f.write_str("out of memory");
         };
         match fault {
             Fault::NoPackage => f.write_str("there is no package"),
@@ -110,14 +108,32 @@ pub fn index_entry<M>(
     ensures entry { IfOk result (λ value. Some (view value)
         ≡ index_data (wanted_of options.entry) text.now (held manifest.now)) }
 {
-    let Some(package) = &manifest.package else {
-        return Err(error_of(alloc, (Fault::NoPackage, "")));
-    };
     let document = document_of(alloc, text)?;
-    let sections = sections(alloc, manifest, &document)?;
+    entry_of(alloc, manifest, &document, findings, options)
+}
+
+/// The same of the document that the manifest was read from.
+pub(crate) fn entry_of<M>(
+    alloc: Global,
+    manifest: &Manifest<M>,
+    document: &Table,
+    findings: &[Finding<'_>],
+    options: Options<'_>,
+) -> Result<Value, IndexError>
+    ensures taken { OnOk result (refusal_in (wanted_of options.entry) findings.now
+        (table_view document.now) (held manifest.now) ≡ None) }
+    ensures refused { IfErr result (λ e. (e ≡ Memory) ⊎ (told e ≡ refusal_in
+        (wanted_of options.entry) findings.now (table_view document.now) (held manifest.now))) }
+    ensures entry { IfOk result (λ value. Some (view value)
+        ≡ data_in (wanted_of options.entry) (table_view document.now) (held manifest.now)) }
+{
+    let Some(package) = &manifest.package else {
+        return refuse(alloc, (Fault::NoPackage, ""));
+    };
+    let sections = sections(alloc, manifest, document)?;
     let sections = sections.as_slice();
-    if let Some(refusal) = package_refusal(package, &document, sections, findings, options) {
-        return Err(error_of(alloc, refusal));
+    if let Some(refusal) = package_refusal(package, document, sections, findings, options) {
+        return refuse(alloc, refusal);
     }
     Ok(line_of(alloc, package, sections, &manifest.features, options)?)
 }
@@ -133,17 +149,15 @@ fn document_of(alloc: Global, text: &str) -> Result<Table, AllocError>
     }
 }
 
-fn error_of(alloc: Global, refusal: Refusal<'_>) -> IndexError
-    ensures { (result ≡ Memory) ⊎ (told result ≡ Some (refused refusal.entry)) }
+fn refuse(alloc: Global, refusal: Refusal<'_>) -> Result<Value, IndexError>
+    ensures { IsErrAnd result (λ e. (e ≡ Memory) ⊎ (told e ≡ Some (refused refusal.entry))) }
 {
     let (fault, subject) = refusal;
-    match String::from_str(alloc, subject) {
-        Ok(name) => IndexError::Refused(fault, name),
-        Err(_) => IndexError::Memory,
-    }
+    Err(IndexError::Refused(fault, String::from_str(alloc, subject)?))
 }
 
 /// The line of a crate that an index takes.
+#[tactic(auto, using(crate::proofs::Placed::with_both))]
 fn line_of<M>(
     alloc: Global,
     package: &Package<M>,
@@ -155,31 +169,23 @@ fn line_of<M>(
         (map table_of sections.now) (lists_meaning features.now)
         (held_package «package».now)) }
 {
+    let version = version_text(alloc, &package.version)?;
     let mut line = Map::new(alloc);
-    put_package(alloc, &mut line, package)?;
+    put_text(alloc, &mut line, "name", Some(package.name.as_str()))?;
+    put_text(alloc, &mut line, "vers", version.as_deref())?;
+    put(&mut line, alloc, "yanked", Value::from(false))?;
+    put_text(alloc, &mut line, "links", package.links.as_deref())?;
+    put_text(
+        alloc,
+        &mut line,
+        "rust_version",
+        stated(&package.rust_version),
+    )?;
     let entries = entries(alloc, options, sections)?;
     put(&mut line, alloc, "deps", Value::from(entries))?;
     put_features(alloc, &mut line, sections, features)?;
     put_text_if(alloc, &mut line, "cksum", options.checksum)?;
     Ok(Value::from(line))
-}
-
-/// The members that are of the package alone.
-fn put_package<M>(
-    alloc: Global,
-    line: &mut Map<String, Value>,
-    package: &Package<M>,
-) -> Result<(), AllocError>
-    ensures { OnOk result (members_view line.new.entries
-        ≡ with_rows (rows_of_package (held_package «package».now))
-        (members_view line.old.entries)) }
-{
-    let version = version_text(alloc, &package.version)?;
-    put_text(alloc, line, "name", Some(package.name.as_str()))?;
-    put_text(alloc, line, "vers", version.as_deref())?;
-    put(line, alloc, "yanked", Value::from(false))?;
-    put_text(alloc, line, "links", package.links.as_deref())?;
-    put_text(alloc, line, "rust_version", stated(&package.rust_version))
 }
 
 fn version_text(alloc: Global, version: &Inheritable<SemVer>) -> Result<Option<String>, AllocError>

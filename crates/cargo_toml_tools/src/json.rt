@@ -1,8 +1,7 @@
 //! Values of JSON that several tools make.
 ghost use Rattle.std.specs.Prelude.{◌≡◌, IfOk, OnOk, map, string_bytes};
 ghost use Rattle.std.specs.Option.{option_copied};
-ghost use Rattle.serde_json.specs.Data.{put as with_member};
-ghost use Rattle.serde_json.specs.View.{members_view, view};
+ghost use Rattle.serde_json.specs.{Data.put as with_member, View.members_view, View.view};
 ghost use Rattle.cargo_toml_tools.specs.IndexEntries.{rows_if, text_array, text_or_null, with_rows};
 
 use serde_json::{Map, Value, push, put};

@@ -177,26 +177,24 @@ fn index<'a>(
         };
         names.push(named)?;
     }
-    let mut wanted = Wanted {
+    let checksum = matches.get_str("checksum");
+    let is_one = inputs.files.len() == 1 && inputs.from.is_none();
+    if checksum.is_some_and(|text| !is_one || !is_checksum(text)) {
+        return refused(
+            alloc,
+            "a checksum is 64 hex digits in lower case, of one FILE",
+        );
+    }
+    let wanted = Wanted {
         registry: matches.get_str("registry").unwrap_or(CRATES_IO),
         names,
-        checksum: None,
+        checksum,
         checksums: matches.get_str("checksums"),
         force: matches.get_flag("force"),
         with_names: matches.get_flag("with-names"),
         layout: matches.get_str("layout"),
     };
-    match matches.get_str("checksum") {
-        Some(text) if inputs.files.len() == 1 && inputs.from.is_none() && is_checksum(text) => {
-            wanted.checksum = Some(text);
-            Ok(Request::Index(inputs, wanted))
-        }
-        Some(_) => refused(
-            alloc,
-            "a checksum is 64 hex digits in lower case, of one FILE",
-        ),
-        None => Ok(Request::Index(inputs, wanted)),
-    }
+    Ok(Request::Index(inputs, wanted))
 }
 
 fn judging_of<'a>(alloc: Global, matches: &ArgMatches<'a>) -> Result<Judging<'a>, AllocError> {
@@ -217,8 +215,6 @@ fn strings<'a>(
 
 /// Whether the text is a SHA-256 as an index writes it.
 fn is_checksum(text: &str) -> bool {
-    text.len() == 64
-        && text
-            .bytes()
-            .all(|byte| matches!(byte, b'0'..=b'9' | b'a'..=b'f'))
+    let is_digit = |byte: u8| matches!(byte, b'0'..=b'9' | b'a'..=b'f');
+    text.len() == 64 && text.bytes().all(is_digit)
 }

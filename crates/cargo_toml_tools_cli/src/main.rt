@@ -27,14 +27,8 @@ fn answer<R: Files + Input + Print + Eprint + RandomSource + Clock + AllocGlobal
         | Request::Lint(inputs, _)
         | Request::Document(inputs, _) => Run::new(rt, shows)?.answer_each(request, inputs),
         Request::Audit(folder, as_json) => Run::new(rt, shows)?.audit(*folder, *as_json),
-        Request::Text(text) => {
-            print!(rt; "{text}")?;
-            Ok(Outcome::Done)
-        }
-        Request::NoCommand(text) => {
-            eprint!(rt; "{text}")?;
-            Ok(Outcome::NoCommand)
-        }
+        Request::Text(text) => print!(rt; "{text}").map(|_| Outcome::Done),
+        Request::NoCommand(text) => eprint!(rt; "{text}").map(|_| Outcome::NoCommand),
     }
 }
 
@@ -56,26 +50,19 @@ impl<R: Env> Env for Unnamed<'_, R> {
     }
 }
 
-/// The words of the command line, of which the first is empty; none where one of them is no text.
-fn arguments<R: Env + AllocGlobal>(rt: &R) -> io::Result<Option<Vec<String>>> {
-    match env::args(&(Unnamed(rt), rt.alloc())) {
-        Ok(words) => Ok(Some(words.collect(rt.alloc())?)),
-        Err(fault) if fault.kind() == io::ErrorKind::OutOfMemory => Err(fault),
-        Err(_) => Ok(None),
-    }
-}
-
+/// Does what the words of the command line ask for, of which the first is empty.
 fn run<R: Env + Files + Input + Print + Eprint + RandomSource + Clock + AllocGlobal>(
     rt: &R,
     shows: bool,
 ) -> io::Result<Outcome> {
-    match arguments(rt)? {
-        Some(words) => answer(rt, &read_request(rt.alloc(), words.as_slice())?, shows),
-        None => {
-            eprintln!(rt; "error: a word is no text")?;
-            Ok(Outcome::NoCommand)
+    let words: Vec<String> = match env::args(&(Unnamed(rt), rt.alloc())) {
+        Ok(words) => words.collect(rt.alloc())?,
+        Err(fault) if fault.kind() == io::ErrorKind::OutOfMemory => return Err(fault),
+        Err(_) => {
+            return eprintln!(rt; "error: a word is no text").map(|_| Outcome::NoCommand);
         }
-    }
+    };
+    answer(rt, &read_request(rt.alloc(), words.as_slice())?, shows)
 }
 
 fn main(rt: HostRuntime) -> ExitCode {

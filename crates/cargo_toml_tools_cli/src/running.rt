@@ -62,8 +62,7 @@ impl<'a, R: Files + Input + Print + Eprint + RandomSource + Clock + AllocGlobal>
         let files = self.files_of(inputs, &mut outcome)?;
         self.files = files.len();
         for file in &files {
-            let one = self.answer_one(request, &sums, file.as_str())?;
-            outcome = one.max(outcome);
+            outcome = outcome.max(self.answer_one(request, &sums, file.as_str())?);
         }
         self.clear()?;
         Ok(outcome)
@@ -88,11 +87,7 @@ impl<'a, R: Files + Input + Print + Eprint + RandomSource + Clock + AllocGlobal>
         }
         if let Some(folder) = inputs.workspace {
             match members(self.rt, folder, self.began.is_some()) {
-                Ok(found) => {
-                    for file in &found {
-                        files.push(file.clone()?)?;
-                    }
-                }
+                Ok(found) => files.extend(found)?,
                 Err(fault) => *outcome = self.refuse_folder(folder, fault)?,
             }
         }
@@ -173,33 +168,30 @@ impl<'a, R: Files + Input + Print + Eprint + RandomSource + Clock + AllocGlobal>
         fault: F,
     ) -> io::Result<Outcome> {
         self.clear()?;
-        let rt = self.rt;
-        let words = format!(in rt.alloc(); "{fault}")?;
-        let lines = refusal_lines(rt.alloc(), file, text, words.as_str())?;
-        eprint!(rt; "{lines}")?;
+        let alloc = self.rt.alloc();
+        let words = format!(in alloc; "{fault}")?;
+        let lines = refusal_lines(alloc, file, text, words.as_str())?;
+        eprint!(self.rt; "{lines}")?;
         Ok(Outcome::Refused)
     }
 
     /// Tells why there is no report on the workspace around a folder.
     fn refuse_folder(&mut self, folder: &str, fault: Error) -> io::Result<Outcome> {
-        let unread = match &fault {
-            Error::Io(_) | Error::Memory => None,
-            _ => unread_above(self.rt, folder)?,
-        };
-        match unread {
-            Some((file, text)) => self.refuse(file.as_str(), text.as_str(), fault),
-            None => self.refuse(folder, "", fault),
+        if !matches!(fault, Error::Io(_) | Error::Memory) {
+            if let Some((file, text)) = unread_above(self.rt, folder)? {
+                return self.refuse(file.as_str(), text.as_str(), fault);
+            }
         }
+        self.refuse(folder, "", fault)
     }
 
     /// Tells a terminal how many files are done, where that lasts over a second.
     fn step(&mut self) -> io::Result<()> {
-        let rt = self.rt;
         if let Some(began) = self.began {
-            let tenths = began.elapsed(rt)?.as_millis() / 100;
+            let tenths = began.elapsed(self.rt)?.as_millis() / 100;
             if tenths > 10 && tenths != self.told {
                 self.told = tenths;
-                eprint!(rt; "\r{} of {} files", self.done, self.files)?;
+                eprint!(self.rt; "\r{} of {} files", self.done, self.files)?;
             }
         }
         self.done = self.done.saturating_add(1);
@@ -212,8 +204,7 @@ impl<'a, R: Files + Input + Print + Eprint + RandomSource + Clock + AllocGlobal>
             return Ok(());
         }
         self.told = 0;
-        let rt = self.rt;
-        eprint!(rt; "\r\u{1b}[K")
+        eprint!(self.rt; "\r\u{1b}[K")
     }
 }
 
@@ -246,8 +237,7 @@ fn made_of<R: Files + RandomSource + AllocGlobal>(
 }
 
 /// A text that is a line.
-fn as_line(made: String) -> Result<(String, bool), Error> {
-    let mut line = made;
+fn as_line(mut line: String) -> Result<(String, bool), Error> {
     line.push_str("\n")?;
     Ok((line, false))
 }

@@ -3,7 +3,7 @@ use cargo_toml::Error;
 use cargo_toml_audit::audit::{Code, Finding, json, lines};
 use cargo_toml_audit::auditing::audit;
 use cargo_toml_audit::members::{manifest_path, seen_from};
-use cargo_toml_check::check::{Told, faults_in};
+use cargo_toml_check::check::faults_in;
 use cargo_toml_tools::files::text_in;
 use std::alloc::{AllocError, Global};
 use std::collections::BTreeSet;
@@ -27,12 +27,11 @@ pub(crate) fn report_text<R: Files + Eprint + RandomSource + AllocGlobal>(
         push_told(rt, here.as_str(), finding, &mut findings)?;
     }
     report.findings = findings;
-    let text = if as_json {
-        json(alloc, &report)?
-    } else {
-        lines(alloc, &report)?
-    };
-    Ok((text, !report.findings.is_empty()))
+    let odd = !report.findings.is_empty();
+    if as_json {
+        return Ok((json(alloc, &report)?, odd));
+    }
+    Ok((lines(alloc, &report)?, odd))
 }
 
 /// Adds a finding, or one for each part at fault where it is of a manifest that doesn't read.
@@ -54,7 +53,11 @@ fn push_told<R: Files + AllocGlobal>(
         return push_finding(finding, finding.words.clone()?, findings);
     }
     for told in &faults {
-        push_finding(finding, told_words(alloc, file.as_str(), told)?, findings)?;
+        let (line, column) = told.place;
+        let colon = if told.key.is_empty() { "" } else { ": " };
+        let words = told.words.as_str().trim_end();
+        let words = format!(in alloc; "{file}:{line}:{column}: {}{colon}{words}", told.key)?;
+        push_finding(finding, words, findings)?;
     }
     Ok(())
 }
@@ -72,15 +75,6 @@ fn push_finding(
         words,
     })?;
     Ok(())
-}
-
-fn told_words(alloc: Global, file: &str, told: &Told) -> Result<String, AllocError> {
-    let (line, column) = told.place;
-    let words = told.words.as_str().trim_end();
-    if told.key.is_empty() {
-        return format!(in alloc; "{file}:{line}:{column}: {words}");
-    }
-    format!(in alloc; "{file}:{line}:{column}: {}: {words}", told.key)
 }
 
 /// The manifests of the members of the workspace around a folder, and of what is refused as one.

@@ -95,12 +95,8 @@ fn push_dependency_edges(graph: &mut String, feature: &Feature<'_>) -> Result<()
             let asked = Escaped(*asked, Format::Dot);
             write!(graph, "{}{asked}", comma_before(i))?;
         }
-        let style = if action.is_conditional {
-            ", style=dotted"
-        } else {
-            ""
-        };
-        writeln!(graph, "\"{style}];")?;
+        let style = action.is_conditional.then_some(", style=dotted");
+        writeln!(graph, "\"{}];", style.unwrap_or(""))?;
     }
     Ok(())
 }

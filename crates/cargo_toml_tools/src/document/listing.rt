@@ -4,8 +4,7 @@ ghost use Rattle.std.specs.Option.{option_copied};
 ghost use Rattle.cargo_toml.specs.{Action.Text, Graph.Table, Manifests.held, Reached.IsKeyed};
 ghost use Rattle.cargo_toml.specs.{Views.set_has};
 ghost use Rattle.cargo_toml_lint.specs.Linked.{AreFound, AreLinks};
-ghost use Rattle.cargo_toml_tools.specs.Documented.{AreRowsOf, IsOn, IsRowOf, is_internal};
-ghost use Rattle.cargo_toml_tools.specs.Documented.{is_shown, told_at};
+ghost use Rattle.cargo_toml_tools.specs.Documented.{AreRowsOf, IsOn, IsRowOf, is_internal, told_at};
 
 use super::reached::{Reached, reach};
 use cargo_toml::Manifest;
@@ -81,13 +80,12 @@ fn row_of<'m, S: BuildHasher>(
         ↔ IsOn t features.now (codes "default") x)
         → IsRowOf t features.now row feature.now) }
 {
-    let turns_on = reach(alloc, links, features, feature.key)?;
     Ok(Row {
         name: feature.key,
         is_listed: feature.explicit,
         doc: feature.doc,
         is_default: defaults.contains(feature.key),
-        turns_on,
+        turns_on: reach(alloc, links, features, feature.key)?,
     })
 }
 
@@ -100,14 +98,8 @@ fn told_at<'f, 'm, S: BuildHasher>(
     ensures { option_copied result ≡ told_at features.now has_default name.now }
 {
     let feature = features.get(name)?;
-    is_shown(feature, has_default).then_some(feature)
-}
-
-/// Whether a feature is told of: one that isn't private, and `default` where the manifest has it.
-fn is_shown(feature: &Feature<'_>, has_default: bool) -> bool
-    ensures { result ≡ is_shown has_default feature.now }
-{
-    !is_private(feature) && (has_default || feature.key != "default")
+    let is_shown = !is_private(feature) && (has_default || feature.key != "default");
+    is_shown.then_some(feature)
 }
 
 /// Whether a feature is hidden, by its name, or private, by its table.

@@ -69,8 +69,7 @@ fn is_beside<S: BuildHasher>(
 ) -> bool
     ensures { result ≡ is_beside features.now name.now other.now }
 {
-    match features.get(other) {
-        Some(feature) => feature.key != name && !is_private(feature),
-        None => false,
-    }
+    features
+        .get(other)
+        .is_some_and(|feature| feature.key != name && !is_private(feature))
 }

@@ -41,20 +41,13 @@ pub fn document_text<R: RandomSource + AllocGlobal>(
     ensures { IfErr result (IsUndocumented text.now) }
 {
     if dot {
-        return graph_of(rt, text);
+        let held = HeldManifest::from_str(rt.alloc(), text)?;
+        let resolved = resolved(rt, &*held.manifest)?;
+        return Ok(graph(rt.alloc(), &*held.manifest, &resolved)?);
     }
     let mut page = String::new(rt.alloc());
     document(rt, text, &mut page)?;
     Ok(page)
-}
-
-/// The graph of the features of the manifest in this text.
-fn graph_of<R: RandomSource + AllocGlobal>(rt: &R, text: &str) -> Result<String, Error>
-    ensures { IfErr result (IsUndocumented text.now) }
-{
-    let held = HeldManifest::from_str(rt.alloc(), text)?;
-    let resolved = resolved(rt, &*held.manifest)?;
-    Ok(graph(rt.alloc(), &*held.manifest, &resolved)?)
 }
 
 fn keep_every(_name: &str) -> bool

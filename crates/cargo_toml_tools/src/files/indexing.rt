@@ -3,7 +3,7 @@ ghost use Rattle.std.specs.Prelude.{◌≡◌, IfErr, IfOk, IsSome, OnOk, string
 ghost use Rattle.std.specs.{Option.option_copied, Path.path_parent};
 ghost use Rattle.cargo_toml.specs.{Error.Memory, Manifests.held};
 ghost use Rattle.cargo_toml_tools.specs.IndexedFiles.{IsIndexFault, IsLineOf, sum_at, sum_of};
-ghost use Rattle.cargo_toml_tools.specs.Sections.{wanted_of};
+ghost use Rattle.cargo_toml_tools.specs.{IndexedFiles.WritesOwnWords, Sections.wanted_of};
 ghost use Rattle.cargo_toml_tools.specs.declared.files.indexing.Fault.TheVariants as fault;
 
 use super::reading::{completed_of, findings_of};
@@ -50,8 +50,6 @@ impl From<AllocError> for Fault {
 
 /// The words of the fault inside.
 impl fmt::Display for Fault {
-    ghost use Rattle.cargo_toml_tools.specs.IndexedFiles.{WritesOwnWords};
-
     fn fmt<W: fmt::Write>(&self, f: &mut fmt::Formatter<W>) -> fmt::Result
         ensures words { WritesOwnWords W.write_str_gives f.old result self.now f.new }
     {

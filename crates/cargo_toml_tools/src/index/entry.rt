@@ -1,17 +1,16 @@
 //! The entries that an index has of a crate's dependencies.
-ghost use Rattle.std.specs.Prelude.{◌≡◌, ◌++◌, [], IfOk, OnOk, map, string_bytes};
+ghost use Rattle.std.specs.Prelude.{◌≡◌, [], IfOk, map, string_bytes};
 ghost use Rattle.std.specs.List.{flat_map};
 ghost use Rattle.serde_json.specs.View.{members_view, view};
 ghost use Rattle.cargo_toml.specs.Dependencies.{dependency_meaning};
-ghost use Rattle.cargo_toml_tools.specs.IndexEntries.{has_default, index_entries, index_rows};
-ghost use Rattle.cargo_toml_tools.specs.IndexEntries.{kind_text, req_text, required_version};
-ghost use Rattle.cargo_toml_tools.specs.IndexEntries.{table_entries, wanted_rows, with_rows};
+ghost use Rattle.cargo_toml_tools.specs.IndexEntries.{has_default, index_rows, kind_text, req_text};
+ghost use Rattle.cargo_toml_tools.specs.IndexEntries.{required_version, table_entries, with_rows};
 ghost use Rattle.cargo_toml_tools.specs.Sections.{table_of, wanted_of};
 
 use super::Options;
 use super::refusals::lacks_version;
 use super::registries::{elsewhere, source_of};
-use super::sections::Section;
+use super::sections::{Section, flag_in};
 use crate::json::{put_text, put_text_if, put_texts};
 use crate::requirement::required_version;
 use cargo_toml::Dependency;
@@ -21,8 +20,9 @@ use serde_json::{Map, Value, push, put};
 use std::alloc::{AllocError, Global};
 use toml::Value as Written;
 
-/// The entries of all dependencies.
-#[tactic(auto, using(crate::proofs::Grown::nested))]
+/// The entries of all dependencies. One with a path or a repository and no version has none: it is
+/// for tests.
+#[tactic(auto, using(crate::proofs::Placed::listed))]
 pub(super) fn entries(
     alloc: Global,
     options: Options<'_>,
@@ -34,40 +34,18 @@ pub(super) fn entries(
     let mut entries = Vec::new(alloc);
     for section in sections {
         for (key, dependency) in section.entries {
-            push_dependency(
-                alloc,
-                &mut entries,
-                options,
-                section,
-                (key.as_str(), dependency),
-            )?;
+            if lacks_version(dependency) {
+                continue;
+            }
+            let entry = entry(alloc, options, section, key.as_str(), dependency)?;
+            push(&mut entries, Value::from(entry))?;
         }
     }
     Ok(entries)
 }
 
-/// Adds the entry of a dependency, behind its key. One with a path or a repository and no version
-/// has none: it is for tests.
-fn push_dependency(
-    alloc: Global,
-    entries: &mut Vec<Value>,
-    options: Options<'_>,
-    section: &Section<'_>,
-    dependency: (&str, &Dependency),
-) -> Result<(), AllocError>
-    ensures { OnOk result (map view entries.new.items ≡ map view entries.old.items
-        ++ index_entries (wanted_of options.entry) (table_of section.now)
-        (dependency.entry.0.now, dependency_meaning dependency.entry.1.now)) }
-{
-    let (key, dependency) = dependency;
-    if lacks_version(dependency) {
-        return Ok(());
-    }
-    let entry = entry(alloc, options, section, key, dependency)?;
-    push(entries, Value::from(entry))
-}
-
 /// The entry of a dependency.
+#[tactic(auto, using(crate::proofs::Placed::wanted))]
 fn entry(
     alloc: Global,
     options: Options<'_>,
@@ -79,35 +57,21 @@ fn entry(
         ≡ with_rows (index_rows (wanted_of options.entry) (table_of section.now)
         (key.now, dependency_meaning dependency.now)) (members_view [])) }
 {
+    let requirement = requirement(alloc, dependency)?;
+    let optional = Value::from(dependency.optional());
+    let has_default = Value::from(has_default(section, key, dependency));
     let mut entry = Map::new(alloc);
-    put_wanted(alloc, &mut entry, section, key, dependency)?;
+    put_text(alloc, &mut entry, "name", Some(key))?;
+    put(&mut entry, alloc, "req", Value::from(requirement))?;
+    put_texts(alloc, &mut entry, "features", dependency.req_features())?;
+    put(&mut entry, alloc, "optional", optional)?;
+    put(&mut entry, alloc, "default_features", has_default)?;
     put_text_if(alloc, &mut entry, "package", dependency.package())?;
     put_text(alloc, &mut entry, "target", section.target)?;
     put_text(alloc, &mut entry, "kind", Some(kind_text(section.kind)))?;
     let registry = elsewhere(options.registry, source_of(options.names, dependency));
     put_text(alloc, &mut entry, "registry", registry)?;
     Ok(entry)
-}
-
-/// The members that say what a dependency asks for.
-fn put_wanted(
-    alloc: Global,
-    entry: &mut Map<String, Value>,
-    section: &Section<'_>,
-    key: &str,
-    dependency: &Dependency,
-) -> Result<(), AllocError>
-    ensures { OnOk result (members_view entry.new.entries
-        ≡ with_rows (wanted_rows (table_of section.now) key.now
-        (dependency_meaning dependency.now)) (members_view entry.old.entries)) }
-{
-    let requirement = requirement(alloc, dependency)?;
-    let has_default = has_default(section, key, dependency);
-    put_text(alloc, entry, "name", Some(key))?;
-    put(entry, alloc, "req", Value::from(requirement))?;
-    put_texts(alloc, entry, "features", dependency.req_features())?;
-    put(entry, alloc, "optional", Value::from(dependency.optional()))?;
-    put(entry, alloc, "default_features", Value::from(has_default))
 }
 
 /// The requirement on the version, as the index has it: `*` is any.
@@ -130,7 +94,7 @@ fn has_default(section: &Section<'_>, key: &str, dependency: &Dependency) -> boo
     let Dependency::Detailed(detail) = dependency else {
         return true;
     };
-    let flag = section.flag(key, "default-features");
+    let flag = flag_in(section, key, "default-features");
     detail.default_features || flag.and_then(Written::as_bool).unwrap_or(false)
 }
 

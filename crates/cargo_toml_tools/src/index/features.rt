@@ -1,13 +1,13 @@
 //! What the line of an index has of a crate's features.
-ghost use Rattle.std.specs.Prelude.{◌≡◌, ◌++◌, ◌∷◌, [], IfOk, OnOk, false, filter, map, true};
-ghost use Rattle.std.{specs.Prelude.string_bytes, specs.List.flat_map, specs.List.list_any};
+ghost use Rattle.std.specs.Prelude.{◌≡◌, [], IfOk, OnOk, false, filter, map, true, string_bytes};
+ghost use Rattle.std.specs.List.{flat_map, list_any};
 ghost use Rattle.serde_json.specs.View.{members_view};
 ghost use Rattle.cargo_toml.specs.Action.{item_of};
 ghost use Rattle.cargo_toml_package.specs.Replacing.{entries_meaning};
 ghost use Rattle.cargo_toml_tools.specs.IndexEntries.{feature_rows, is_extended, is_kept, is_newer};
 ghost use Rattle.cargo_toml_tools.specs.IndexEntries.{keeps, kept_lists, list_rows, stays};
-ghost use Rattle.cargo_toml_tools.specs.{IndexEntries.with_rows, Sections.lists_meaning};
-ghost use Rattle.cargo_toml_tools.specs.Sections.{table_of};
+ghost use Rattle.cargo_toml_tools.specs.IndexEntries.{with_rows};
+ghost use Rattle.cargo_toml_tools.specs.Sections.{lists_meaning, table_of};
 
 use super::refusals::lacks_version;
 use super::sections::Section;
@@ -39,7 +39,8 @@ pub(super) fn put_features(
     put(line, alloc, "v", Value::from(2u8))
 }
 
-/// Puts what stays of each list, and says whether one is extended.
+/// Puts what stays of each list, and says whether one is extended: then `features2` has it, and in
+/// `features` it is empty, so that others may name its feature.
 fn put_lists(
     alloc: Global,
     first: &mut Map<String, Value>,
@@ -59,36 +60,16 @@ fn put_lists(
     let mut has_second = false;
     for (name, texts) in features {
         let texts = kept(alloc, sections, texts.as_slice())?;
-        has_second |= put_list(alloc, first, second, name.as_str(), texts.as_slice())?;
+        let list = array(alloc, texts.as_slice())?;
+        if !is_extended(texts.as_slice()) {
+            put(first, alloc, name.as_str(), list)?;
+            continue;
+        }
+        put(first, alloc, name.as_str(), array(alloc, &[])?)?;
+        put(second, alloc, name.as_str(), list)?;
+        has_second = true;
     }
     Ok(has_second)
-}
-
-/// Puts a list, and says whether it is extended: then `features2` has it, and in `features` it is
-/// empty, so that others may name its feature.
-fn put_list(
-    alloc: Global,
-    first: &mut Map<String, Value>,
-    second: &mut Map<String, Value>,
-    name: &str,
-    texts: &[&str],
-) -> Result<bool, AllocError>
-    ensures first { OnOk result (members_view first.new.entries
-        ≡ with_rows (list_rows false (name.now, map (λ t. t.now) texts.now))
-        (members_view first.old.entries)) }
-    ensures second { OnOk result (members_view second.new.entries
-        ≡ with_rows (list_rows true (name.now, map (λ t. t.now) texts.now))
-        (members_view second.old.entries)) }
-    ensures extended { IfOk result (λ is. is ≡ is_extended (map (λ t. t.now) texts.now)) }
-{
-    let list = array(alloc, texts)?;
-    if !is_extended(texts) {
-        put(first, alloc, name, list)?;
-        return Ok(false);
-    }
-    put(first, alloc, name, array(alloc, &[])?)?;
-    put(second, alloc, name, list)?;
-    Ok(true)
 }
 
 /// The texts of a list that stay: no text that acts on a dependency that the line hasn't.
@@ -102,23 +83,11 @@ fn kept<'m>(
 {
     let mut all = Vec::new(alloc);
     for text in texts {
-        push_kept(&mut all, sections, text.as_str())?;
+        if is_kept(sections, text.as_str()) {
+            all.push(text.as_str())?;
+        }
     }
     Ok(all)
-}
-
-fn push_kept<'m>(
-    all: &mut Vec<&'m str>,
-    sections: &[Section<'_>],
-    text: &'m str,
-) -> Result<(), AllocError>
-    ensures { OnOk result (map (λ t. t.now) all.new.items ≡ map (λ t. t.now) all.old.items
-        ++ filter (is_kept (map table_of sections.now)) (text.now ∷ [])) }
-{
-    if is_kept(sections, text) {
-        all.push(text)?;
-    }
-    Ok(())
 }
 
 /// Whether a text of a list stays.
@@ -126,11 +95,7 @@ fn is_kept(sections: &[Section<'_>], text: &str) -> bool
     ensures { result ≡ is_kept (map table_of sections.now) text.now }
 {
     let action = read_action(text);
-    if action.acts() {
-        stays(sections, action.target)
-    } else {
-        true
-    }
+    !action.acts() || stays(sections, action.target)
 }
 
 /// Whether the line has a dependency of this key.
@@ -149,10 +114,9 @@ fn stays(sections: &[Section<'_>], key: &str) -> bool
 fn keeps(table: &DepsSet, key: &str) -> bool
     ensures { result ≡ keeps (entries_meaning table.now) key.now }
 {
-    match table.get(key) {
-        Some(dependency) => !lacks_version(dependency),
-        None => false,
-    }
+    table
+        .get(key)
+        .is_some_and(|dependency| !lacks_version(dependency))
 }
 
 /// Whether some text of a list is of the second version of the index.
@@ -166,9 +130,5 @@ fn is_newer(text: &str) -> bool
     ensures { result ≡ is_newer (item_of text.now) }
 {
     let action = read_action(text);
-    if action.acts() {
-        action.is_dep_only | action.is_conditional
-    } else {
-        false
-    }
+    action.acts() && (action.is_dep_only || action.is_conditional)
 }

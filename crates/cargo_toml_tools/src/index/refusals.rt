@@ -3,20 +3,18 @@ ghost use Rattle.std.specs.Prelude.{◌≡◌, map, option_map, string_bytes};
 ghost use Rattle.std.specs.List.{list_any};
 ghost use Rattle.semver.specs.Identifiers.{parts_of};
 ghost use Rattle.toml.specs.View.{table_view, view};
-ghost use Rattle.cargo_toml.specs.{Dependencies.dependency_meaning, Inheritable.TheVariants.Set};
-ghost use Rattle.cargo_toml.specs.{InheritedDependencies.is_left, InheritedPackages.is_left_there};
-ghost use Rattle.cargo_toml.specs.{Inherits.inheritable_map, Manifests.is_zero};
-ghost use Rattle.cargo_toml.specs.{Packages.held_package, Settings.publish_meaning};
-ghost use Rattle.cargo_toml_tools.specs.Indexed.{choice_refusal, entry_refusal, finding_refusal};
-ghost use Rattle.cargo_toml_tools.specs.Indexed.{first_refusal, has_other_flag, in_package};
-ghost use Rattle.cargo_toml_tools.specs.Indexed.{is_error, is_named, is_open, is_published};
-ghost use Rattle.cargo_toml_tools.specs.Indexed.{keeps_other_flag, lacks_version, package_refusal};
-ghost use Rattle.cargo_toml_tools.specs.Indexed.{publish_refusal, table_refusal, version_refusal};
+ghost use Rattle.cargo_toml.specs.{Dependencies.dependency_meaning, Inherits.inheritable_map};
+ghost use Rattle.cargo_toml.specs.{InheritedPackages.is_left_there, Packages.held_package};
+ghost use Rattle.cargo_toml.specs.{Settings.publish_meaning};
+ghost use Rattle.cargo_toml_tools.specs.Indexed.{entry_refusal, finding_refusal, first_refusal};
+ghost use Rattle.cargo_toml_tools.specs.Indexed.{in_package, is_named, is_open, keeps_other_flag};
+ghost use Rattle.cargo_toml_tools.specs.Indexed.{lacks_version, package_refusal, publish_refusal};
+ghost use Rattle.cargo_toml_tools.specs.Indexed.{table_refusal, version_refusal};
 ghost use Rattle.cargo_toml_tools.specs.Sections.{names_of, refused, table_of, wanted_of};
 
 use super::Options;
 use super::registries::{Named, address_named, source_of};
-use super::sections::{Section, table_in};
+use super::sections::{Section, flag_in, table_in};
 use cargo_toml::features::Kind;
 use cargo_toml::{Dependency, Inheritable, Package, Publish, SemVer};
 use cargo_toml_lint::{Finding, Level};
@@ -72,19 +70,6 @@ pub(super) fn package_refusal<'a, M>(
     if is_left_there(&package.rust_version) {
         return Some((Fault::Incomplete, "rust-version"));
     }
-    choice_refusal(package, document, findings, options)
-}
-
-/// The refusal of what a caller may want all the same.
-fn choice_refusal<'a, M>(
-    package: &'a Package<M>,
-    document: &Table,
-    findings: &'a [Finding<'a>],
-    options: Options<'a>,
-) -> Option<Refusal<'a>>
-    ensures { option_map refused result ≡ choice_refusal (wanted_of options.entry)
-        findings.now (table_view document.now) (held_package «package».now) }
-{
     if options.force {
         return None;
     }
@@ -99,19 +84,13 @@ fn version_refusal(version: &Inheritable<SemVer>, document: &Table) -> Option<Re
     let Inheritable::Set(version) = version else {
         return Some((Fault::Incomplete, "version"));
     };
-    let is_missing = is_zero(version) && in_package(document, "version").is_none();
-    is_missing.then_some((Fault::NoVersion, ""))
-}
-
-/// Whether the version is 0.0.0, with nothing behind it.
-fn is_zero(version: &SemVer) -> bool
-    ensures { result ≡ is_zero (Set (parts_of version.now)) }
-{
-    version.major == 0
+    let is_missing = version.major == 0
         && version.minor == 0
         && version.patch == 0
         && version.pre.is_empty()
         && version.build.is_empty()
+        && in_package(document, "version").is_none();
+    is_missing.then_some((Fault::NoVersion, ""))
 }
 
 /// What the table `package` has under a key.
@@ -167,9 +146,9 @@ fn entry_refusal<'a>(
         ≡ entry_refusal (names_of names.now) (table_of section.now)
         (key.now, dependency_meaning dependency.now) }
 {
-    if is_left(dependency) {
+    if matches!(dependency, Dependency::Inherited(_)) {
         Some((Fault::Incomplete, key))
-    } else if has_other_flag(section, key, dependency) {
+    } else if flag_in(section, key, "default_features").is_some() || keeps_other_flag(dependency) {
         Some((Fault::OtherFlag, key))
     } else if lacks_version(dependency) {
         // a dev-dependency is left out
@@ -183,21 +162,7 @@ fn entry_refusal<'a>(
     }
 }
 
-/// Whether a dependency is left to the workspace.
-fn is_left(dependency: &Dependency) -> bool
-    ensures { result ≡ is_left (dependency_meaning dependency.now) }
-{
-    matches!(dependency, Dependency::Inherited(_))
-}
-
-/// Whether the entry of a dependency has `default_features`, or what it inherits has it.
-fn has_other_flag(section: &Section<'_>, key: &str, dependency: &Dependency) -> bool
-    ensures { result ≡ has_other_flag (table_of section.now).written
-        (key.now, dependency_meaning dependency.now) }
-{
-    section.flag(key, "default_features").is_some() || keeps_other_flag(dependency)
-}
-
+/// Whether what a dependency inherits has `default_features`.
 fn keeps_other_flag(dependency: &Dependency) -> bool
     ensures { result ≡ keeps_other_flag (dependency_meaning dependency.now) }
 {
@@ -231,18 +196,11 @@ fn publish_refusal(
     let Inheritable::Set(publish) = publish else {
         return Some((Fault::Incomplete, "publish"));
     };
-    let is_published = is_published(options, document, publish);
-    (!is_published).then_some((Fault::NotPublished, ""))
-}
-
-fn is_published(options: Options<'_>, document: &Table, publish: &Publish) -> bool
-    ensures { result ≡ is_published (wanted_of options.entry) (table_view document.now)
-        (publish_meaning publish.now) }
-{
-    match publish {
+    let is_published = match publish {
         Publish::Flag(everywhere) => *everywhere || is_open(document),
         Publish::Registry(names) => names_registry(options, names.as_slice()),
-    }
+    };
+    (!is_published).then_some((Fault::NotPublished, ""))
 }
 
 /// Whether nothing is written of publishing, or that it is wanted. A package of version 0.0.0 reads
@@ -250,10 +208,7 @@ fn is_published(options: Options<'_>, document: &Table, publish: &Publish) -> bo
 fn is_open(document: &Table) -> bool
     ensures { result ≡ is_open (table_view document.now) }
 {
-    match in_package(document, "publish") {
-        Some(flag) => flag.as_bool().unwrap_or(false),
-        None => true,
-    }
+    in_package(document, "publish").is_none_or(|flag| flag.as_bool().unwrap_or(false))
 }
 
 /// Whether one of these names is that of the registry.
@@ -274,15 +229,9 @@ fn features_refusal<'a>(findings: &'a [Finding<'a>]) -> Option<Refusal<'a>>
     ensures { option_map refused result ≡ first_refusal finding_refusal findings.now }
 {
     for finding in findings {
-        if is_error(finding.code.level()) {
+        if matches!(finding.code.level(), Level::Error) {
             return Some((Fault::Features, finding.feature));
         }
     }
     None
-}
-
-fn is_error(level: Level) -> bool
-    ensures { result ≡ is_error level }
-{
-    matches!(level, Level::Error)
 }

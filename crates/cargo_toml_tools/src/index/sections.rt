@@ -1,12 +1,14 @@
 //! The tables of dependencies that a crate has, each with what is written of it.
+#![tactic(auto, using(crate::proofs::Grown::tables))]
+
 ghost use Rattle.std.specs.Prelude.{◌≡◌, ◌++◌, IfOk, OnOk, map, option_map};
 ghost use Rattle.std.specs.Option.{option_copied};
 ghost use Rattle.toml.specs.View.{table_view, view};
 ghost use Rattle.cargo_toml.specs.{Manifests.held, Targets.target_meaning};
 ghost use Rattle.cargo_toml_package.specs.Replacing.{entries_meaning};
-ghost use Rattle.cargo_toml_tools.specs.Indexed.{dependency_tables, name_in, other_name, place_of};
-ghost use Rattle.cargo_toml_tools.specs.Indexed.{section_in, table_at, table_in, table_name};
-ghost use Rattle.cargo_toml_tools.specs.Indexed.{target_tables, written_flag};
+ghost use Rattle.cargo_toml_tools.specs.Indexed.{dependency_tables, other_name, section_in};
+ghost use Rattle.cargo_toml_tools.specs.Indexed.{table_at, table_in, table_name, target_tables};
+ghost use Rattle.cargo_toml_tools.specs.Indexed.{written_flag};
 ghost use Rattle.cargo_toml_tools.specs.Sections.{table_of};
 
 use cargo_toml::features::Kind;
@@ -29,7 +31,6 @@ pub(super) struct Section<'a> {
 
 /// All tables of dependencies of a manifest, which was read from this document: its own, and then
 /// those of targets.
-#[tactic(auto, using(crate::proofs::Grown::tables))]
 pub(super) fn sections<'a, M>(
     alloc: Global,
     manifest: &'a Manifest<M>,
@@ -59,7 +60,7 @@ fn push_target<'a>(
     ensures { OnOk result (map table_of all.new.items ≡ map table_of all.old.items
         ++ target_tables (table_view document.now) (name.now, target_meaning target.now)) }
 {
-    let place = place_of(document, name);
+    let place = table_in(document, "target").and_then(|targets| table_in(targets, name));
     let name = Some(name);
     all.push(section_at(name, place, Kind::Normal, &target.dependencies))?;
     all.push(section_at(name, place, Kind::Build, &target.build_dependencies))?;
@@ -84,14 +85,6 @@ fn section_at<'a>(
         other_name: other_name(place, kind),
         entries,
     }
-}
-
-/// The table in which a target's tables are written.
-fn place_of<'a>(document: &'a Table, target: &str) -> Option<&'a Table>
-    ensures { option_map (λ t. table_view t.now) result
-        ≡ place_of (table_view document.now) target.now }
-{
-    table_in(table_in(document, "target")?, target)
 }
 
 /// The table of dependencies of a kind, as it is written.
@@ -126,25 +119,15 @@ fn other_name(place: Option<&Table>, kind: Kind) -> Option<&'static str>
 {
     match kind {
         Kind::Normal => None,
-        Kind::Dev => name_in(place?, "dev_dependencies"),
-        Kind::Build => name_in(place?, "build_dependencies"),
+        Kind::Dev => member(place?, "dev_dependencies").map(|_| "dev_dependencies"),
+        Kind::Build => member(place?, "build_dependencies").map(|_| "build_dependencies"),
     }
 }
 
-/// A name, where something is written under it.
-fn name_in(table: &Table, name: &'static str) -> Option<&'static str>
-    ensures { option_copied result ≡ name_in name.now (table_view table.now) }
+/// What is written under a key in the entry of a dependency.
+pub(super) fn flag_in<'a>(section: &Section<'a>, dependency: &str, key: &str) -> Option<&'a Value>
+    ensures { option_map (λ v. view v.now) result
+        ≡ written_flag (table_of section.now).written dependency.now key.now }
 {
-    member(table, name)?;
-    Some(name)
-}
-
-impl<'a> Section<'a> {
-    /// What is written under a key in the entry of a dependency.
-    pub(super) fn flag(&self, dependency: &str, key: &str) -> Option<&'a Value>
-        ensures { option_map (λ v. view v.now) result
-            ≡ written_flag (table_of self.now).written dependency.now key.now }
-    {
-        member(table_in(self.written?, dependency)?, key)
-    }
+    member(table_in(section.written?, dependency)?, key)
 }

@@ -1,28 +1,20 @@
-use Rattle.std.proofs.Common.{◌∙◌, Some, ap, map, option_map, sym}
-use Rattle.cargo_toml.specs.{Manifests.manifest_meaning, Packages.package_meaning}
-use Rattle.cargo_toml_tools.specs.Indexed.{dependency_tables, package_refusal, refusal_if_any, written}
-use Rattle.cargo_toml_tools.specs.{IndexEntries.line_data, Sections.refused, Sections.table_of, Sections.wanted_of}
+use Rattle.std.proofs.Common.{◌≡◌, ◌⊎◌, None, Some, subst}
+use Rattle.std.specs.Prelude.{IfErr, IfOk, OnOk}
+use Rattle.{serde_json.specs.View.view, cargo_toml.specs.Manifests.held}
+use Rattle.cargo_toml_tools.specs.{IndexEntries.data_in, Indexed.refusal_in, Sections.told, Sections.wanted_of, declared.index.IndexError.TheVariants.Memory}
 use Rattle.cargo_toml_tools.proofs.index.index_entry.Goals as goal
 
 pub returns-clause-taken : goal.returns-clause-taken
 returns-clause-taken g c =
-    let m = manifest_meaning (λ m. m) c.args.manifest.now in
-    let p = package_meaning (λ m. m) c.in-Some.package in
-    let w = wanted_of c.args.options in
-    let findings = c.args.findings.now in
-    let document = written c.args.text.now in
-    let tables = ap (map table_of) c.as_slice-sections.ensures.value ∙ c.in_ok-sections.ensures ∙ ap (λ d. dependency_tables d m) c.in_ok-document.ensures in
-    ap (refusal_if_any w findings document (dependency_tables document m)) (ap (option_map (package_meaning (λ m. m))) c.in-Some.is)
-    ∙ sym (ap (λ d. package_refusal w findings d (map table_of c.as_slice-sections.result.now) p) c.in_ok-document.ensures
-    ∙ ap (λ ts. package_refusal w findings document ts p) tables)
-    ∙ sym c.package_refusal.ensures ∙ ap (option_map refused) c.in_default-package_refusal.is
+    subst (λ d. OnOk c.entry_of.result (refusal_in (wanted_of c.args.options) c.args.findings.now d (held c.args.manifest.now) ≡ None))
+    c.in_ok-document.ensures c.entry_of.ensures.taken
+
+pub returns-clause-refused : goal.returns-clause-refused
+returns-clause-refused g c =
+    subst (λ d. IfErr c.entry_of.result (λ e. (e ≡ Memory) ⊎ (told e ≡ refusal_in (wanted_of c.args.options) c.args.findings.now d (held c.args.manifest.now))))
+    c.in_ok-document.ensures c.entry_of.ensures.refused
 
 pub returns-clause-entry : goal.returns-clause-entry
 returns-clause-entry g c =
-    let m = manifest_meaning (λ m. m) c.args.manifest.now in
-    let p = package_meaning (λ m. m) c.in-Some.package in
-    let w = wanted_of c.args.options in
-    let document = written c.args.text.now in
-    let tables = ap (map table_of) c.as_slice-sections.ensures.value ∙ c.in_ok-sections.ensures ∙ ap (λ d. dependency_tables d m) c.in_ok-document.ensures in
-    ap Some (c.in_ok-line_of.ensures ∙ ap (λ ts. line_data w ts m.features p) tables)
-    ∙ sym (ap (option_map (line_data w (dependency_tables document m) m.features)) (ap (option_map (package_meaning (λ m. m))) c.in-Some.is))
+    subst (λ d. IfOk c.entry_of.result (λ value. Some (view value) ≡ data_in (wanted_of c.args.options) d (held c.args.manifest.now)))
+    c.in_ok-document.ensures c.entry_of.ensures.entry

@@ -3,4 +3,4 @@ use Rattle.serde_json.specs.{Data.string, View.view}
 use Rattle.cargo_toml_tools.proofs.json.put_texts.Given as goal
 
 abbrev pub invariant-loop-text : goal.invariant-loop-text
-invariant-loop-text l = map view l.items.items ≡ map (λ t. string (string_bytes t)) (take l.text-index l.texts)
+invariant-loop-text l = map view l.items.items ≡ map string (map string_bytes (take l.text-index l.texts))

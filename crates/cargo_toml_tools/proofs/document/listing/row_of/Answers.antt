@@ -10,5 +10,5 @@ returns g c = λ t are told. record {
     λ h. (told c.args.feature.now.key.now).0 (sym c.contains.ensures ∙ h),
     λ on. c.contains.ensures ∙ (told c.args.feature.now.key.now).1 on,
   );
-  reached = c.in_ok-turns_on.ensures t are;
+  reached = c.in_ok-reach.ensures t are;
 }

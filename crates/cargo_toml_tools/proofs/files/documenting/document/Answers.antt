@@ -1,11 +1,4 @@
-use Rattle.std.proofs.{Common.rules, lemmas.Result.err_from_is_err_and}
 use Rattle.cargo_toml_tools.proofs.files.documenting.document.Goals as goal
-
-pub returns-in_err-held-clause-refused : goal.returns-in_err-held-clause-refused
-returns-in_err-held-clause-refused g c = search (rules, err_from_is_err_and)
-
-pub returns-in_err-resolved-clause-refused : goal.returns-in_err-resolved-clause-refused
-returns-in_err-resolved-clause-refused g c = search (rules, err_from_is_err_and)
 
 pub returns-clause-documented : goal.returns-clause-documented
 returns-clause-documented g c = record {

@@ -9,7 +9,7 @@ use std::alloc::{AllocError, Global};
 use std::collections::BTreeSet;
 use std::random::RandomSource;
 use std::rt::Files;
-use std::{fs, io};
+use std::{fs, io, mem};
 
 /// The report as text, and whether something is odd. Where a member doesn't read, what is at fault
 /// in it is told.
@@ -22,11 +22,10 @@ pub(crate) fn report_text<R: Files + Eprint + RandomSource + AllocGlobal>(
     let alloc = rt.alloc();
     let here = here(rt)?;
     let mut report = audit(rt, folder, shows)?;
-    let mut findings = Vec::new(alloc);
-    for finding in &report.findings {
-        push_told(rt, here.as_str(), finding, &mut findings)?;
+    let found = mem::replace(&mut report.findings, Vec::new(alloc));
+    for finding in found {
+        push_told(rt, here.as_str(), finding, &mut report.findings)?;
     }
-    report.findings = findings;
     let odd = !report.findings.is_empty();
     if as_json {
         return Ok((json(alloc, &report)?, odd));
@@ -38,7 +37,7 @@ pub(crate) fn report_text<R: Files + Eprint + RandomSource + AllocGlobal>(
 fn push_told<R: Files + AllocGlobal>(
     rt: &R,
     here: &str,
-    finding: &Finding,
+    finding: Finding,
     findings: &mut Vec<Finding>,
 ) -> Result<(), AllocError> {
     let alloc = rt.alloc();
@@ -50,30 +49,20 @@ fn push_told<R: Files + AllocGlobal>(
         }
     }
     if faults.is_empty() {
-        return push_finding(finding, finding.words.clone()?, findings);
+        findings.push(finding)?;
+        return Ok(());
     }
     for told in &faults {
         let (line, column) = told.place;
         let colon = if told.key.is_empty() { "" } else { ": " };
         let words = told.words.as_str().trim_end();
         let words = format!(in alloc; "{file}:{line}:{column}: {}{colon}{words}", told.key)?;
-        push_finding(finding, words, findings)?;
+        findings.push(Finding {
+            code: finding.code,
+            subject: finding.subject.clone()?,
+            words,
+        })?;
     }
-    Ok(())
-}
-
-/// Adds a finding with other words.
-fn push_finding(
-    finding: &Finding,
-    words: String,
-    findings: &mut Vec<Finding>,
-) -> Result<(), AllocError> {
-    let subject = finding.subject.clone()?;
-    findings.push(Finding {
-        code: finding.code,
-        subject,
-        words,
-    })?;
     Ok(())
 }
 

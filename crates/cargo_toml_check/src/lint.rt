@@ -18,8 +18,8 @@ use std::collections::BTreeSet;
 use std::fmt::Write;
 use std::random::RandomSource;
 
-/// What a line tells behind its place.
-const CELLS: [&str; 5] = ["level", "code", "feature", "text", "words"];
+/// What a line tells behind its place: the level, the code, the feature, the text and the words.
+type Cells<'a> = (&'a str, &'a str, &'a str, &'a str, &'a str);
 
 /// What is amiss with the features of the manifest in this text of a file, a line each, and whether
 /// something counts. A manifest that doesn't read has the finding `unreadable` for each part at
@@ -56,8 +56,8 @@ fn readable<R: RandomSource + AllocGlobal>(
     let mut lines = String::new(alloc);
     for (found, place) in kept.iter().zip(places.iter()) {
         let (level, code) = (found.code.level().name(), found.code.name());
-        let cells = [level, code, found.feature, found.text, found.code.words()];
-        lines.push_str(line_of(alloc, file, *place, &cells, judging.json)?.as_str())?;
+        let cells = (level, code, found.feature, found.text, found.code.words());
+        lines.push_str(line_of(alloc, file, *place, cells, judging.json)?.as_str())?;
     }
     Ok((lines, is_odd(kept.as_slice(), judging.denies_hints)))
 }
@@ -236,8 +236,8 @@ fn unreadable(alloc: Global, file: &str, text: &str, json: bool) -> Result<Strin
     let mut lines = String::new(alloc);
     for told in &faults_in(alloc, text)? {
         let words = told.words.as_str().trim_end();
-        let cells = ["error", "unreadable", told.key.as_str(), "", words];
-        lines.push_str(line_of(alloc, file, told.place, &cells, json)?.as_str())?;
+        let cells = ("error", "unreadable", told.key.as_str(), "", words);
+        lines.push_str(line_of(alloc, file, told.place, cells, json)?.as_str())?;
     }
     Ok(lines)
 }
@@ -247,24 +247,27 @@ fn line_of(
     alloc: Global,
     file: &str,
     place: Place,
-    cells: &[&str; 5],
+    cells: Cells<'_>,
     json: bool,
 ) -> Result<String, AllocError> {
+    let (level, code, feature, text, words) = cells;
     let mut line = String::new(alloc);
     if json {
         let mut object = Map::new(alloc);
         put_text(alloc, &mut object, "file", Some(file))?;
         put(&mut object, alloc, "line", Json::from(place.0))?;
         put(&mut object, alloc, "column", Json::from(place.1))?;
-        for (key, cell) in CELLS.iter().zip(cells.iter()) {
-            put_text(alloc, &mut object, *key, Some(*cell))?;
-        }
+        put_text(alloc, &mut object, "level", Some(level))?;
+        put_text(alloc, &mut object, "code", Some(code))?;
+        put_text(alloc, &mut object, "feature", Some(feature))?;
+        put_text(alloc, &mut object, "text", Some(text))?;
+        put_text(alloc, &mut object, "words", Some(words))?;
         line = Json::from(object).to_string(alloc)?;
     } else {
         push_place(&mut line, file, place)?;
-        for (index, cell) in cells.iter().enumerate() {
-            let before = if index == 0 { "" } else { " | " };
-            write!(line, "{before}{}", Escaped(*cell, Format::Line))?;
+        line.push_str(level)?;
+        for cell in &[code, feature, text, words] {
+            write!(line, " | {}", Escaped(*cell, Format::Line))?;
         }
     }
     line.push_str("\n")?;

@@ -1,8 +1,7 @@
-pub mod Joined
 pub mod Matched
 pub mod Paths
 pub mod Reports
-pub mod Sets
 pub mod Taking
+pub mod Texts
 pub mod Walked
 pub mod Walking

@@ -17,7 +17,7 @@ pub use Rattle.cargo_toml_audit.specs.Oddities.{Gain, Oddity, both, found_each, 
 pub use Rattle.cargo_toml_audit.specs.Steps.{AreListed, Visits, Walks, known_of}
 pub use Rattle.cargo_toml_audit.specs.declared.audit.Code.TheVariants.{Features, Incomplete, NoLints, NoTarget, NotInherited, OtherWorkspace, Outside, SameName, TwoWorkspaces, Unlisted, Unseen, WorkspaceWithin}
 pub use Rattle.cargo_toml_audit.{specs.Audited.IsMemberOf, specs.Audited.names_text, specs.Places.is_in, specs.Places.lies_in, specs.declared.audit.Audit.Audit}
-pub use Rattle.cargo_toml_audit.{specs.declared.audit.Finding.Finding, specs.declared.auditing.Lists.Lists, specs.declared.auditing.walk.Walk.Walk, specs.declared.members.walk.Looks.Looks}
+pub use Rattle.cargo_toml_audit.{specs.declared.audit.Finding.Finding, specs.declared.auditing.Known.Known, specs.declared.auditing.walk.Walk.Walk, specs.declared.members.walk.Looks.Looks}
 pub use Rattle.cargo_toml_discovery.{proofs.Faults.from_input}
 pub use Rattle.cargo_toml_manifest.{proofs.Meeting.completed_handed}
 pub use Rattle.cargo_toml_package.{specs.Replacing.entries_meaning}

@@ -1,5 +1,5 @@
 -- What a report takes of one place after the other.
-use Rattle.cargo_toml_audit.proofs.Reports.{[], ◌++◌, ◌∙◌, ◌∷◌, ◌≡◌, Audit, Base, Finding, Gain, Global, List, Oddity, Reading, Takes, Vec, ap, append-nil, append_assoc, both, gain_of, gain_of_all, oddities_of, only_found, refl, subst, sym}
+use Rattle.cargo_toml_audit.proofs.Reports.{[], ◌++◌, ◌∙◌, ◌∷◌, ◌≡◌, Audit, Base, Finding, Gain, Global, List, Oddity, Reading, Takes, Vec, ap, append-nil, append_assoc, both, gain_of, gain_of_all, oddities_of, only_found, refl, sym}
 
 abbrev pub nothing : Gain
 nothing = only_found []
@@ -19,9 +19,6 @@ takes_both g h a b c one two = record {
   inherited = two.inherited ∙ ap (λ t. t ++ h.inherited) one.inherited ∙ append_assoc _ g.inherited h.inherited;
   asked = two.asked ∙ ap (λ t. t ++ h.asked) one.asked ∙ append_assoc _ g.asked h.asked;
 }
-
-pub takes_these : (g h : Gain) (a b : Audit) → g ≡ h → Takes g a b → Takes h a b
-takes_these g h a b is t = subst (λ (x : Gain). Takes x a b) is t
 
 both_assoc : (g h k : Gain) → both (both g h) k ≡ both g (both h k)
 both_assoc g h k = λ i. record {

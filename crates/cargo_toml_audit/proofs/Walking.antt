@@ -1,7 +1,7 @@
 -- The places that are looked at, while some are waiting.
-use Rattle.cargo_toml_audit.proofs.Reports.{[], ℕ, ◌&&◌, ◌++◌, ◌+◌, ◌-◌, ◌||◌, ◌∙◌, ◌∷◌, ◌≡◌, Audit, Base, Bool, Global, List, MatchOption, None, Option, Reading, Reads, Some, String, Takes, Text, Vec, Visits, Walk, Walks, ap, append-nil, bytes_eq, cond, contains_text, ended, false, filter, filter-append, gain_of_all, inl, inr, is_excluded, is_in, is_member, looked, map, map-append, member_places, option_to_list, or-false, passed, places_read, refl, string_bytes, subst, sym, take, true}
-use Rattle.cargo_toml_audit.proofs.Sets.{one_more_in}
-use Rattle.cargo_toml_audit.proofs.Taking.{one_more_gain, takes_both, takes_nothing, takes_these}
+use Rattle.cargo_toml_audit.proofs.Reports.{[], ℕ, ◌&&◌, ◌++◌, ◌+◌, ◌-◌, ◌||◌, ◌∙◌, ◌∷◌, ◌≡◌, Audit, Base, Bool, Gain, Global, List, MatchOption, None, Option, Reading, Reads, Some, String, Takes, Text, Vec, Visits, Walk, Walks, ap, append-nil, bytes_eq, cond, contains_text, ended, false, filter, filter-append, gain_of_all, inl, inr, is_excluded, is_in, is_member, looked, map, map-append, member_places, option_to_list, or-false, passed, places_read, refl, string_bytes, subst, sym, take, true}
+use Rattle.cargo_toml_audit.proofs.Texts.{one_more_in}
+use Rattle.cargo_toml_audit.proofs.Taking.{one_more_gain, takes_both, takes_nothing}
 
 -- one place more
 one_more_place : (rs : List Reading) (r : Reading) (t : Text) → is_in (places_read (rs ++ r ∷ [])) t ≡ (is_in (places_read rs) t || bytes_eq r.place t)
@@ -49,7 +49,7 @@ module _ (base : Base) (first : List Text) where
       let r : Reading = record { place = place; content = at.content } in
       record {
         readings = w.readings ++ r ∷ [];
-        takes = takes_these _ _ old new (one_more_gain base w.readings r) (takes_both _ _ old now new w.takes at.takes);
+        takes = subst (λ (g : Gain). Takes g old new) (one_more_gain base w.readings r) (takes_both _ _ old now new w.takes at.takes);
         seen = λ t. at.seen t ∙ ap (λ b. b || bytes_eq place t) (w.seen t) ∙ sym (one_more_place w.readings r t);
         members = λ t. at.members t ∙ ap (λ b. b || (is_member at.content && bytes_eq place t)) (w.members t) ∙ sym (one_more_member w.readings r t);
         goes = λ all rest. w.goes all (subst (λ (ws : List Text). Reads base first ws w.readings all) (sym popped)

@@ -1,6 +1,6 @@
 -- What is told of a member.
-use Rattle.std.specs.Prelude.{◌≡◌, ◌||◌, Bool, false, true, List, [], ◌∷◌, Option, Some, String}
-use Rattle.std.specs.Prelude.{codes, map, option_map, string_bytes}
+use Rattle.std.specs.Prelude.{◌≡◌, ◌||◌, ◌==◌, Bool, false, true, List, Option, Some, String}
+use Rattle.std.specs.Prelude.{codes, if◌then◌else◌, length, map, option_map, string_bytes}
 use Rattle.std.specs.{List.join_by, Option.option_map_or, declared.alloc.Global.Global}
 use Rattle.semver.specs.Identifiers.{parts_text}
 use Rattle.cargo_toml.specs.InheritedPackages.{field_is_left, is_left_there}
@@ -12,8 +12,8 @@ use Rattle.cargo_toml_audit.specs.declared.audit.Member.{Member}
 
 -- the names of registries, with a comma between each two; none at all is `no`
 abbrev pub names_text : List Text → Text
-names_text [] = codes "no"
-names_text (name ∷ names) = join_by (λ text. text) (codes ", ") (name ∷ names)
+names_text names =
+    if length names == 0 then codes "no" else join_by (λ text. text) (codes ", ") names
 
 -- where a package may be published
 abbrev pub publish_text : Registries → Text

@@ -47,11 +47,8 @@ abbrev pub left_keys : {M : Type 0} → ManifestMeaning M → List Text
 left_keys m = left_fields m ++ flat_map left_dependency (entries_of m)
 
 -- the keys of the workspace's dependencies that are inherited
-abbrev pub inherited_by : Listed → List Text
-inherited_by e = named_if (e.1.0, is_left e.1.1)
-
 abbrev pub inherited_in : List Listed → List Text
-inherited_in es = flat_map inherited_by es
+inherited_in es = flat_map (λ e. named_if (e.1.0, is_left e.1.1)) es
 
 -- ---- what is asked for: a crate, by a requirement. Without a requirement nothing is
 pub record Asking : Type 0 where

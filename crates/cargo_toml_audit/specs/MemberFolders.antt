@@ -34,11 +34,9 @@ abbrev pub is_folder : There → Bool
 is_folder Folder = true
 is_folder _ = false
 
--- something lies there, or a folder where one is wanted
-abbrev pub is_there : Bool → There → Bool
-is_there wanted Folder = true
-is_there wanted Nothing = false
-is_there wanted _ = not wanted
+abbrev pub is_nothing : There → Bool
+is_nothing Nothing = true
+is_nothing _ = false
 
 -- ---- where an entry leads
 
@@ -58,19 +56,12 @@ is_plain behind_deep name = not behind_deep && not (is_pattern name)
 abbrev pub skips : Bool → Text → Bool
 skips behind_deep name = is_deep name || (behind_deep && (length name == 0))
 
--- the place of an entry that stands for itself
-abbrev pub own_if : Bool → Text → Text → List Text
-own_if holds root entry = if holds then place_of root entry ∷ [] else []
-
 module _ (d : Disk) where
-  abbrev pub path_if : Bool → Text → List Text
-  path_if wanted path = if is_there wanted (d.there path) then path ∷ [] else []
-
   -- the folders that lie right in one
   abbrev pub subfolders : Text → List Text
   subfolders folder =
       if is_folder (d.there folder)
-      then flat_map (path_if true) (map (path_join folder) (d.names folder)) else []
+      then filter (λ p. is_folder (d.there p)) (map (path_join folder) (d.names folder)) else []
 
   -- a folder, and those below it, so many levels of them
   abbrev pub below : ℕ → Text → List Text
@@ -89,7 +80,8 @@ module _ (d : Disk) where
   -- what a name leads to in a folder: itself, where something is there, or what its pattern matches
   abbrev pub further_in : Bool → Text → Text → List Text
   further_in behind_deep name folder =
-      if is_plain behind_deep name then path_if false (path_join folder name)
+      if is_plain behind_deep name
+      then (if is_nothing (d.there (path_join folder name)) then [] else path_join folder name ∷ [])
       else option_map_or (λ pattern. matched behind_deep pattern folder) (parts_of (chars name)) []
 
   -- right behind `**` from the folder and all below it
@@ -119,7 +111,8 @@ module _ (d : Disk) where
   -- the folders among that, or the entry itself where nothing lies there
   abbrev pub places_of : Text → Text → List Text
   places_of root entry =
-      own_if (length (led_to root entry) == 0) root entry ++ flat_map place_if (led_to root entry)
+      if length (led_to root entry) == 0 then place_of root entry ∷ []
+      else flat_map place_if (led_to root entry)
 
 -- ---- what was asked and answered
 

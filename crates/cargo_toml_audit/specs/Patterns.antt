@@ -1,7 +1,8 @@
 -- Which names a pattern matches.
 use Rattle.std.specs.Prelude.{◌++◌, ◌&&◌, ◌||◌, ◌==◌, ℕ, Bool, List, [], ◌∷◌, Option, Some, None}
 use Rattle.std.specs.Prelude.{true, false, if◌then◌else◌, bytes_eq, codes, fold, length, map}
-use Rattle.std.specs.{Prelude.nat_eq, Prelude.nat_le, Prelude.not, List.list_any}
+use Rattle.std.specs.{Prelude.nat_eq, Prelude.nat_le, Prelude.not}
+use Rattle.std.specs.List.{list_any, scan, zip}
 use Rattle.cargo_toml_audit.specs.declared.members.patterns.Mode.TheVariants.{Brackets, Others}
 use Rattle.cargo_toml_audit.specs.declared.members.patterns.Mode.TheVariants.{Plain, Star, Wrong}
 use Rattle.cargo_toml_audit.specs.declared.members.patterns.Token.TheVariants.{Just, Many, One}
@@ -38,10 +39,6 @@ is_among (first ∷ next ∷ []) c = nat_eq first c || (nat_eq next c || false)
 is_among (first ∷ next ∷ last ∷ others) c =
     if nat_eq next 45 then (nat_le first c && nat_le c last) || is_among others c
     else nat_eq first c || is_among (next ∷ last ∷ others) c
-
-abbrev pub is_range : List ℕ → Bool
-is_range (first ∷ next ∷ last ∷ others) = nat_eq next 45
-is_range _ = false
 
 abbrev pub accepts : Part → ℕ → Bool
 accepts many c = true
@@ -131,11 +128,8 @@ parts_if Plain parts = Some parts
 parts_if Star parts = Some parts
 parts_if _ parts = None
 
-abbrev pub whole_parts : Read → Option (List Part)
-whole_parts r = parts_if r.mode r.parts
-
 abbrev pub parts_of : List ℕ → Option (List Part)
-parts_of cs = whole_parts (read_all cs)
+parts_of cs = parts_if (read_all cs).mode (read_all cs).parts
 
 -- ---- the names of an entry
 
@@ -152,17 +146,9 @@ is_pattern name = list_any is_sign name
 
 -- ---- the code's own steps: nothing here has to be believed
 
--- of tests at all ends of a text, from the shortest on: whether some up to here holds
-abbrev pub scan : Bool → List Bool → List Bool
-scan some [] = []
-scan some (here ∷ rest) = (some || here) ∷ scan (some || here) rest
-
-abbrev pub shift : Part → List Bool → List ℕ → List Bool
-shift wanted [] cs = []
-shift wanted (here ∷ rest) [] = []
-shift wanted (here ∷ rest) (c ∷ cs) = (here && accepts wanted c) ∷ shift wanted rest cs
-
--- the row with one more character of the pattern
+-- of tests at all ends of a text, from the shortest on: the row with one more character of the
+-- pattern
 abbrev pub next : Bool → Part → List Bool → List ℕ → List Bool
-next true wanted reached cs = scan false reached
-next false wanted reached cs = false ∷ shift wanted reached cs
+next true wanted reached cs =
+    scan (λ some here. some || here) (λ some here. some || here) false reached
+next false wanted reached cs = false ∷ map (λ p. p.0 && accepts wanted p.1) (zip reached cs)

@@ -14,7 +14,6 @@ use Rattle.cargo_toml_audit.specs.declared.auditing.walk.Walk.{Walk}
 use Rattle.cargo_toml_audit.specs.{Entries.left_keys, MemberFolders.Disk, Oddities.oddities_of}
 use Rattle.cargo_toml_audit.specs.{Places.is_in, declared.audit.Audit.Audit}
 use Rattle.cargo_toml_audit.specs.{declared.audit.Finding.Finding, declared.auditing.Known.Known}
-use Rattle.cargo_toml_audit.specs.{declared.auditing.Lists.Lists, declared.auditing.place.Seen.Seen}
 
 abbrev pub known_of : Known → Knows
 known_of k = record {
@@ -50,19 +49,20 @@ module _ (base : Base) where
     pub takes : Takes (gain_of base place (belongs own errors m made)) old new
 
   -- what lies at a place is added
-  pub record AddsPlace (is_listed : Bool) (place : Text) (seen : Seen) (old new : Audit)
-      : Type 0 where
+  pub record AddsPlace (is_listed : Bool) (place : Text)
+      (seen : Bool × Vec (String Global) Global) (old new : Audit) : Type 0 where
     pub content : Content
     pub is : IsContent base is_listed place content
     pub takes : Takes (gain_of base place content) old new
-    pub member : seen.is_member ≡ is_member content
-    pub needs : map string_bytes seen.needs.items ≡ needs_of base place content
+    pub member : seen.0 ≡ is_member content
+    pub needs : map string_bytes seen.1.items ≡ needs_of base place content
 
   -- what the lists lead to on a disk was read, and what is found of them
-  pub record AreListed (disk : Disk) (lists : Lists) (old new : Vec Finding Global) : Type 0 where
-    pub first : map string_bytes lists.first.items ≡ first_places base disk
-    pub listed : (t : Text) → contains_text lists.listed t ≡ is_in (listed_places base disk) t
-    pub entered : (t : Text) → contains_text lists.entered t ≡ is_in (entered_places base disk) t
+  pub record AreListed (disk : Disk) (lists : Vec (String Global) Global × Known)
+      (old new : Vec Finding Global) : Type 0 where
+    pub first : map string_bytes lists.0.items ≡ first_places base disk
+    pub listed : (t : Text) → contains_text lists.1.listed t ≡ is_in (listed_places base disk) t
+    pub entered : (t : Text) → contains_text lists.1.entered t ≡ is_in (entered_places base disk) t
     pub found : oddities_of new
         ≡ oddities_of old ++ found_in_lists base (entered_places base disk)
 

@@ -86,34 +86,20 @@ fn report_on<R: Files + Eprint + RandomSource + AllocGlobal>(
     let mut looking = Looking::new(rt);
     let mut audit = Audit::new(String::from_str(alloc, root.place)?);
     let lists = read_lists(&mut looking, root, &mut audit.findings)?;
-    let members = add_members(rt, root, lists.first, &mut audit, shows)?;
-    let known = Known {
-        listed: lists.listed,
-        entered: lists.entered,
-        members,
-    };
+    let (first, mut known) = lists;
+    known.members = add_members(rt, root, first, &mut audit, shows)?;
     find_beside(&mut looking, root, (&known, asked), &mut audit.findings)?;
     audit.finish(root.workspace)?;
     Ok(audit)
 }
 
-/// The places that entries of `members` lead to.
-#[derive(Drop)]
-struct Lists {
-    /// Those that aren't excluded, and the root.
-    first: Vec<String>,
-    /// All.
-    listed: BTreeSet<String>,
-    /// Those that aren't excluded.
-    entered: BTreeSet<String>,
-}
-
-/// Reads where the entries of `members` lead, and finds what is odd of the lists.
+/// Reads where the entries of `members` lead, and finds what is odd of the lists. It answers those
+/// places that aren't excluded, with the root, and what is known by then: no members yet.
 fn read_lists<R: Files + AllocGlobal>(
     looking: &mut Looking<'_, R>,
     root: Root<'_>,
     findings: &mut Vec<Finding>,
-) -> AllocResult<Lists>
+) -> AllocResult<(Vec<String>, Known)>
     ensures { IfOk result (λ lists. OnDisks
         (λ d. AreListed (base_of root.entry) d lists findings.old findings.new)
         looking.old.looks looking.new.looks) }
@@ -122,14 +108,13 @@ fn read_lists<R: Files + AllocGlobal>(
     let all = looking.listed(root.place, root.workspace.members.as_slice())?;
     let mut first = included(alloc, root.place, root.workspace, all.as_slice())?;
     find_in_lists(alloc, root, first.as_slice(), findings)?;
-    let listed = set_of(alloc, all.as_slice())?;
-    let entered = set_of(alloc, first.as_slice())?;
+    let known = Known {
+        listed: set_of(alloc, all.as_slice())?,
+        entered: set_of(alloc, first.as_slice())?,
+        members: BTreeSet::new(alloc),
+    };
     first.push(String::from_str(alloc, root.place)?)?;
-    Ok(Lists {
-        first,
-        listed,
-        entered,
-    })
+    Ok((first, known))
 }
 
 /// Finds that the place that is asked for is no member's, default members that aren't, and what

@@ -13,6 +13,7 @@ use cargo_toml::Workspace;
 use patterns::{is_deep, tokens_of};
 use places::pieces;
 pub use places::{excludes, lies_in, manifest_path, place_of, seen_from};
+use sets::push_if;
 pub use sets::{note, repeats, set_of};
 use std::alloc::Global;
 pub use walk::{Listing, Looking, Looks, There, is_absent};
@@ -37,9 +38,7 @@ pub fn wrong_entries(alloc: Global, entries: &[String]) -> AllocResult<Vec<Strin
 {
     let mut all = Vec::new(alloc);
     for entry in entries {
-        if is_wrong(alloc, entry.as_str())? {
-            all.push(entry.clone()?)?;
-        }
+        push_if(&mut all, entry, is_wrong(alloc, entry.as_str())?)?;
     }
     Ok(all)
 }
@@ -57,9 +56,8 @@ pub fn included(
 {
     let mut all = Vec::new(alloc);
     for place in places {
-        if !excludes(alloc, root, workspace, place.as_str())? {
-            all.push(place.clone()?)?;
-        }
+        let is_included = !excludes(alloc, root, workspace, place.as_str())?;
+        push_if(&mut all, place, is_included)?;
     }
     Ok(all)
 }
@@ -70,14 +68,10 @@ pub fn unseen(alloc: Global, looks: &Looks) -> AllocResult<Vec<String>>
 {
     let mut all = Vec::new(alloc);
     for (path, there) in &looks.there {
-        if *there == There::Unseen {
-            all.push(path.clone()?)?;
-        }
+        push_if(&mut all, path, *there == There::Unseen)?;
     }
     for (folder, listing) in &looks.names {
-        if !listing.is_whole {
-            all.push(folder.clone()?)?;
-        }
+        push_if(&mut all, folder, !listing.is_whole)?;
     }
     Ok(all)
 }

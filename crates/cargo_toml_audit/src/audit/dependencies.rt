@@ -1,17 +1,15 @@
 //! The dependencies of a manifest side by side, what a manifest leaves to its workspace, and what
 //! members ask for.
-ghost use Rattle.std.specs.Prelude.{◌≡◌, ◌++◌, IfOk, OnOk, map, [], option_map, string_bytes, ◌||◌};
-ghost use Rattle.std.specs.Prelude.{ℕ, List, bytes_eq, false};
-ghost use Rattle.std.specs.{List.flat_map, Option.option_map_or, BTreeSet.contains_text};
-ghost use Rattle.cargo_toml.specs.InheritedPackages.{is_left_there, leavable_rows};
+ghost use Rattle.std.specs.Prelude.{◌≡◌, ◌++◌, ◌||◌, ℕ, IfOk, List, OnOk, bytes_eq, false, map};
+ghost use Rattle.std.specs.{Prelude.string_bytes, List.flat_map, BTreeSet.contains_text};
+ghost use Rattle.cargo_toml.specs.InheritedPackages.{is_left_there};
 ghost use Rattle.cargo_toml.specs.{Manifests.held, Reads.map_meaning, Targets.target_meaning};
 ghost use Rattle.cargo_toml.specs.{Dependencies.dependency_meaning, InheritedDependencies.is_left};
-ghost use Rattle.cargo_toml.specs.{Packages.held_package};
 ghost use Rattle.cargo_toml_package.specs.Replacing.{entries_meaning};
-ghost use Rattle.cargo_toml_tools.specs.Indexed.{table_name, target_by_kind};
-ghost use Rattle.cargo_toml_audit.specs.Entries.{asked_by, asked_in, asking_of, entries_of};
-ghost use Rattle.cargo_toml_audit.specs.Entries.{in_target, inherited_by, inherited_in, listed_of};
-ghost use Rattle.cargo_toml_audit.specs.Entries.{left_dependency, left_fields, named_if, with_kind};
+ghost use Rattle.cargo_toml_tools.specs.Indexed.{table_name};
+ghost use Rattle.cargo_toml_audit.specs.Entries.{asked_in, asking_of, entries_of, in_target};
+ghost use Rattle.cargo_toml_audit.specs.Entries.{inherited_in, left_dependency, left_fields};
+ghost use Rattle.cargo_toml_audit.specs.Entries.{listed_of, named_if, with_kind};
 ghost use Rattle.cargo_toml_audit.specs.Oddities.{asking_key, further_from, further_of, oddity_of};
 
 use super::findings::find_if;
@@ -19,7 +17,7 @@ use super::{Code, Finding, Use};
 use crate::AllocResult;
 use crate::members::note;
 use cargo_toml::features::Kind;
-use cargo_toml::{Dependency, DepsSet, Inheritable, Manifest, Package, Target, TargetDepsSet};
+use cargo_toml::{Dependency, DepsSet, Inheritable, Manifest, TargetDepsSet};
 use cargo_toml_package::inheriting::leavable_rows;
 use cargo_toml_tools::requirement::required_version;
 use cargo_toml_write::write::requirement::requirement_text;
@@ -55,18 +53,11 @@ fn add_targets<'a>(targets: &'a TargetDepsSet, all: &mut Vec<Entry<'a>>) -> Allo
         ++ flat_map in_target (map_meaning target_meaning targets.now)) }
 {
     for (_, target) in targets {
-        add_target(target, all)?;
+        add_table(Kind::Normal, &target.dependencies, all)?;
+        add_table(Kind::Dev, &target.dev_dependencies, all)?;
+        add_table(Kind::Build, &target.build_dependencies, all)?;
     }
     Ok(())
-}
-
-fn add_target<'a>(target: &'a Target, all: &mut Vec<Entry<'a>>) -> AllocResult<()>
-    ensures { OnOk result (map listed_of all.new.items ≡ map listed_of all.old.items
-        ++ flat_map with_kind (target_by_kind (target_meaning target.now))) }
-{
-    add_table(Kind::Normal, &target.dependencies, all)?;
-    add_table(Kind::Dev, &target.dev_dependencies, all)?;
-    add_table(Kind::Build, &target.build_dependencies, all)
 }
 
 fn add_table<'a>(kind: Kind, table: &'a DepsSet, all: &mut Vec<Entry<'a>>) -> AllocResult<()>
@@ -83,28 +74,15 @@ fn add_table<'a>(kind: Kind, table: &'a DepsSet, all: &mut Vec<Entry<'a>>) -> Al
     Ok(())
 }
 
-/// A key, and whether its value is left to the workspace.
-type Row = (&'static str, bool);
-
 /// The keys of the package that are left to the workspace, and `lints`, as they are written.
 pub fn inherited_keys<M>(alloc: Global, manifest: &Manifest<M>) -> AllocResult<Vec<String>>
     ensures { IfOk result (λ keys. map string_bytes keys.items ≡ left_fields (held manifest.now)) }
 {
-    let mut keys = package_keys(alloc, &manifest.package)?;
-    add_row(alloc, &mut keys, ("lints", !manifest.lints.is_set()))?;
-    Ok(keys)
-}
-
-fn package_keys<M>(alloc: Global, package: &Option<Package<M>>) -> AllocResult<Vec<String>>
-    ensures { IfOk result (λ keys. map string_bytes keys.items ≡ flat_map named_if
-        (option_map_or leavable_rows (option_map held_package «package».now) [])) }
-{
     let mut keys = Vec::new(alloc);
-    let Some(package) = package else {
-        return Ok(keys);
-    };
-    let rows = leavable_rows(package);
-    add_left(alloc, &mut keys, &rows)?;
+    if let Some(package) = &manifest.package {
+        add_left(alloc, &mut keys, &leavable_rows(package))?;
+    }
+    add_left(alloc, &mut keys, &[("lints", !manifest.lints.is_set())])?;
     Ok(keys)
 }
 
@@ -115,25 +93,16 @@ pub fn is_inherited(text: &Option<Inheritable<String>>) -> bool
     matches!(text, Some(Inheritable::Inherited))
 }
 
-fn add_left(alloc: Global, keys: &mut Vec<String>, rows: &[Row]) -> AllocResult<()>
+/// Adds the keys of those rows whose values are left to the workspace.
+fn add_left(alloc: Global, keys: &mut Vec<String>, rows: &[(&str, bool)]) -> AllocResult<()>
     ensures { OnOk result (map string_bytes keys.new.items ≡ map string_bytes keys.old.items
         ++ flat_map named_if (map (λ r. (r.0.now, r.1)) rows.now)) }
 {
-    for row in rows {
-        add_row(alloc, keys, *row)?;
+    for (key, is_left) in rows {
+        if *is_left {
+            keys.push(String::from_str(alloc, *key)?)?;
+        }
     }
-    Ok(())
-}
-
-fn add_row(alloc: Global, keys: &mut Vec<String>, row: Row) -> AllocResult<()>
-    ensures { OnOk result (map string_bytes keys.new.items
-        ≡ map string_bytes keys.old.items ++ named_if (row.entry.0.now, row.entry.1)) }
-{
-    let (key, is_left) = row;
-    if !is_left {
-        return Ok(());
-    }
-    keys.push(String::from_str(alloc, key)?)?;
     Ok(())
 }
 
@@ -149,26 +118,15 @@ pub fn add_inherited(
     ensures all { OnOk result (map string_bytes all.new.items
         ≡ map string_bytes all.old.items ++ inherited_in (map listed_of entries.now)) }
 {
-    for entry in entries {
-        add_entry(*entry, keys, all)?;
-    }
-    Ok(())
-}
-
-fn add_entry(entry: Entry<'_>, keys: &mut Vec<String>, all: &mut Vec<String>) -> AllocResult<()>
-    ensures keys { OnOk result (map string_bytes keys.new.items
-        ≡ map string_bytes keys.old.items ++ left_dependency (listed_of entry.entry)) }
-    ensures all { OnOk result (map string_bytes all.new.items
-        ≡ map string_bytes all.old.items ++ inherited_by (listed_of entry.entry)) }
-{
-    if !is_left(entry.dependency) {
-        return Ok(());
-    }
     let alloc = *keys.allocator();
-    let key = entry.key;
-    let table = table_name(entry.kind);
-    keys.push(format!(in alloc; "{table}.{key}")?)?;
-    all.push(String::from_str(alloc, key)?)?;
+    for entry in entries {
+        if is_left(entry.dependency) {
+            let table = table_name(entry.kind);
+            let key = entry.key;
+            keys.push(format!(in alloc; "{table}.{key}")?)?;
+            all.push(String::from_str(alloc, key)?)?;
+        }
+    }
     Ok(())
 }
 
@@ -194,30 +152,18 @@ pub fn add_uses(folder: &str, entries: &[Entry<'_>], uses: &mut Vec<Use>) -> All
     ensures { OnOk result (map asking_of uses.new.items
         ≡ map asking_of uses.old.items ++ asked_in (map listed_of entries.now)) }
 {
-    for entry in entries {
-        add_use(folder, *entry, uses)?;
-    }
-    Ok(())
-}
-
-/// Adds what a dependency asks for, where it has a requirement.
-fn add_use(folder: &str, entry: Entry<'_>, uses: &mut Vec<Use>) -> AllocResult<()>
-    ensures { OnOk result (map asking_of uses.new.items
-        ≡ map asking_of uses.old.items ++ asked_by (listed_of entry.entry)) }
-{
-    let Some(requirement) = required_version(entry.dependency) else {
-        return Ok(());
-    };
     let alloc = *uses.allocator();
-    let name = entry.dependency.package().unwrap_or(entry.key);
-    let name = String::from_str(alloc, name)?;
-    let requirement = requirement_text(alloc, requirement)?;
-    let folder = String::from_str(alloc, folder)?;
-    uses.push(Use {
-        name,
-        requirement,
-        folder,
-    })?;
+    for entry in entries {
+        let Some(requirement) = required_version(entry.dependency) else {
+            continue;
+        };
+        let name = entry.dependency.package().unwrap_or(entry.key);
+        uses.push(Use {
+            name: String::from_str(alloc, name)?,
+            requirement: requirement_text(alloc, requirement)?,
+            folder: String::from_str(alloc, folder)?,
+        })?;
+    }
     Ok(())
 }
 

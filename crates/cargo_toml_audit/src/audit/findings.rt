@@ -10,9 +10,9 @@ ghost use Rattle.cargo_toml_audit.specs.Oddities.{found_each, found_if, found_in
 ghost use Rattle.cargo_toml_audit.specs.Oddities.{differences, has_given, has_no_target, other_of};
 ghost use Rattle.cargo_toml_audit.specs.Oddities.{is_false, is_not_inherited, shared_oddities};
 ghost use Rattle.cargo_toml_audit.specs.Oddities.{leads_elsewhere, named_by, refusals};
-ghost use Rattle.cargo_toml_audit.specs.Entries.{entries_of, listed_of};
+ghost use Rattle.cargo_toml_audit.specs.Entries.{entries_of};
 
-use super::dependencies::{Entry, entries};
+use super::dependencies::entries;
 use super::{Code, Finding, Member, Root};
 use crate::AllocResult;
 use crate::members::place_of;
@@ -251,26 +251,16 @@ pub fn has_no_target<M>(manifest: &Manifest<M>) -> bool
 fn has_false<M>(alloc: Global, manifest: &Manifest<M>) -> AllocResult<bool>
     ensures { IfOk result (λ b. b ≡ is_not_inherited (entries_of (held manifest.now))) }
 {
-    let entries = entries(alloc, manifest)?;
-    Ok(is_not_inherited(entries.as_slice()))
-}
-
-fn is_not_inherited(entries: &[Entry<'_>]) -> bool
-    ensures { result ≡ is_not_inherited (map listed_of entries.now) }
-{
-    for entry in entries {
+    for entry in entries(alloc, manifest)?.as_slice() {
         if is_false(entry.dependency) {
-            return true;
+            return Ok(true);
         }
     }
-    false
+    Ok(false)
 }
 
 fn is_false(dependency: &Dependency) -> bool
     ensures { result ≡ is_false (dependency_meaning dependency.now) }
 {
-    match dependency {
-        Dependency::Inherited(detail) => !detail.workspace,
-        _ => false,
-    }
+    matches!(dependency, Dependency::Inherited(detail) if !detail.workspace)
 }

@@ -109,9 +109,8 @@ fn requirements(alloc: Global, audit: &Audit) -> AllocResult<BTreeMap<String, St
     let mut all: BTreeMap<String, String> = BTreeMap::new(alloc);
     let mut last = String::new(alloc);
     for one in &uses {
-        let mut words = all.remove(one.name.as_str()).unwrap_or(String::new(alloc));
-        push_use(&mut words, one, last.as_str())?;
-        all.insert(one.name.clone()?, words)?;
+        let words = all.entry(one.name.clone()?)?.or_insert(String::new(alloc));
+        push_use(words, one, last.as_str())?;
         last = one.requirement.clone()?;
     }
     Ok(all)
@@ -134,33 +133,23 @@ fn push_use(words: &mut String, one: &Use, last: &str) -> AllocResult<()> {
 
 /// The same as a line of JSON, an object of two lists: `findings` and `members`.
 pub fn json(alloc: Global, audit: &Audit) -> AllocResult<String> {
-    let members = member_values(alloc, audit)?;
-    let findings = finding_values(alloc, audit)?;
+    let mut members = Vec::new(alloc);
+    for (folder, member) in &shown_members(alloc, audit)? {
+        let mut object = object(alloc, &member_cells(folder.as_str(), member))?;
+        put_texts(alloc, &mut object, "inherits", member.inherits.as_slice())?;
+        push(&mut members, Value::from(object))?;
+    }
+    let mut findings = Vec::new(alloc);
+    for finding in &shown_findings(alloc, audit)? {
+        let object = object(alloc, &finding_cells(finding))?;
+        push(&mut findings, Value::from(object))?;
+    }
     let mut report = Map::new(alloc);
     put(&mut report, alloc, "members", Value::from(members))?;
     put(&mut report, alloc, "findings", Value::from(findings))?;
     let mut text = Value::from(report).to_string(alloc)?;
     text.push_str("\n")?;
     Ok(text)
-}
-
-fn member_values(alloc: Global, audit: &Audit) -> AllocResult<Vec<Value>> {
-    let mut values = Vec::new(alloc);
-    for (folder, member) in &shown_members(alloc, audit)? {
-        let mut object = object(alloc, &member_cells(folder.as_str(), member))?;
-        put_texts(alloc, &mut object, "inherits", member.inherits.as_slice())?;
-        push(&mut values, Value::from(object))?;
-    }
-    Ok(values)
-}
-
-fn finding_values(alloc: Global, audit: &Audit) -> AllocResult<Vec<Value>> {
-    let mut values = Vec::new(alloc);
-    for finding in &shown_findings(alloc, audit)? {
-        let object = object(alloc, &finding_cells(finding))?;
-        push(&mut values, Value::from(object))?;
-    }
-    Ok(values)
 }
 
 fn object(alloc: Global, cells: &[Cell<'_>]) -> AllocResult<Map<String, Value>> {

@@ -1,11 +1,10 @@
 //! What the report tells of a member that completes.
-ghost use Rattle.std.specs.Prelude.{◌≡◌, None, IfOk, IfSome, IsTrue, Some, false, map, option_map};
+ghost use Rattle.std.specs.Prelude.{◌≡◌, None, IfOk, IfSome, IsTrue, false, map, option_map};
 ghost use Rattle.std.specs.Prelude.{string_bytes};
-ghost use Rattle.cargo_toml.specs.InheritedPackages.{field_is_left, is_left_there};
-ghost use Rattle.cargo_toml.specs.{InheritableValues.value_of, Inherits.inheritable_map};
+ghost use Rattle.cargo_toml.specs.{InheritedPackages.is_left_there, Inherits.inheritable_map};
 ghost use Rattle.cargo_toml.specs.{Manifests.held, Packages.held_package, Settings.publish_meaning};
 ghost use Rattle.cargo_toml_audit.specs.Audited.{IsMemberOf, IsToldOf, is_untold, leaves_told};
-ghost use Rattle.cargo_toml_audit.specs.Audited.{names_text, publish_text, stated};
+ghost use Rattle.cargo_toml_audit.specs.Audited.{publish_text, stated};
 
 use super::Member;
 use super::dependencies::is_inherited;
@@ -51,46 +50,28 @@ fn member_of<M>(
     ensures untold { IfOk result
         (λ o. o ≡ None → IsTrue (leaves_told (held_package «package».now))) }
 {
-    let Some(version) = known(&package.version) else {
+    let Inheritable::Set(version) = &package.version else {
         return Ok(None);
     };
-    let Some(edition) = known(&package.edition) else {
+    let Inheritable::Set(edition) = &package.edition else {
         return Ok(None);
     };
-    let Some(publish) = known(&package.publish) else {
+    let Inheritable::Set(publish) = &package.publish else {
         return Ok(None);
     };
     if is_inherited(&package.rust_version) || is_inherited(&package.license) {
         return Ok(None);
     }
-    let version = format!(in alloc; "{version}")?;
-    let edition = format!(in alloc; "{edition}")?;
-    let publish = place(alloc, publish)?;
-    let rust_version = text(&package.rust_version)?;
-    let license = text(&package.license)?;
-    let folder = String::from_str(alloc, folder)?;
-    let name = package.name.clone()?;
     Ok(Some(Member {
-        folder,
-        name,
-        version,
-        edition,
-        rust_version,
-        license,
-        publish,
+        folder: String::from_str(alloc, folder)?,
+        name: package.name.clone()?,
+        version: format!(in alloc; "{version}")?,
+        edition: format!(in alloc; "{edition}")?,
+        rust_version: text(&package.rust_version)?,
+        license: text(&package.license)?,
+        publish: place(alloc, publish)?,
         inherits,
     }))
-}
-
-/// A value that isn't left to the workspace.
-fn known<T>(value: &Inheritable<T>) -> Option<&T>
-    ensures known { IfSome result (λ x. value_of value.now ≡ Some x.now) }
-    ensures left { result ≡ None → IsTrue (field_is_left value.now) }
-{
-    match value {
-        Inheritable::Set(x) => Some(x),
-        Inheritable::Inherited => None,
-    }
 }
 
 /// A text that may be missing, and isn't left.
@@ -106,6 +87,7 @@ fn text(text: &Option<Inheritable<String>>) -> AllocResult<Option<String>>
 }
 
 /// Where a package may be published.
+#[tactic(auto, using(crate::proofs::Texts::join_mapped))]
 fn place(alloc: Global, publish: &Publish) -> AllocResult<String>
     ensures { IfOk result
         (λ text. string_bytes text ≡ publish_text (publish_meaning publish.now)) }
@@ -113,15 +95,7 @@ fn place(alloc: Global, publish: &Publish) -> AllocResult<String>
     match publish {
         Publish::Flag(true) => String::from_str(alloc, "yes"),
         Publish::Flag(false) => String::from_str(alloc, "no"),
-        Publish::Registry(names) => joined(alloc, names.as_slice()),
+        Publish::Registry(names) if names.is_empty() => String::from_str(alloc, "no"),
+        Publish::Registry(names) => names.as_slice().join(alloc, ", "),
     }
-}
-
-fn joined(alloc: Global, names: &[String]) -> AllocResult<String>
-    ensures { IfOk result (λ text. string_bytes text ≡ names_text (map string_bytes names.now)) }
-{
-    if names.is_empty() {
-        return String::from_str(alloc, "no");
-    }
-    names.join(alloc, ", ")
 }

@@ -17,7 +17,8 @@ use std::{fs, io};
 pub fn absolute<R: Files + AllocGlobal>(rt: &R, folder: &str) -> Result<String, Error>
     ensures { IfErr result IsUnreadable }
 {
-    if !fs::metadata(rt, or_here(folder))?.is_dir() {
+    let from_here = if folder.is_empty() { "." } else { folder };
+    if !fs::metadata(rt, from_here)?.is_dir() {
         return Err(Error::from(io::Error::from(io::ErrorKind::NotADirectory)));
     }
     let here = fs::canonicalize(rt, ".")?;
@@ -25,10 +26,6 @@ pub fn absolute<R: Files + AllocGlobal>(rt: &R, folder: &str) -> Result<String, 
         return Err(Error::from(io::Error::from(io::ErrorKind::InvalidData)));
     };
     Ok(place_of(rt.alloc(), here, folder)?)
-}
-
-fn or_here(path: &str) -> &str {
-    if path.is_empty() { "." } else { path }
 }
 
 /// Where the workspace of a place is, as Cargo looks for it.

@@ -3,7 +3,6 @@ ghost use Rattle.std.specs.Prelude.{◌≡◌, ◌≢◌, ◌++◌, [], IfErr, I
 ghost use Rattle.std.specs.{Prelude.string_bytes, Option.option_map_or};
 ghost use Rattle.cargo_toml.specs.{Action.Text, Error.Error, Error.Memory};
 ghost use Rattle.cargo_toml_tools.specs.FromFiles.{IsManifestIn, IsUnreadable};
-ghost use Rattle.cargo_toml_tools.specs.Indexed.{is_error};
 ghost use Rattle.cargo_toml_audit.specs.Steps.{AddsCompleted, AddsMade, AddsMemberAt, AddsPlace};
 ghost use Rattle.cargo_toml_audit.specs.AuditedFiles.{HasErrors, base_of, has_error, is_rootless};
 ghost use Rattle.cargo_toml_audit.specs.AuditedFiles.{refusal, refusal_code};
@@ -24,14 +23,8 @@ use std::alloc::Global;
 use std::random::RandomSource;
 use std::rt::Files;
 
-/// What lies at a place.
-#[derive(Drop)]
-pub struct Seen {
-    /// Whether it is a member, or refused as one.
-    pub is_member: bool,
-    /// The places to which it leads.
-    pub needs: Vec<String>,
-}
+/// Whether what lies at a place is a member, or refused as one, and the places to which it leads.
+pub type Seen = (bool, Vec<String>);
 
 /// A place that a report looks at.
 #[derive(Drop)]
@@ -71,10 +64,7 @@ impl<R: Files + RandomSource + AllocGlobal> At<'_, R> {
         ensures refused { IfErr result IsUnreadable }
     {
         refuse(self.place, fault, &mut audit.findings)?;
-        Ok(Seen {
-            is_member: true,
-            needs: Vec::new(self.rt.alloc()),
-        })
+        Ok((true, Vec::new(self.rt.alloc())))
     }
 
     /// Adds it where it was read, and it is known whether it lies in the workspace's folder, or
@@ -90,22 +80,15 @@ impl<R: Files + RandomSource + AllocGlobal> At<'_, R> {
         let counts = self.is_listed | is_own;
         if !counts {
             self.add_foreign(held, &mut audit.findings)?;
-            return Ok(Seen {
-                is_member: false,
-                needs: Vec::new(self.rt.alloc()),
-            });
+            return Ok((false, Vec::new(self.rt.alloc())));
         }
         let manifest = &*held.manifest;
         let needs = needs(self.rt.alloc(), self.root, self.place, manifest)?;
-        let seen = Seen {
-            is_member: true,
-            needs,
-        };
         if is_rootless(self.root, self.place, manifest) {
-            return Ok(seen);
+            return Ok((true, needs));
         }
         self.add_member(is_own, held, audit)?;
-        Ok(seen)
+        Ok((true, needs))
     }
 
     /// Looks at what is none of the workspace's. It has to complete all the same.
@@ -196,14 +179,9 @@ fn refusal_code(fault: &Error) -> Code
     ensures { result ≡ refusal_code fault.now }
 {
     match fault {
-        Error::Io(fault) => {
-            if is_absent(fault.kind()) {
-                Code::Absent
-            } else {
-                Code::Incomplete
-            }
-        }
-        Error::Parse(_)
+        Error::Io(fault) if is_absent(fault.kind()) => Code::Absent,
+        Error::Io(_)
+        | Error::Parse(_)
         | Error::Workspace(_)
         | Error::InheritedUnknownValue
         | Error::WorkspaceIntegrity(_)
@@ -237,13 +215,9 @@ fn has_errors<R: RandomSource + AllocGlobal>(rt: &R, manifest: &Manifest) -> Res
 fn any_error(findings: &[Fault<'_>]) -> bool
     ensures { result ≡ has_error findings.now }
 {
-    findings.iter().any(|found| is_error(found.code.level()))
-}
-
-fn is_error(level: Level) -> bool
-    ensures { result ≡ is_error level }
-{
-    matches!(level, Level::Error)
+    findings
+        .iter()
+        .any(|found| matches!(found.code.level(), Level::Error))
 }
 
 /// Adds what a member is whose manifest is completed, or that nothing can be told of it.

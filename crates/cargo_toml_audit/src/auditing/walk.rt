@@ -41,12 +41,10 @@ pub fn add_members<R: Files + Eprint + RandomSource + AllocGlobal>(
 {
     let alloc = rt.alloc();
     let listed = set_of(alloc, first.as_slice())?;
-    let seen = BTreeSet::new(alloc);
-    let members = BTreeSet::new(alloc);
     let mut walk = Walk {
         waiting: first,
-        seen,
-        members,
+        seen: BTreeSet::new(alloc),
+        members: BTreeSet::new(alloc),
     };
     for done in 0..usize::MAX {
         let next = walk.waiting.pop();
@@ -83,10 +81,10 @@ fn visit<R: Files + RandomSource + AllocGlobal>(
     if excludes(alloc, at.root.place, at.root.workspace, at.place)? {
         return Ok(());
     }
-    let mut found = at.add_place(audit)?;
-    note(alloc, &mut walk.members, at.place, found.is_member)?;
+    let (is_member, mut needs) = at.add_place(audit)?;
+    note(alloc, &mut walk.members, at.place, is_member)?;
     note(alloc, &mut walk.seen, at.place, true)?;
-    walk.waiting.append(&mut found.needs)?;
+    walk.waiting.append(&mut needs)?;
     Ok(())
 }
 

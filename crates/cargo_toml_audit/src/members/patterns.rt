@@ -1,11 +1,10 @@
 //! Patterns of names, as Cargo's globs have them: `*` is any text, `?` any one character, `[ab]`,
 //! `[a-c]` and `[!a]` one of some characters. `**` is none of these: it stands for any folders.
-ghost use Rattle.std.specs.Prelude.{◌≡◌, ◌∷◌, IfOk, OnOk, false, get_or, map, option_map, ◌&&◌};
-ghost use Rattle.std.specs.{Prelude.nat_le, Str.chars};
+ghost use Rattle.std.specs.Prelude.{◌≡◌, IfOk, OnOk, map, option_map};
+ghost use Rattle.std.specs.Str.{chars};
 ghost use Rattle.cargo_toml_audit.specs.Patterns.{accepts, is_among, is_deep, is_many, is_pattern};
-ghost use Rattle.cargo_toml_audit.specs.Patterns.{is_sign, matches, part_of, read_all, read_more};
-ghost use Rattle.cargo_toml_audit.specs.Patterns.{parts_of, read_in_brackets, read_of, read_plain};
-ghost use Rattle.cargo_toml_audit.specs.Patterns.{is_range, next, scan, shift, whole_parts};
+ghost use Rattle.cargo_toml_audit.specs.Patterns.{matches, next, part_of, parts_of};
+ghost use Rattle.cargo_toml_audit.specs.Patterns.{read_in_brackets, read_more, read_of, read_plain};
 
 use crate::AllocResult;
 use std::alloc::Global;
@@ -59,13 +58,7 @@ pub fn is_deep(name: &str) -> bool
 pub fn is_pattern(name: &str) -> bool
     ensures { result ≡ is_pattern name.now }
 {
-    name.as_bytes().iter().any(|byte| is_sign(*byte))
-}
-
-fn is_sign(byte: u8) -> bool
-    ensures { result ≡ is_sign byte }
-{
-    byte == b'*' || byte == b'?' || byte == b'['
+    name.bytes().any(|byte| matches!(byte, b'*' | b'?' | b'['))
 }
 
 /// The parts of a pattern; none where Cargo takes it for no pattern.
@@ -73,11 +66,21 @@ pub fn tokens_of(alloc: Global, name: &str) -> AllocResult<Option<Vec<Token>>>
     ensures { IfOk result (λ tokens. option_map (λ v. map part_of v.items) tokens
         ≡ parts_of (chars name.now)) }
 {
-    let characters = characters(alloc, name)?;
-    let reading = read(alloc, characters.as_slice())?;
-    Ok(reading.tokens_if_whole())
+    let mut reading = Reading {
+        tokens: Vec::new(alloc),
+        content: Vec::new(alloc),
+        mode: Mode::Plain,
+    };
+    for c in characters(alloc, name)?.as_slice() {
+        reading.take(alloc, *c)?;
+    }
+    match reading.mode {
+        Mode::Plain | Mode::Star => Ok(Some(reading.tokens)),
+        Mode::Brackets | Mode::Others | Mode::Wrong => Ok(None),
+    }
 }
 
+#[tactic(auto, using(std::proofs::lemmas::Str::chars_from_encodes))]
 fn characters(alloc: Global, text: &str) -> AllocResult<Vec<char>>
     ensures { IfOk result (λ v. v.items ≡ chars text.now) }
 {
@@ -85,30 +88,7 @@ fn characters(alloc: Global, text: &str) -> AllocResult<Vec<char>>
     Ok(characters)
 }
 
-fn read(alloc: Global, characters: &[char]) -> AllocResult<Reading>
-    ensures { IfOk result (λ r. read_of r ≡ read_all characters.now) }
-{
-    let mut reading = Reading {
-        tokens: Vec::new(alloc),
-        content: Vec::new(alloc),
-        mode: Mode::Plain,
-    };
-    for c in characters {
-        reading.take(alloc, *c)?;
-    }
-    Ok(reading)
-}
-
 impl Reading {
-    fn tokens_if_whole(self) -> Option<Vec<Token>>
-        ensures { option_map (λ v. map part_of v.items) result ≡ whole_parts (read_of self) }
-    {
-        match self.mode {
-            Mode::Plain | Mode::Star => Some(self.tokens),
-            Mode::Brackets | Mode::Others | Mode::Wrong => None,
-        }
-    }
-
     /// Reads one character more.
     fn take(&mut self, alloc: Global, c: char) -> AllocResult<()>
         ensures { OnOk result (read_of self.new ≡ read_more (read_of self.old) c) }
@@ -127,11 +107,8 @@ impl Reading {
         ensures { OnOk result (read_of self.new ≡ read_plain is_star (read_of self.old) c) }
     {
         match c {
+            '*' if is_star => self.mode = Mode::Wrong,
             '*' => {
-                if is_star {
-                    self.mode = Mode::Wrong;
-                    return Ok(());
-                }
                 self.mode = Mode::Star;
                 self.tokens.push(Token::Many)?;
             }
@@ -152,15 +129,11 @@ impl Reading {
     fn take_in_brackets(&mut self, alloc: Global, c: char, is_other: bool) -> AllocResult<()>
         ensures { OnOk result (read_of self.new ≡ read_in_brackets is_other (read_of self.old) c) }
     {
-        if self.content.is_empty() {
-            if c == '!' && !is_other {
-                self.mode = Mode::Others;
-                return Ok(());
-            }
-            self.content.push(c)?;
+        if self.content.is_empty() && c == '!' && !is_other {
+            self.mode = Mode::Others;
             return Ok(());
         }
-        if c != ']' {
+        if self.content.is_empty() || c != ']' {
             self.content.push(c)?;
             return Ok(());
         }
@@ -186,16 +159,7 @@ pub fn matches(alloc: Global, pattern: &[Token], name: &str) -> AllocResult<bool
         let k = pattern.len() - 1 - taken;
         reached = one_more(alloc, reached.as_slice(), name, &pattern[k])?;
     }
-    Ok(is_set(reached.as_slice(), name.len()))
-}
-
-fn is_set(reached: &[bool], at: usize) -> bool
-    ensures { result ≡ get_or reached.now at false }
-{
-    if at >= reached.len() {
-        return false;
-    }
-    reached[at]
+    Ok(reached.get(name.len()).copied().unwrap_or(false))
 }
 
 /// What is reached with one more part of the pattern.
@@ -208,37 +172,19 @@ fn one_more(
     ensures { IfOk result (λ v. v.items
         ≡ next (is_many (part_of wanted.now)) (part_of wanted.now) reached.now name.now) }
 {
-    match wanted {
-        Token::Many => after_many(alloc, reached),
-        _ => after_one(alloc, reached, name, wanted),
+    if let Token::Many = wanted {
+        let some = reached.iter().scan(false, |some, here| {
+            *some |= *here;
+            Some(*some)
+        });
+        return some.collect(alloc);
     }
-}
-
-fn after_many(alloc: Global, reached: &[bool]) -> AllocResult<Vec<bool>>
-    ensures { IfOk result (λ v. v.items ≡ scan false reached.now) }
-{
-    let mut next = Vec::new(alloc);
-    let mut some = false;
-    for here in reached {
-        some |= *here;
-        next.push(some)?;
-    }
-    Ok(next)
-}
-
-fn after_one(
-    alloc: Global,
-    reached: &[bool],
-    name: &[char],
-    wanted: &Token,
-) -> AllocResult<Vec<bool>>
-    ensures { IfOk result (λ v. v.items ≡ false ∷ shift (part_of wanted.now) reached.now name.now) }
-{
-    let mut next = Vec::new(alloc);
-    next.push(false)?;
-    for (here, c) in reached.iter().zip(name) {
-        next.push(*here && accepts(wanted, *c))?;
-    }
+    let after = reached
+        .iter()
+        .zip(name)
+        .map(|(here, c)| *here && accepts(wanted, *c));
+    let mut next: Vec<bool> = after.collect(alloc)?;
+    next.insert(0, false)?;
     Ok(next)
 }
 
@@ -258,24 +204,9 @@ fn accepts(wanted: &Token, c: char) -> bool
 fn is_among(content: &[char], c: char) -> bool
     ensures { result ≡ is_among content.now c }
 {
-    if content.is_empty() {
-        return false;
+    match content {
+        [] => false,
+        [first, '-', last, others @ ..] => (*first <= c && c <= *last) || is_among(others, c),
+        [first, others @ ..] => *first == c || is_among(others, c),
     }
-    if is_range(content) {
-        return lies_between(c, content[0], content[2]) || is_among(&content[3..], c);
-    }
-    content[0] == c || is_among(&content[1..], c)
-}
-
-/// Whether a range comes first.
-fn is_range(content: &[char]) -> bool
-    ensures { result ≡ is_range content.now }
-{
-    matches!(content, [_, '-', _, ..])
-}
-
-fn lies_between(c: char, first: char, last: char) -> bool
-    ensures { result ≡ (nat_le first c && nat_le c last) }
-{
-    first <= c && c <= last
 }

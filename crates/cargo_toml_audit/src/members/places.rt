@@ -1,8 +1,8 @@
 //! Places of folders: absolute paths with no `.` and no `..` in them.
-ghost use Rattle.std.specs.Prelude.{◌≡◌, IfOk, OnOk, map, string_bytes};
-ghost use Rattle.cargo_toml_audit.specs.Places.{begins_at, ends_in_name, excludes, is_nothing};
-ghost use Rattle.cargo_toml_audit.specs.Places.{lies_in, lies_in_some, manifest_path, normalized};
-ghost use Rattle.cargo_toml_audit.specs.Places.{one_further, or_dot, pieces, place_of, with_names};
+ghost use Rattle.std.specs.Prelude.{◌≡◌, IfOk, map, string_bytes};
+ghost use Rattle.cargo_toml_audit.specs.Places.{begins_at, ends_in_name, excludes, lies_in};
+ghost use Rattle.cargo_toml_audit.specs.Places.{lies_in_some, manifest_path, normalized};
+ghost use Rattle.cargo_toml_audit.specs.Places.{or_dot, pieces, place_of, with_names};
 
 use crate::AllocResult;
 use cargo_toml::Workspace;
@@ -30,32 +30,16 @@ pub fn normalized(alloc: Global, path: &str, keeps_up: bool) -> AllocResult<Stri
 {
     let mut names = Vec::new(alloc);
     for name in pieces(alloc, path)?.as_slice() {
-        step(&mut names, *name, keeps_up)?;
+        if name.is_empty() || *name == "." {
+            continue;
+        }
+        if (*name == "..") & !keeps_up && can_go_back(names.as_slice()) {
+            names.pop();
+        } else {
+            names.push(*name)?;
+        }
     }
     with_names(alloc, path, names.as_slice())
-}
-
-/// Goes one name further.
-fn step<'a>(names: &mut Vec<&'a str>, name: &'a str, keeps_up: bool) -> AllocResult<()>
-    ensures { OnOk result (map (λ t. t.now) names.new.items
-        ≡ one_further keeps_up (map (λ t. t.now) names.old.items) name.now) }
-{
-    if is_nothing(name) {
-        return Ok(());
-    }
-    if (name == "..") & !keeps_up && can_go_back(names.as_slice()) {
-        names.pop();
-        return Ok(());
-    }
-    names.push(name)?;
-    Ok(())
-}
-
-/// Whether a name leads nowhere.
-fn is_nothing(name: &str) -> bool
-    ensures { result ≡ is_nothing name.now }
-{
-    name.is_empty() || name == "."
 }
 
 /// Whether the last name can be taken back.
@@ -66,6 +50,7 @@ fn can_go_back(names: &[&str]) -> bool
 }
 
 /// The path that begins as this one and has these names, or `.` where that is nothing.
+#[tactic(auto, using(crate::proofs::Texts::join_mapped))]
 fn with_names(alloc: Global, path: &str, names: &[&str]) -> AllocResult<String>
     ensures { IfOk result
         (λ text. string_bytes text ≡ with_names path.now (map (λ t. t.now) names.now)) }

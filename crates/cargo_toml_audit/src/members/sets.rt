@@ -47,7 +47,7 @@ pub fn repeats(alloc: Global, texts: &[String]) -> AllocResult<Vec<String>>
 }
 
 /// Adds a text, where that holds.
-fn push_if(all: &mut Vec<String>, text: &String, holds: bool) -> AllocResult<()>
+pub fn push_if(all: &mut Vec<String>, text: &String, holds: bool) -> AllocResult<()>
     ensures { OnOk result (map string_bytes all.new.items
         ≡ map string_bytes all.old.items ++ (if holds then string_bytes text.now ∷ [] else [])) }
 {

@@ -5,11 +5,10 @@
 ghost use Rattle.std.specs.Prelude.{◌≡◌, ◌&&◌, IfOk, map, not, string_bytes};
 ghost use Rattle.std.specs.{BTreeMap.IsEmpty, List.flat_map};
 ghost use Rattle.cargo_toml.specs.RealFiles.{is_absent};
-ghost use Rattle.cargo_toml_audit.specs.MemberFolders.{further_in, places_if_right, subfolders};
-ghost use Rattle.cargo_toml_audit.specs.MemberFolders.{all_below, places_of, with_dots};
-ghost use Rattle.cargo_toml_audit.specs.MemberFolders.{by_found, is_plain, is_there, led, named_so};
-ghost use Rattle.cargo_toml_audit.specs.MemberFolders.{by_link, further, led_to, matched, place_if};
-ghost use Rattle.cargo_toml_audit.specs.MemberFolders.{Tells, below, ended, own_if, path_if, skips};
+ghost use Rattle.cargo_toml_audit.specs.MemberFolders.{Tells, all_below, below, by_found, by_link};
+ghost use Rattle.cargo_toml_audit.specs.MemberFolders.{ended, further, further_in, led, matched};
+ghost use Rattle.cargo_toml_audit.specs.MemberFolders.{named_so, places_if_right, subfolders};
+ghost use Rattle.cargo_toml_audit.specs.MemberFolders.{with_dots};
 ghost use Rattle.cargo_toml_audit.specs.Patterns.{begins_with_dot, part_of};
 
 use super::is_wrong;
@@ -118,56 +117,33 @@ impl<'a, R: Files + AllocGlobal> Looking<'a, R> {
         Ok(all)
     }
 
-    /// The places that an entry of a list in `root` leads to, unless Cargo can't read it.
+    /// The places that an entry of a list in `root` leads to: folders that its names stand for.
+    /// Where nothing lies there, it stands for itself. One that Cargo can't read leads nowhere.
     pub fn places_of_entry(&mut self, root: &str, entry: &str) -> AllocResult<Vec<String>>
         ensures { IfOk result (λ places. Tells (λ d. places_if_right d root.now entry.now)
             self.old.looks self.new.looks (map string_bytes places.items)) }
     {
-        if is_wrong(self.rt.alloc(), entry)? {
-            return Ok(Vec::new(self.rt.alloc()));
-        }
-        self.places_of(root, entry)
-    }
-
-    /// The places that an entry of a list in `root` leads to: folders that its names stand for.
-    /// Where nothing lies there, it stands for itself.
-    fn places_of(&mut self, root: &str, entry: &str) -> AllocResult<Vec<String>>
-        ensures { IfOk result (λ places. Tells (λ d. places_of d root.now entry.now)
-            self.old.looks self.new.looks (map string_bytes places.items)) }
-    {
-        let found = self.led_to(root, entry)?;
-        let mut places = own_if(self.rt.alloc(), found.is_empty(), root, entry)?;
-        for path in found.as_slice() {
-            let mut place = self.place_if(path.as_str())?;
-            places.append(&mut place)?;
-        }
-        Ok(places)
-    }
-
-    /// The place of a path, where a folder lies there.
-    fn place_if(&mut self, path: &str) -> AllocResult<Vec<String>>
-        ensures { IfOk result (λ places. Tells (λ d. place_if d path.now)
-            self.old.looks self.new.looks (map string_bytes places.items)) }
-    {
-        let mut places = Vec::new(self.rt.alloc());
-        if self.look_at(path)? != There::Folder {
+        let alloc = self.rt.alloc();
+        let mut places = Vec::new(alloc);
+        if is_wrong(alloc, entry)? {
             return Ok(places);
         }
-        places.push(normalized(self.rt.alloc(), path, false)?)?;
+        let names = pieces(alloc, entry)?;
+        let found = self.led((begins_at(root, entry), false), names.as_slice())?;
+        if found.is_empty() {
+            places.push(place_of(alloc, root, entry)?)?;
+            return Ok(places);
+        }
+        for path in found.as_slice() {
+            if self.look_at(path.as_str())? == There::Folder {
+                places.push(normalized(alloc, path.as_str(), false)?)?;
+            }
+        }
         Ok(places)
     }
 
-    /// What lies where the names of an entry lead.
-    fn led_to(&mut self, root: &str, entry: &str) -> AllocResult<Vec<String>>
-        ensures { IfOk result (λ paths. Tells (λ d. led_to d root.now entry.now)
-            self.old.looks self.new.looks (map string_bytes paths.items)) }
-    {
-        let names = pieces(self.rt.alloc(), entry)?;
-        let start = begins_at(root, entry);
-        self.led((start, false), names.as_slice())
-    }
-
-    /// What names lead to from a path, at times right behind `**`.
+    /// What names lead to from a path, at times right behind `**`. That name leads no further, nor
+    /// does the empty one right behind it.
     fn led(&mut self, from: (&str, bool), names: &[&str]) -> AllocResult<Vec<String>>
         ensures { IfOk result (λ paths. Tells
             (λ d. led d from.entry.1 (map (λ t. t.now) names.now) from.entry.0.now)
@@ -176,7 +152,7 @@ impl<'a, R: Files + AllocGlobal> Looking<'a, R> {
         let Some((name, others)) = names.split_first() else {
             return self.ended(from);
         };
-        if skips(*name, from.1) {
+        if is_deep(*name) || (from.1 && name.is_empty()) {
             return self.led((from.0, true), others);
         }
         let next = self.further(from, *name)?;
@@ -224,33 +200,25 @@ impl<'a, R: Files + AllocGlobal> Looking<'a, R> {
         Ok(all)
     }
 
-    /// What a name leads to in a folder, at times right behind `**`.
+    /// What a name leads to in a folder, at times right behind `**`. One that is no pattern stands
+    /// for itself.
     fn further_in(&mut self, from: (&str, bool), name: &str) -> AllocResult<Vec<String>>
         ensures { IfOk result (λ all. Tells
             (λ d. further_in d from.entry.1 name.now from.entry.0.now)
             self.old.looks self.new.looks (map string_bytes all.items)) }
     {
-        if is_plain(name, from.1) {
-            let path = join(self.rt.alloc(), from.0, name)?;
-            return self.path_if(path, false);
-        }
-        let Some(pattern) = tokens_of(self.rt.alloc(), name)? else {
-            return Ok(Vec::new(self.rt.alloc()));
-        };
-        self.matched(from, pattern.as_slice())
-    }
-
-    /// A path where something lies, or where a folder lies.
-    fn path_if(&mut self, path: String, is_folder: bool) -> AllocResult<Vec<String>>
-        ensures { IfOk result (λ all. Tells (λ d. path_if d is_folder (string_bytes path))
-            self.old.looks self.new.looks (map string_bytes all.items)) }
-    {
         let mut all = Vec::new(self.rt.alloc());
-        if !is_there(self.look_at(path.as_str())?, is_folder) {
+        if !from.1 && !is_pattern(name) {
+            let path = join(self.rt.alloc(), from.0, name)?;
+            if self.look_at(path.as_str())? != There::Nothing {
+                all.push(path)?;
+            }
             return Ok(all);
         }
-        all.push(path)?;
-        Ok(all)
+        let Some(pattern) = tokens_of(self.rt.alloc(), name)? else {
+            return Ok(all);
+        };
+        self.matched(from, pattern.as_slice())
     }
 
     /// What lies in a folder and has a name that the pattern matches.
@@ -263,11 +231,12 @@ impl<'a, R: Files + AllocGlobal> Looking<'a, R> {
             return Ok(Vec::new(self.rt.alloc()));
         }
         let names = self.names_in(from.0)?;
-        let names = with_dots(self.rt.alloc(), names, wants_dots(pattern, from.1))?;
+        let names = with_dots(self.rt.alloc(), names, pattern, from.1)?;
         named_so(self.rt.alloc(), from.0, pattern, names.as_slice())
     }
 
     /// A folder and all below it.
+    #[tactic(auto, unfolding(crate::specs::MemberFolders::all_below))]
     fn all_below(&mut self, folder: &str) -> AllocResult<Vec<String>>
         ensures { IfOk result (λ all. Tells (λ d. all_below d folder.now)
             self.old.looks self.new.looks (map string_bytes all.items)) }
@@ -276,6 +245,7 @@ impl<'a, R: Files + AllocGlobal> Looking<'a, R> {
     }
 
     /// A folder and all below it, so many levels of them.
+    #[tactic(auto, using(crate::proofs::Walked::below_more))]
     fn below(&mut self, folder: &str, levels: usize) -> AllocResult<Vec<String>>
         ensures { IfOk result (λ all. Tells (λ d. below d levels folder.now)
             self.old.looks self.new.looks (map string_bytes all.items)) }
@@ -305,8 +275,9 @@ impl<'a, R: Files + AllocGlobal> Looking<'a, R> {
         let names = self.names_in(folder)?;
         for name in names.as_slice() {
             let path = join(self.rt.alloc(), folder, name.as_str())?;
-            let mut paths = self.path_if(path, true)?;
-            all.append(&mut paths)?;
+            if self.look_at(path.as_str())? == There::Folder {
+                all.push(path)?;
+            }
         }
         Ok(all)
     }
@@ -372,61 +343,23 @@ fn listed_in<R: Files + AllocGlobal>(rt: &R, folder: &str) -> AllocResult<Listin
     Ok(Listing { names, is_whole })
 }
 
-/// The place of an entry that stands for itself.
-fn own_if(alloc: Global, holds: bool, root: &str, entry: &str) -> AllocResult<Vec<String>>
-    ensures { IfOk result
-        (λ places. map string_bytes places.items ≡ own_if holds root.now entry.now) }
-{
-    let mut places = Vec::new(alloc);
-    if holds {
-        places.push(place_of(alloc, root, entry)?)?;
-    }
-    Ok(places)
-}
-
-/// Whether a name is `**`, or the empty one behind a slash right behind that.
-fn skips(name: &str, is_behind: bool) -> bool
-    ensures { result ≡ skips is_behind name.now }
-{
-    is_deep(name) || (is_behind && name.is_empty())
-}
-
-/// Whether a name stands for itself.
-fn is_plain(name: &str, is_behind: bool) -> bool
-    ensures { result ≡ is_plain is_behind name.now }
-{
-    !is_behind && !is_pattern(name)
-}
-
-fn is_there(there: There, is_folder: bool) -> bool
-    ensures { result ≡ is_there is_folder there }
-{
-    match there {
-        There::Folder => true,
-        There::Other | There::Unseen => !is_folder,
-        There::Nothing => false,
-    }
-}
-
-/// The names, with `.` and `..` where these are wanted.
-fn with_dots(alloc: Global, names: Vec<String>, wants_dots: bool) -> AllocResult<Vec<String>>
-    ensures { IfOk result
-        (λ all. map string_bytes all.items ≡ with_dots wants_dots (map string_bytes names.items)) }
+/// The names, and `.` and `..` where the pattern begins with a dot, not right behind `**`.
+fn with_dots(
+    alloc: Global,
+    names: Vec<String>,
+    pattern: &[Token],
+    is_behind: bool,
+) -> AllocResult<Vec<String>>
+    ensures { IfOk result (λ all. map string_bytes all.items
+        ≡ with_dots (not is_behind && begins_with_dot (map part_of pattern.now))
+        (map string_bytes names.items)) }
 {
     let mut names = names;
-    if !wants_dots {
-        return Ok(names);
+    if !is_behind && matches!(pattern, [Token::Just('.'), ..]) {
+        names.push(String::from_str(alloc, ".")?)?;
+        names.push(String::from_str(alloc, "..")?)?;
     }
-    names.push(String::from_str(alloc, ".")?)?;
-    names.push(String::from_str(alloc, "..")?)?;
     Ok(names)
-}
-
-/// Whether a pattern stands for `.` and `..` too: it begins with a dot, not right behind `**`.
-fn wants_dots(pattern: &[Token], is_behind: bool) -> bool
-    ensures { result ≡ (not is_behind && begins_with_dot (map part_of pattern.now)) }
-{
-    !is_behind && matches!(pattern, [Token::Just('.'), ..])
 }
 
 /// The paths of those names in a folder that the pattern matches.

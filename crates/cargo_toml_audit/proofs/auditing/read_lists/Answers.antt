@@ -13,8 +13,8 @@ returns g c = λ d agrees.
       all.0,
       record {
         first = ap (map string_bytes) c.in_ok-push.ensures.items ∙ map-append string_bytes c.in_ok-first.first.items _ ∙ (λ i. entered i ++ c.in_ok-from_str.ensures.ok i ∷ []);
-        listed = λ t. c.in_ok-listed.ensures t ∙ ap (λ ts. is_in ts t) (ap (map string_bytes) c.as_slice-4.ensures.value ∙ listed);
-        entered = λ t. c.in_ok-entered.ensures t ∙ ap (λ ts. is_in ts t) (ap (map string_bytes) c.as_slice-5.ensures.value ∙ entered);
+        listed = λ t. c.in_ok-set_of.ensures t ∙ ap (λ ts. is_in ts t) (ap (map string_bytes) c.as_slice-4.ensures.value ∙ listed);
+        entered = λ t. c.in_ok-set_of-2.ensures t ∙ ap (λ ts. is_in ts t) (ap (map string_bytes) c.as_slice-5.ensures.value ∙ entered);
         found = c.in_ok-find_in_lists.ensures ∙ ap (λ ps. oddities_of c.args.findings.now ++ found_in_lists base ps) (ap (map string_bytes) c.as_slice-3.ensures.value ∙ entered);
       },
     )

@@ -1,19 +1,17 @@
-use Rattle.cargo_toml_audit.proofs.Reports.{[], ◌++◌, ◌∙◌, ◌≡◌, AreListed, AreRead, Audit, Base, Bool, Finding, Gain, Global, IsReport, List, Lists, Looks, Takes, Text, Vec, Walks, ap, append-nil, append_assoc, base_of, contains_text, dependency_meaning, disk_of, found_beside, gain_of_all, held_in, map, map_meaning, oddities_of, only_found, overall_oddities, string_bytes, subst}
+use Rattle.cargo_toml_audit.proofs.Reports.{[], ◌++◌, ◌∙◌, ◌≡◌, AreListed, AreRead, Audit, Base, Bool, Finding, Gain, Global, IsReport, Known, List, Looks, Takes, Text, Vec, Walks, ap, append-nil, append_assoc, arith, base_of, contains_text, dependency_meaning, disk_of, found_beside, gain_of_all, held_in, map, map_meaning, oddities_of, only_found, overall_oddities, string_bytes, subst, String}
 use Rattle.cargo_toml_audit.proofs.Walked.{disk_agrees}
 use Rattle.cargo_toml_audit.proofs.auditing.report_on.Goals as goal
 
 -- four pieces, one behind the other
 four : {X : Type 0} (z a b c d p q r s : List X) → z ≡ [] → a ≡ z ++ p → b ≡ a ++ q → c ≡ b ++ r → d ≡ c ++ s → d ≡ p ++ (q ++ (r ++ s))
-four z a b c d p q r s none one two three last =
-    last ∙ ap (λ x. x ++ s) (three ∙ ap (λ x. x ++ r) (two ∙ ap (λ x. x ++ q) (one ∙ ap (λ x. x ++ p) none)))
-    ∙ append_assoc (p ++ q) r s ∙ append_assoc p q (r ++ s)
+four z a b c d p q r s none one two three last = grind (arith, append_assoc)
 
 -- a report is begun, lists are read, places walked over, the lists looked at once more, and it is ended
-reported : (base : Base) (asked : Text) (looks : Looks) (lists : Lists) (members : Text → Bool) (begun walked ended : Audit) (listed beside : Vec Finding Global)
+reported : (base : Base) (asked : Text) (looks : Looks) (lists : Vec (String Global) Global × Known) (members : Text → Bool) (begun walked ended : Audit) (listed beside : Vec Finding Global)
     → held_in begun ≡ only_found [] → AreListed base (disk_of looks) lists begun.findings listed
-    → Walks base (map string_bytes lists.first.items) members (record begun { findings = listed }) walked
+    → Walks base (map string_bytes lists.0.items) members (record begun { findings = listed }) walked
     → oddities_of beside ≡ oddities_of walked.findings
-    ++ found_beside base looks (disk_of looks) (record { listed = contains_text lists.listed; entered = contains_text lists.entered; members = members }) asked
+    ++ found_beside base looks (disk_of looks) (record { listed = contains_text lists.1.listed; entered = contains_text lists.1.entered; members = members }) asked
     → Takes (only_found (overall_oddities (map_meaning dependency_meaning base.workspace.dependencies) (held_in (record walked { findings = beside }))))
     (record walked { findings = beside }) ended
     → IsReport base asked ended
@@ -42,8 +40,8 @@ returns-clause-report g c =
     let beside = c.in_ok-find_beside.ensures (disk_of looks) (disk_agrees looks) in
     reported (base_of c.args.root) c.args.asked.now looks c.in_ok-lists.lists _ c.new-audit.result c.add_members.new.audit c.finish.new.self
     c.read_lists.new.findings c.find_beside.new.findings c.new-audit.ensures.empty (c.in_ok-lists.ensures (disk_of looks) beside.0).1
-    c.in_ok-members.ensures.walked beside.1 c.in_ok-finish.ensures
+    c.in_ok-known.ensures.walked beside.1 c.in_ok-finish.ensures
 
 pub returns-clause-place : goal.returns-clause-place
 returns-clause-place g c =
-    ap string_bytes (c.in_ok-finish.ensures.root ∙ c.in_ok-members.ensures.walked.takes.root ∙ c.new-audit.ensures.root) ∙ c.in_ok-from_str.ensures.ok
+    ap string_bytes (c.in_ok-finish.ensures.root ∙ c.in_ok-known.ensures.walked.takes.root ∙ c.new-audit.ensures.root) ∙ c.in_ok-from_str.ensures.ok

@@ -5,8 +5,8 @@ use Rattle.cargo_toml_audit.proofs.auditing.walk.add_members.Goals as goal
 pub loop-done-init : goal.loop-done-init
 loop-done-init g c =
     walking_begun (base_of c.args.root) (map string_bytes c.args.first.items) _ _ refl
-    (λ t. ap (list_any (is_at (λ k. slice_cmp nat_cmp t (string_bytes k)))) c.new-seen.ensures.empty)
-    (λ t. ap (list_any (is_at (λ k. slice_cmp nat_cmp t (string_bytes k)))) c.new-members.ensures.empty)
+    (λ t. ap (list_any (is_at (λ k. slice_cmp nat_cmp t (string_bytes k)))) c.new.ensures.empty)
+    (λ t. ap (list_any (is_at (λ k. slice_cmp nat_cmp t (string_bytes k)))) c.new-2.ensures.empty)
 
 pub loop-done-preserved : goal.loop-done-preserved
 loop-done-preserved g c =

@@ -11,7 +11,7 @@ returns-then-branch-clause-visited g c =
 
 pub returns-clause-visited : goal.returns-clause-visited
 returns-clause-visited g c =
-    let a = c.in_ok-found.ensures.added in
+    let a = c.in_ok-is_member.ensures.added in
     inr (record {
       content = a.content;
       fresh = grind (arith, c.contains.ensures, c.in_ok-excludes.ensures, c.if-contains.false, c.if-branch.false);

@@ -1,4 +1,4 @@
-use Rattle.cargo_toml_audit.proofs.Paths.{[], ◌-◌, ◌∙◌, ◌∷◌, ◌≡◌, List, Part, Token, ap, arith, chars, drop, drop_all, false, get_or, is_many, length, map, matches, next, part_of, reverse, reverse-reverse, sym, true}
+use Rattle.cargo_toml_audit.proofs.Paths.{[], ◌-◌, ◌∙◌, ◌∷◌, ◌≡◌, List, Part, Token, ap, arith, chars, common_steps, drop, drop_all, false, get_or, is_many, length, map, matches, next, part_of, reverse, reverse-reverse, sym, true}
 use Rattle.cargo_toml_audit.proofs.Matched.{back_next, first_row, last_row, next_row, row}
 use Rattle.cargo_toml_audit.proofs.members.patterns.matches.Goals as goal
 
@@ -27,8 +27,7 @@ returns c =
     let none : length ps - c.loop-taken.taken ≡ 0 = omega (arith, c.loop-taken-test.false) in
     let back : reverse cs ≡ chars c.args.name.now =
     ap reverse (c.as_slice-name.ensures.value ∙ c.reverse.ensures.items ∙ ap reverse c.in_ok-name.ensures) ∙ reverse-reverse (chars c.args.name.now) in
-    c.is_set.ensures
-    ∙ ap (λ xs. get_or xs (length cs) false) (c.as_slice-2.ensures.value ∙ c.loop-taken.invariant
-    ∙ ap (λ n. row (matches (map part_of (drop n ps))) [] cs) none)
-    ∙ last_row (matches (map part_of ps)) cs false
+    let got : c.unwrap_or.result ≡ get_or c.loop-taken.reached.items (length cs) false = grind (arith, common_steps) in
+    got ∙ ap (λ xs. get_or xs (length cs) false) (c.loop-taken.invariant ∙ ap (λ n. row (matches (map part_of (drop n ps))) [] cs) none)
+    ∙ last_row (matches (map part_of ps)) cs
     ∙ ap (matches (map part_of ps)) back

@@ -1,5 +1,5 @@
 use Rattle.cargo_toml_audit.proofs.Paths.{[], if◌then◌else◌, ◌++◌, ◌+◌, ◌||◌, ◌∙◌, ◌∷◌, ap, append_assoc, ap₂, bytes_eq, contains_text, drop, is_in, map, repeats_of, string_bytes, sym, take}
-use Rattle.cargo_toml_audit.proofs.Sets.{in_next, repeats_next}
+use Rattle.cargo_toml_audit.proofs.Texts.{in_next, repeats_next}
 use Rattle.cargo_toml_audit.proofs.members.sets.repeats.Goals as goal
 
 pub loop-text-preserved : goal.loop-text-preserved

@@ -1,5 +1,5 @@
 use Rattle.cargo_toml_audit.proofs.Paths.{arith, string_bytes}
-use Rattle.cargo_toml_audit.proofs.Sets.{in_next}
+use Rattle.cargo_toml_audit.proofs.Texts.{in_next}
 use Rattle.cargo_toml_audit.proofs.members.sets.set_of.Goals as goal
 
 pub loop-text-preserved : goal.loop-text-preserved

@@ -1,11 +1,9 @@
--- Texts that stand in a list, with one more.
-use Rattle.cargo_toml_audit.proofs.Paths.{[], if◌then◌else◌, ℕ, ◌++◌, ◌+◌, ◌<◌, ◌||◌, ◌∙◌, ◌∷◌, ◌≡◌, Bool, List, Text, ap, bytes_eq, bytes_eq_sym, cond, drop, false, get_or, is_in, left_next, length, list_any-append, map, map-append, or-false, refl, repeats_of, sym, take, take_more, true}
+-- Lists of texts: what they are joined to, and which stand in one, with one more.
+use Rattle.cargo_toml_audit.proofs.Paths.{[], ◌++◌, ◌||◌, ◌∷◌, ◌≡◌, List, Text, ap, flat_map-map, join_by, map, refl, sym, if◌then◌else◌, ℕ, ◌+◌, ◌<◌, ◌∙◌, bytes_eq, bytes_eq_sym, drop, get_or, is_in, left_next, length, list_any-append, map-append, or-false, repeats_of, take, take_more}
 
-pub cond_or : (b c : Bool) → cond b true c ≡ (c || b)
-cond_or true true = refl
-cond_or true false = refl
-cond_or false true = refl
-cond_or false false = refl
+pub join_mapped : {X : Type 0} (f : X → Text) (between : Text) (xs : List X) → join_by f between xs ≡ join_by (λ t. t) between (map f xs)
+join_mapped f between [] = refl
+join_mapped f between (x ∷ xs) = ap (λ t. f x ++ t) (sym (flat_map-map (λ (t : Text). between ++ t) f xs))
 
 pub one_more_in : (ts : List Text) (x t : Text) → is_in (ts ++ x ∷ []) t ≡ (is_in ts t || bytes_eq x t)
 one_more_in ts x t = list_any-append (bytes_eq t) ts (x ∷ []) ∙ ap (λ b. is_in ts t || b) (or-false (bytes_eq t x) ∙ bytes_eq_sym t x)

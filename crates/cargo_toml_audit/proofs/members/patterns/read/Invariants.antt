@@ -1,5 +1,0 @@
-use Rattle.cargo_toml_audit.proofs.Paths.{◌≡◌, drop, fold, read_all, read_more, read_of}
-use Rattle.cargo_toml_audit.proofs.members.patterns.read.Given as goal
-
-abbrev pub invariant-loop-c : goal.invariant-loop-c
-invariant-loop-c l = fold read_more (read_of l.reading) (drop l.c-index l.characters) ≡ read_all l.characters

@@ -5,8 +5,7 @@ ghost use Rattle.cargo_toml.specs.{Manifests.held, Reads.map_meaning, Targets.ta
 ghost use Rattle.cargo_toml_tools.specs.{Sections.lists_meaning, IndexEntries.with_rows};
 ghost use Rattle.cargo_toml_check.specs.Listed.{AreMembers, IsListing, action_json, actions_json};
 ghost use Rattle.cargo_toml_check.specs.Listed.{are_cut_targets, feature_json, has_long, is_cut};
-ghost use Rattle.cargo_toml_check.specs.Listed.{is_cut_target, is_over, row_at, stands_for_json};
-ghost use Rattle.cargo_toml_check.specs.Listed.{texts_json};
+ghost use Rattle.cargo_toml_check.specs.Listed.{is_cut_target, row_at, stands_for_json, texts_json};
 
 use cargo_toml::features::{DepAction, Feature, Features};
 use cargo_toml::{FeatureSet, Manifest, Target, TargetDepsSet};
@@ -144,11 +143,11 @@ fn set_json(alloc: Global, texts: &BTreeSet<&str>) -> Result<Value, AllocError>
 fn is_cut<M>(manifest: &Manifest<M>) -> bool
     ensures { result ≡ is_cut (held manifest.now) }
 {
-    is_over(manifest.features.len())
+    manifest.features.len() > MAX_ITEMS
         || has_long(&manifest.features)
-        || is_over(manifest.dependencies.len())
-        || is_over(manifest.build_dependencies.len())
-        || is_over(manifest.dev_dependencies.len())
+        || manifest.dependencies.len() > MAX_ITEMS
+        || manifest.build_dependencies.len() > MAX_ITEMS
+        || manifest.dev_dependencies.len() > MAX_ITEMS
         || are_cut_targets(&manifest.target)
 }
 
@@ -156,7 +155,7 @@ fn has_long(features: &FeatureSet) -> bool
     ensures { result ≡ has_long (lists_meaning features.now) }
 {
     for (_name, texts) in features.iter() {
-        if is_over(texts.len()) {
+        if texts.len() > MAX_ITEMS {
             return true;
         }
     }
@@ -177,13 +176,7 @@ fn are_cut_targets(targets: &TargetDepsSet) -> bool
 fn is_cut_target(target: &Target) -> bool
     ensures { result ≡ is_cut_target (target_meaning target.now) }
 {
-    is_over(target.dependencies.len())
-        || is_over(target.build_dependencies.len())
-        || is_over(target.dev_dependencies.len())
-}
-
-fn is_over(count: usize) -> bool
-    ensures { result ≡ is_over count }
-{
-    count > MAX_ITEMS
+    target.dependencies.len() > MAX_ITEMS
+        || target.build_dependencies.len() > MAX_ITEMS
+        || target.dev_dependencies.len() > MAX_ITEMS
 }

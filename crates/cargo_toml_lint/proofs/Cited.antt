@@ -10,15 +10,15 @@ pub use Rattle.cargo_toml_features.{proofs.ActionTexts.none_found, proofs.ByPlac
 pub use Rattle.cargo_toml_features.{proofs.TextKeys.inserted, proofs.TextKeys.none_in, specs.ActionText.action_in, specs.ActionText.item_in, specs.Places.nth_text, specs.declared.action.ActionText.ActionText}
 pub use Rattle.cargo_toml_features.{specs.declared.features.Features.Features}
 pub use Rattle.cargo_toml_graph.{proofs.BinLists.among-either, proofs.BinLists.among-first, proofs.BinLists.among-second, proofs.Closure.chained}
-pub use Rattle.cargo_toml_lint.specs.Findings.{About, Counts, HoldsOf, IsCyclic, IsFound, IsOnlyDefault, IsUnreachable, about, asked_of, entry_findings, feature_findings, findings_by, is_hidden, is_private, list_findings, product_findings}
-pub use Rattle.cargo_toml_lint.specs.Findings.{request_findings, required_findings, table_findings, target_findings, told, when, written_findings}
-pub use Rattle.cargo_toml_lint.specs.Known.{Marked, Names, acted_by, acted_keys, all_names, has_key, is_name, keys_in, target_keys}
-pub use Rattle.cargo_toml_lint.specs.Linked.{AreLinks, AreWalks, Goes, Passes, is_of, name_at, names_of}
+pub use Rattle.cargo_toml_lint.specs.Findings.{About, Counts, HoldsOf, IsCyclic, IsFound, IsOnlyDefault, IsUnreachable, about, asked_of, entry_findings, feature_findings, findings_by, is_hidden, is_private, product_findings}
+pub use Rattle.cargo_toml_lint.specs.Findings.{required_fault, table_findings, text_fault, texts_findings, told, when, written_findings}
+pub use Rattle.cargo_toml_lint.specs.Known.{Marked, Names, acted_by, acted_keys, all_names, has_key, is_name, keys_in, target_tables}
+pub use Rattle.cargo_toml_lint.specs.Linked.{AreLed, AreLinks, AreWalked, AreWalks, LeadsOn, Passes, name_at, names_of}
 pub use Rattle.cargo_toml_lint.specs.Reached.{IsFlagged, IsInRing, IsWhole, Leads, Path, Searches, Stands, edges_left, row_at}
 pub use Rattle.cargo_toml_lint.specs.Steps.{CountsBy, Finds, explicit_at, implied_at, is_beyond, private_at, written_in}
 pub use Rattle.cargo_toml_lint.specs.Turning.{turned, turning, turning_by, turns_to}
-pub use Rattle.cargo_toml_lint.specs.declared.finding.Code.TheVariants.{Cycle, FeatureTable, Implied, PrivateDefault, Unreachable}
-pub use Rattle.cargo_toml_lint.{specs.Names.held_names, specs.Names.key_of, specs.Names.listed_by, specs.Taken.may_follow, specs.declared.finding.Code.Code, specs.declared.finding.Finding.Finding, specs.declared.known.Key.Key}
+pub use Rattle.cargo_toml_lint.specs.declared.finding.Code.TheVariants.{BadRequest, Cycle, FeatureTable, Implied, PrivateDefault, Unreachable}
+pub use Rattle.cargo_toml_lint.{specs.Names.held_names, specs.Names.key_of, specs.Names.listed_by, specs.Names.table_of, specs.Taken.is_feature_name, specs.Taken.may_follow, specs.Taken.may_start, specs.declared.finding.Code.Code, specs.declared.finding.Finding.Finding}
 pub use Rattle.cargo_toml_lint.{specs.declared.known.Known.Known, specs.declared.linking.Links.Links, specs.declared.reach.Reach.Reach, specs.declared.walks.Walks.Walks}
 pub use Rattle.cargo_toml_package.{specs.DependencyAnswers.features_at, specs.declared.dependency.Dependency.Dependency, specs.declared.dependency.Dependency.TheVariants.Detailed, specs.declared.dependency.Dependency.TheVariants.Inherited}
 pub use Rattle.cargo_toml_package.{specs.declared.dependency.Dependency.TheVariants.Simple, specs.declared.target.Target.Target}
@@ -27,13 +27,13 @@ pub use Rattle.std.proofs.Common.{length-append, length-set, lit<, map, nat_eq, 
 pub use Rattle.std.proofs.Common.{◌∙◌, ◌∷◌, ◌≡◌, ◌≢◌, ◌≤◌, ◌⊎◌}
 pub use Rattle.std.proofs.lemmas.Bool.{and_from, and_parts, cases_Bool, cases_eq, false_from_ne_true, false≢true, not-true, not_from_false, or_cases, or_left, or_right}
 pub use Rattle.std.proofs.lemmas.List.{get_or-set_other, get_or-set_same, get_or_read, length-map, map_push, take_all, take_more}
-pub use Rattle.std.specs.List.{Contains, dedup, flat_map, list_any}
+pub use Rattle.std.specs.List.{Contains, dedup, flat_map, list_all, list_any}
 pub use Rattle.std.{proofs.Math.Bool.and-true, proofs.Math.Bool.or-false, proofs.lemmas.Bool.Decides.Decides-eqb, proofs.lemmas.Cmp.eq_by_cmp_equiv, proofs.lemmas.Grind.common_steps, proofs.lemmas.Iterator.YieldsList-from_chars}
-pub use Rattle.std.{proofs.lemmas.Iterator.Consumers.YieldsList-end, proofs.lemmas.Iterator.Consumers.YieldsList-turn, proofs.lemmas.Iterator.Search.all_from_yields_List, proofs.lemmas.List.Concat.flat_map-append}
+pub use Rattle.std.{proofs.lemmas.Iterator.items_from_collect, proofs.lemmas.Iterator.Consumers.YieldsList-from_copied, proofs.lemmas.Iterator.Consumers.YieldsList-from_rest, proofs.lemmas.Iterator.Consumers.YieldsList-end, proofs.lemmas.Iterator.Consumers.YieldsList-turn, proofs.lemmas.Iterator.Search.all_from_yields_List, proofs.lemmas.List.Concat.flat_map-append}
 pub use Rattle.std.{proofs.lemmas.List.Filters.dedup_is, proofs.lemmas.List.Folds.list_any-append, proofs.lemmas.List.Kept.Any-dedup, proofs.lemmas.List.Kept.Contains-from_dedup, proofs.lemmas.List.Kept.IsStrictlySortedBy-dedup}
 pub use Rattle.std.{proofs.lemmas.List.Sorted.Contains-permutation, proofs.lemmas.List.Sorted.IsPermutation-sym, proofs.lemmas.Map.Iter.rest_all, proofs.lemmas.Map.Iter.rest_more, proofs.lemmas.Map.Text.is_eq-slice_cmp}
 pub use Rattle.std.{proofs.lemmas.Result.IfOk-weaker, proofs.lemmas.Slice.Eq.bytes_eq-Decides, proofs.lemmas.Str.Pattern.split_once_first, specs.BTreeMap.BTreeMap, specs.BTreeMap.get_by_text, specs.BTreeMap.is_at, specs.BTreeSet.BTreeSet}
-pub use Rattle.std.{specs.Cmp.IsEquivalence, specs.Cmp.Lexicographic.slice_cmp, specs.Fn.FnReturnsAt, specs.HashMap.HashMap, specs.List.Retain.DiffersFromLast, specs.List.Retain.IsFiltered, specs.List.Sorted.IsPermutation}
+pub use Rattle.std.{specs.Cmp.IsEquivalence, specs.Cmp.Lexicographic.slice_cmp, specs.Fn.FnReturnsAt, specs.HashMap.HashMap, specs.Str.chars, specs.List.Retain.DiffersFromLast, specs.List.Retain.IsFiltered, specs.List.Sorted.IsPermutation}
 pub use Rattle.std.{specs.List.Sorted.IsSorted, specs.List.Sorted.IsStrictlySortedBy, specs.Map.Iter.TakesFirst, specs.Map.lookup, specs.Option.option_copied, specs.Option.option_map_or, specs.Ordering.is_eq, specs.Ordering.nat_cmp}
 pub use Rattle.std.{specs.Prelude.unwrap_or}
 pub use denote.Enum.{Bare.same_true}

@@ -11,8 +11,10 @@ abbrev pub IsFilled : {Z : Type 0} → (ℕ → ℕ → Type 0) → ℕ → List
 IsFilled P n rows = (length rows ≡ n) × ((a b : ℕ) → a < n → Leads rows a b ↔ P a b)
 
 -- ---- what one text turns on: the name that it names or acts on, if it does so
-module _ (names : List (Bor Text)) (optional : Text → Bool) (text : Text) (t : ActionText) (turns : Bool) (item : item_in t ≡ item_of text)
-    (told : turns ≡ (not (t.is_dep_only || is_some t.dep_feature) || (optional t.target.now && (not t.is_conditional && not t.is_dep_only)))) (b : ℕ) where
+module _ (names : List (Bor Text)) (optional : Text → Bool) (text : Text) (t : ActionText) (item : item_in t ≡ item_of text) (b : ℕ) where
+  abbrev turns : Bool
+  turns = not (t.is_dep_only || is_some t.dep_feature) || (optional t.target.now && (not t.is_conditional && not t.is_dep_only))
+
   abbrev texts : List Text
   texts = map (λ t. t.now) names
 
@@ -20,7 +22,7 @@ module _ (names : List (Bor Text)) (optional : Text → Bool) (text : Text) (t :
   Passed = Passes names (λ x. turns_to optional x (item_of text)) b
 
   is : (x : Text) → turns_to optional x (item_of text) ≡ (bytes_eq x t.target.now && turns)
-  is x = ap (turns_to optional x) (sym item) ∙ go (t.is_dep_only || is_some t.dep_feature) ∙ ap (λ b. bytes_eq x t.target.now && b) (sym told)
+  is x = ap (turns_to optional x) (sym item) ∙ go (t.is_dep_only || is_some t.dep_feature)
     where
       go : (acts : Bool) → turns_to optional x (cond acts (On t.target.now (action_in t)) (Name t.target.now))
           ≡ (bytes_eq x t.target.now && (not acts || (optional t.target.now && (not t.is_conditional && not t.is_dep_only))))

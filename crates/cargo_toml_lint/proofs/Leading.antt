@@ -1,6 +1,6 @@
 -- Where places lead is where names turn.
-use Rattle.cargo_toml_lint.proofs.Cited.{◌<◌, ◌↔◌, ◌∙◌, ◌∷◌, ◌≡◌, ◌≢◌, [], among_at, ap, AreLinks, AreWalks, arith, at_among, Bool, Bor, bytes_eq, bytes_eq-Decides, cases_Bool, codes, Edge, Enables, enables_has, false, false≢true, further}
-use Rattle.cargo_toml_lint.proofs.Cited.{get_or, inl, inr, is_hidden, IsCyclic, IsFlagged, IsInRing, IsOnlyDefault, IsTrue, IsUnreachable, itself, Leads, length, Links, List, map, name_at, names_of, None, not, not-true, not_from_false}
+use Rattle.cargo_toml_lint.proofs.Cited.{◌<◌, ◌↔◌, ◌∙◌, ◌∷◌, ◌≡◌, ◌≢◌, [], among_at, ap, AreLed, AreLinks, AreWalks, arith, at_among, Bool, Bor, bytes_eq, bytes_eq-Decides, cases_Bool, codes, Edge, Enables, enables_has, false, false≢true, further}
+use Rattle.cargo_toml_lint.proofs.Cited.{get_or, inl, inr, is_hidden, IsCyclic, IsFlagged, IsInRing, IsOnlyDefault, IsTrue, IsUnreachable, itself, Leads, LeadsOn, length, Links, List, map, name_at, names_of, None, not, not-true, not_from_false}
 use Rattle.cargo_toml_lint.proofs.Cited.{nth_text, once, Path, refl, subst, suc, sym, Table, Text, true, Walks, zero, ℕ}
 use Rattle.cargo_toml_lint.proofs.{Edges.length_now, Searching.along, Searching.path_edge}
 
@@ -73,20 +73,19 @@ module _ (t : Table) (l : Links) (are : AreLinks t l) where
     edge_at k lk = grind (arith, known_at, same_place)
 
     -- the sources by one step of which the test holds
-    of_led : (test : Text → Bool) (flags : List Bool) → ((b : ℕ) → IsFlagged flags b ↔ ((a : ℕ) × (a < n) × IsTrue (test (name_at l a)) × ((b ≢ a) × Leads l.reach.next.items a b)))
-        → IsFlagged flags p ↔ ((e : Text) × Edge t e own × IsTrue (test e))
+    of_led : (test : Text → Bool) (flags : List Bool) → AreLed l n test (LeadsOn l) flags → IsFlagged flags p ↔ ((e : Text) × Edge t e own × IsTrue (test e))
     of_led test flags led = (
-      λ h. let r = (led p).0 h in (name_at l r.0, (edge_at r.0 r.1).0 r.3, r.2),
+      λ h. let r = (led.are p).0 h in (name_at l r.0, (edge_at r.0 r.1).0 r.3, r.2),
       λ e.
           let q = place e.0 e.1.source in
-          (led p).1 (q.0, q.1, ap test q.2 ∙ e.2, (edge_at q.0 q.1).1 (subst (λ f. Edge t f own) (sym q.2) e.1)),
+          (led.are p).1 (q.0, q.1, ap test q.2 ∙ e.2, (edge_at q.0 q.1).1 (subst (λ f. Edge t f own) (sym q.2) e.1)),
     )
 
     pub only_default_at : (IsFlagged w.by_default.items p × ¬ IsFlagged w.by_others.items p) ↔ IsOnlyDefault t own
     only_default_at =
         let is : (e : Text) → (bytes_eq e (codes "default") ≡ true) ↔ (e ≡ codes "default") = λ e. bytes_eq-Decides e (codes "default") in
-        let by_default = of_led (λ e. bytes_eq e (codes "default")) w.by_default.items walks.by_default.are in
-        let by_others = of_led (λ e. not (bytes_eq e (codes "default"))) w.by_others.items walks.by_others.are in (
+        let by_default = of_led (λ e. bytes_eq e (codes "default")) w.by_default.items walks.by_default in
+        let by_others = of_led (λ e. not (bytes_eq e (codes "default"))) w.by_others.items walks.by_others in (
           λ h. record {
             default_does = let r = by_default.0 h.0 in subst (λ f. Edge t f own) ((is r.0).0 r.2) r.1;
             no_other = λ e d. elim (cases_Bool (bytes_eq e (codes "default"))) [

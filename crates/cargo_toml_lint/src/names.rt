@@ -1,8 +1,5 @@
 //! Which names and texts Cargo takes.
-ghost use Rattle.std.specs.Prelude.{◌≡◌, IfSome, is_some, slice_get};
-ghost use Rattle.std.specs.List.{after_first, before_first, list_all, list_any};
-ghost use Rattle.std.specs.Str.{chars};
-ghost use Rattle.cargo_toml.specs.Action.{is_slash};
+ghost use Rattle.std.specs.Prelude.{◌≡◌};
 ghost use Rattle.cargo_toml_lint.specs.Taken.{is_bad_text, is_feature_name, is_never_required};
 ghost use Rattle.cargo_toml_lint.specs.Taken.{may_follow, may_start};
 
@@ -22,49 +19,21 @@ fn may_follow(c: char) -> bool
     is_xid_continue(c) || c == '-' || c == '+' || c == '.'
 }
 
-fn first_char(text: &str) -> Option<char>
-    ensures { result ≡ slice_get (chars text.now) 0 }
-{
-    text.chars().next()
-}
-
-// Whether each character may stand in a feature's name.
-fn all_may_follow(text: &str) -> bool
-    ensures { result ≡ list_all may_follow (chars text.now) }
-{
-    text.chars().all(|c| may_follow(c))
-}
-
 /// Whether Cargo takes the text for the name of a feature.
 pub(crate) fn is_feature_name(name: &str) -> bool
     ensures { result ≡ is_feature_name name.now }
 {
-    match first_char(name) {
-        Some(first) => may_start(first) && all_may_follow(name),
-        None => false,
-    }
-}
-
-// The text up to its first slash, and what follows that.
-fn split_slash(text: &str) -> (&str, Option<&str>)
-    ensures front { result.0.now ≡ before_first is_slash text.now }
-    ensures found { is_some result.1 ≡ list_any is_slash text.now }
-    ensures after { IfSome result.1 (λ rest. rest.now ≡ after_first is_slash text.now) }
-{
-    match text.split_once('/') {
-        Some((front, feature)) => (front, Some(feature)),
-        None => (text, None),
-    }
+    let begins = name.chars().next().is_some_and(may_start);
+    begins & name.chars().all(may_follow)
 }
 
 /// Whether the text is of no form that Cargo knows in a feature's list.
 pub(crate) fn is_bad_text(text: &str) -> bool
     ensures { result ≡ is_bad_text text.now }
 {
-    let parts = split_slash(text);
     let bytes = text.as_bytes();
-    match parts.1 {
-        Some(feature) => bytes.starts_with(b"dep:".as_slice()) | !is_feature_name(feature),
+    match text.split_once('/') {
+        Some((_, feature)) => bytes.starts_with(b"dep:".as_slice()) | !is_feature_name(feature),
         None => bytes.ends_with(b"?".as_slice()),
     }
 }
@@ -73,9 +42,8 @@ pub(crate) fn is_bad_text(text: &str) -> bool
 pub(crate) fn is_never_required(text: &str) -> bool
     ensures { result ≡ is_never_required text.now }
 {
-    let parts = split_slash(text);
-    match parts.1 {
-        Some(_) => parts.0.as_bytes().ends_with(b"?".as_slice()),
+    match text.split_once('/') {
+        Some((front, _)) => front.as_bytes().ends_with(b"?".as_slice()),
         None => text.as_bytes().starts_with(b"dep:".as_slice()),
     }
 }

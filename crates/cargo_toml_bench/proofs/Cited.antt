@@ -24,7 +24,7 @@ pub use Rattle.std.proofs.lemmas.Bool.{and_from, and_parts, cases_Bool, cond-fal
 pub use Rattle.std.proofs.lemmas.List.{length-map, map_push, nil_from_length, take_more}
 pub use Rattle.std.proofs.lemmas.Result.{IfErr-weaker, IfOk-weaker, err_from_is_err_and}
 pub use Rattle.std.specs.HashMap.{HashMap, IsUnique, hash_map_len}
-pub use Rattle.std.specs.List.{AllByRecursion, IsDistinct, list_any, starts_with}
+pub use Rattle.std.specs.List.{AllByRecursion, list_any, starts_with}
 pub use Rattle.std.specs.Option.{IsSomeAnd, option_copied, option_map_or}
 pub use Rattle.std.specs.Prelude.{IfErr, IsUtf8, filter}
 pub use Rattle.cargo_toml.{specs.Action.Text, specs.Admitted.admitted, specs.Asked.WorkspaceMeets, specs.Choosing.from, specs.Completing.Outcome, specs.Dependency.Dependency, specs.Error.Error, specs.Error.Memory, specs.Feature.Feature, specs.Floats.without_floats, specs.Inheritable.TheVariants.Set, specs.Limits.MAX_ITEMS}
@@ -40,3 +40,4 @@ pub use Rattle.semver.{specs.Identifiers.parts_of, specs.declared.Version.Versio
 pub use Rattle.std.{proofs.lemmas.Bool.Decides.same_from_decides, proofs.lemmas.Iterator.items_from_collect, proofs.lemmas.Iterator.Consumers.YieldsList-from_copied, proofs.lemmas.Iterator.Consumers.YieldsList-from_rest, proofs.lemmas.Map.Made.is_some-lookup, proofs.lemmas.Map.Text.hash_set_updates_text}
 pub use Rattle.std.{proofs.lemmas.Map.Text.is_eq-slice_cmp, proofs.lemmas.Option.MatchOption-at_none, proofs.lemmas.Slice.Eq.bytes_eq-Decides, specs.BTreeMap.is_at, specs.BTreeSet.BTreeSet, specs.BTreeSet.btree_set_len, specs.Cmp.Lexicographic.slice_cmp, specs.Ordering.nat_cmp, specs.declared.alloc.Global.Global}
 pub use Rattle.toml.{proofs.Views.view-Table, specs.Data.Data, specs.Data.table, specs.Parse.parse_document, specs.View.table_view, specs.View.view, specs.declared.value.Value.Value}
+unfoldable pub use Rattle.std.specs.List.{IsDistinct}

@@ -19,7 +19,7 @@ pub use Rattle.std.specs.BTreeSet.{BTreeSet, IsFromIterResult, IsOrdered, contai
 pub use Rattle.std.specs.Cmp.{IsStrictWeakOrder, on_total, then_total}
 pub use Rattle.std.specs.Cmp.Lexicographic.{nat_list_cmp_total, options_total, slice_cmp}
 pub use Rattle.std.specs.List.{AllByRecursion, cons_option, filter_map, list_any}
-pub use Rattle.std.specs.List.Sorted.{IsSortedBy, IsStableBy, IsStrictlySortedBy, ties}
+pub use Rattle.std.specs.List.Sorted.{IsSortedBy, IsStableBy, ties}
 pub use Rattle.std.specs.Option.{option_copied, option_map, option_or}
 pub use Rattle.std.specs.Ordering.{is_eq, is_lt, match_ordering, nat_cmp}
 pub use Rattle.std.specs.Str.Pattern.{CutsSuffixes, FindsChar, FindsTextSuffix, HasCharAt, IsFullyTrimmed, IsTrimEndMatches}
@@ -34,3 +34,4 @@ pub use Rattle.std.{proofs.lemmas.Str.Pattern.drop_at_char, specs.BTreeMap.get_b
 pub use Rattle.std.{specs.String.string_cmp, specs.contracts.io.ErrorKind.the_type, specs.declared.alloc.Global.Global, specs.declared.cmp.Ordering.Ordering, specs.declared.io.ErrorKind.ErrorKind}
 pub use denote.Enum.{Bare.sameb}
 pub use denote.Ref.{Bor}
+unfoldable pub use Rattle.std.specs.List.Sorted.{IsStrictlySortedBy}

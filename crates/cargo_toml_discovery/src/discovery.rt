@@ -102,9 +102,7 @@ fn filled_library(
     if library.name.is_none() {
         library.name = Some(underscored(alloc, name)?);
     }
-    if library.edition.is_none() {
-        library.edition = Some(edition);
-    }
+    library.edition = library.edition.or(Some(edition));
     if library.crate_type.is_empty() {
         library.crate_type = vec![in alloc; String::from_str(alloc, "lib")?]?;
     }

@@ -36,7 +36,7 @@ pub use Rattle.std.specs.BTreeMap.{BTreeMap, get_by, is_at}
 pub use Rattle.std.specs.Cmp.Lexicographic.{on_texts, on_texts_equal, slice_cmp}
 pub use Rattle.std.specs.FinMap.Entries.{below_all, is_sorted, same_entries}
 pub use Rattle.std.specs.List.{AllByRecursion, AllWithin, Contains, FoldsTo, HoldsAt, IsAllAdjacentAnswer, IsDistinct, dedup, ends_with, flat_map, insert, list_any, position_or_len}
-pub use Rattle.std.specs.List.Sorted.{IsBinarySearchResult, IsPartitionPoint, IsPartitionedBy, IsPermutation, IsSearchInRange, IsSorted, IsStrictlySortedBy}
+pub use Rattle.std.specs.List.Sorted.{IsBinarySearchResult, IsPartitionPoint, IsPartitionedBy, IsPermutation, IsSearchInRange, IsSorted}
 pub use Rattle.std.specs.Map.{keys_of, lookup, values_of}
 pub use Rattle.std.specs.Map.Iter.{TakesFirst, deref, deref_pair}
 pub use Rattle.std.specs.Option.{IsSomeAnd, option_copied, option_map_or, option_or, option_to_list}
@@ -55,3 +55,4 @@ pub use Rattle.std.{proofs.lemmas.Map.Lookups.exact_bytes, proofs.lemmas.Map.Mad
 pub use Rattle.std.{specs.Cmp.IsTotalOrder, specs.Fn.CalledAt, specs.HashMap.HashMap, specs.HashMap.IsUnique, specs.HashMap.Entry.map_with_value, specs.Iterator.YieldsFirst, specs.Iterator.YieldsThen, specs.List.Retain.DiffersFromLast, specs.List.Retain.IsFiltered, specs.Map.Calls.RetainsPairs, specs.Result.result_ok}
 pub use Rattle.std.{specs.String.string_cmp, specs.declared.alloc.Global.Global, specs.declared.cmp.Ordering.TheVariants.Equal, specs.declared.cmp.Ordering.TheVariants.Less}
 pub use denote.Param.{Members.Mut}
+unfoldable pub use Rattle.std.specs.List.Sorted.{IsStrictlySortedBy}

@@ -29,6 +29,7 @@ pub use Rattle.cargo_toml_package.{specs.declared.dependency.DependencyDetail.De
 pub use Rattle.cargo_toml_package.{specs.declared.target.FeatureDetail.FeatureDetail, specs.declared.workspace_dependencies.targets.NewTarget.NewTarget}
 pub use Rattle.cargo_toml_parts.{proofs.Collected.mean_alike, proofs.Steps.blames, proofs.Taken.rest_read, specs.Faults.IsShape, specs.Faults.wrong_shape, specs.InheritableValues.value_of, specs.Inherits.inheritable_map, specs.Settings.File, specs.Settings.PublishRefuses, specs.Versions.requirement_meaning}
 pub use Rattle.cargo_toml_parts.{specs.declared.error.Error.TheOpen.Error-F, specs.declared.inheritable.Inheritable.Inheritable, specs.declared.inheritable.Inheritable.TheVariants.Inherited, specs.declared.inheritable.Inheritable.TheVariants.Set}
-pub use Rattle.std.{proofs.lemmas.Bool.or_parts, proofs.lemmas.Grind.common_steps, proofs.lemmas.List.map_push, proofs.lemmas.Map.Text.is_eq-slice_cmp, proofs.lemmas.Result.err_from_is_err_and, specs.Cmp.Lexicographic.slice_cmp, specs.List.Sorted.IsStrictlySortedBy, specs.Map.keys_of, specs.Map.lookup}
+pub use Rattle.std.{proofs.lemmas.Bool.or_parts, proofs.lemmas.Grind.common_steps, proofs.lemmas.List.map_push, proofs.lemmas.Map.Text.is_eq-slice_cmp, proofs.lemmas.Result.err_from_is_err_and, specs.Cmp.Lexicographic.slice_cmp, specs.Map.keys_of, specs.Map.lookup}
 pub use Rattle.std.{specs.Map.Calls.RetainsPairs, specs.Option.option_copied, specs.Ordering.nat_cmp, specs.Prelude.Vec, specs.Result.result_and, specs.Result.result_map_both, specs.Str.bytes_eq, specs.String.string_cmp, specs.Vec.Iter.into_iter_items, specs.declared.alloc.Global.Global}
 pub use Rattle.toml.{proofs.Views.Entry, specs.View.table_view, specs.View.view, specs.declared.value.Value.Value}
+unfoldable pub use Rattle.std.specs.List.Sorted.{IsStrictlySortedBy}

@@ -5,15 +5,15 @@ pub use Rattle.cargo_toml_manifest.specs.Completing.{complete_by, gives, seen_at
 pub use Rattle.cargo_toml_manifest.specs.Finding.{found_for, stated_by, wanted_by, with_discovered}
 pub use Rattle.cargo_toml_manifest.specs.Inheriting.{inherited_from, inherited_if_there, inherited_manifest, own_tables}
 pub use Rattle.cargo_toml_manifest.specs.Manifests.{ManifestMeaning, badges_reads, by_zero_rule, manifest_meaning, manifest_of, manifest_reads, no_badges, no_profiles, product_reads, profiles_reads, target_reads, zero_rule_applies}
-pub use Rattle.cargo_toml_package.specs.Dependencies.{DependencyMeaning, DetailMeaning, InheritedMeaning, dependency_of, detail_keys, detail_of_table, detailed, inherited, inherited_of, inherited_or, no_detail, simple, strict_of}
+pub use Rattle.cargo_toml_package.specs.Dependencies.{DependencyMeaning, DetailMeaning, InheritedMeaning, detail_keys, detail_of_table, detailed, inherited, inherited_of, inherited_or, no_detail, simple, strict_of}
 pub use Rattle.cargo_toml_package.specs.Details.{Detail, detail_of, is_plain, plain_detail}
 pub use Rattle.cargo_toml_package.specs.Features.{FeaturesMeaning, apart, details_of, feature_of, features_meaning, features_of, lists_of, no_features, table_feature}
 pub use Rattle.cargo_toml_package.specs.InheritedDependencies.{Entries, detail_of_requirement, entry_at, from_template, inherited_entries, inherited_entry, inherited_target, inherited_targets, with_entry}
 pub use Rattle.cargo_toml_package.specs.Inheriting.{any_field_left, filled_field, inherited_package, with_template_if_there}
-pub use Rattle.cargo_toml_package.specs.Packages.{PackageMeaning, package_meaning, package_of_table, package_reads}
+pub use Rattle.cargo_toml_package.specs.Packages.{PackageMeaning, package_meaning, package_of_table}
 pub use Rattle.cargo_toml_package.specs.Sharing.{LintsByTool, Shared, inherited_lints}
-pub use Rattle.cargo_toml_package.specs.Templates.{TemplateMeaning, template_of, template_reads}
-pub use Rattle.cargo_toml_package.specs.Workspaces.{WorkspaceMeaning, workspace_meaning, workspace_of, workspace_reads}
+pub use Rattle.cargo_toml_package.specs.Templates.{TemplateMeaning, template_of}
+pub use Rattle.cargo_toml_package.specs.Workspaces.{WorkspaceMeaning, workspace_meaning, workspace_of}
 pub use Rattle.cargo_toml_parts.specs.Answers.{beside, each, ◌>>=◌}
 pub use Rattle.cargo_toml_parts.specs.Badges.{BadgeMeaning, BadgesMeaning, badge_of, badge_reads, badges_of, maintenance_of, maintenance_reads, or_none, status_of}
 pub use Rattle.cargo_toml_parts.specs.Inherits.{by_flag, inheritable_map, inheritable_of, set_or, workspace_flag}
@@ -31,7 +31,7 @@ pub use Rattle.cargo_toml_write.specs.Asked.{Asked, EachValue, IfSet, ManifestMe
 pub use Rattle.cargo_toml_write.specs.Requirements.{CanBeRead, after_major, comparator_text, requirement_text, sign_of, star_of}
 pub use Rattle.cargo_toml_write.specs.Reread.{ChoiceIsTold, IsTold, SaysTrue, SharedIsTold, each_value, reread, reread_dependency, reread_target, reread_workspace, says_true, told}
 pub use Rattle.cargo_toml_write.specs.Ways.{Ascend, AsksOf, Begins, IsMap, all_of, exactly, free_way, inheritable_way, inherited_tree, is_nil, is_set_and, list_way, map_way, members_of, number_way, over_way, requirement_way, small_way, table_way, text_way, texts_way, truth_way, unless_missing, version_way}
-pub use Rattle.cargo_toml_write.specs.Writes.{AreEntries, AreItems, AreWritten, EntriesRefused, IsHeld, IsReadAgain, IsWriting, ItemsRefused, Row, Way, WritesFrom, WritingEnds, optional_row, put_member, put_some, required_row, unless}
+pub use Rattle.cargo_toml_write.specs.Writes.{AreEntries, AreItems, AreWritten, EntriesRefused, IsHeld, IsReadAgain, IsWriting, ItemsRefused, Row, Way, WritingEnds, optional_row, put_member, put_some, required_row, unless}
 pub use Rattle.cargo_toml_write.specs.WrittenDependencies.{AreTold, DependencyAgain, DetailAgain, dependencies_way, dependency_way, detail_reads, detail_under, detail_way, feature_way, features_in, features_way, inherited_reads, inherited_rows, inherited_way, known_rows, target_rows, target_way, told_features, told_rows, told_way}
 pub use Rattle.cargo_toml_write.specs.WrittenManifests.{all_features, manifest_rows, manifest_way}
 pub use Rattle.cargo_toml_write.specs.WrittenPackages.{AreReadAgain, IsVersionAgain, MetadataAgain, TemplateAgain, VersionAgain, package_rows, package_way, template_rows, template_way, workspace_rows, workspace_way}
@@ -43,7 +43,7 @@ pub use Rattle.semver.proofs.Requirements.{held, req-end, req-more}
 pub use Rattle.semver.proofs.Segments.{good, not_zero, scan-all}
 pub use Rattle.semver.specs.Identifiers.{comparator_view, marked, parts_of}
 pub use Rattle.semver.specs.OrderLaws.{join-parts, join_dots, parts-shape}
-pub use Rattle.semver.specs.Parse.{Held, Minor, Parsed, Patch, build_part, comparator_in, comparator_of, comparator_or, digits_from, first_or_equal, has, identifier_len, identifier_of, minor_of, minor_part, next_text, numeric, op_of, patch_number, patch_of, patch_part, pre_part, prepend, req_after, req_from, req_next, req_of, scan, strip_spaces, version_parts, wild_req, wildcard_of}
+pub use Rattle.semver.specs.Parse.{Held, Minor, Parsed, Patch, build_part, comparator_in, comparator_of, comparator_or, first_or_equal, has, identifier_len, identifier_of, minor_of, minor_part, next_text, numeric, op_of, patch_number, patch_of, patch_part, pre_part, prepend, req_after, req_next, req_of, scan, version_parts, wild_req, wildcard_of}
 pub use Rattle.std.proofs.Common.{Bool, Equal, Err, Global, Greater, IfErr, IfSome, IsTrue, Less, List, None, Ok, Option, Ordering, Result, Some, String, Vec, [], ap, append-nil, append_assoc, arith, codes, cond, drop, false, get_or, if◌then◌else◌, inl, inr, is_eq, is_some, length, lit<, map, nat_cmp, not, option_and_then, option_map, refl, string_bytes, subst, suc, sym, take, true, zero, ℕ, ◌&&◌, ◌++◌, ◌+◌, ◌<◌, ◌==◌, ◌^◌, ◌||◌, ◌∙◌, ◌∷◌, ◌≡◌, ◌≤◌, ◌⊎◌}
 pub use Rattle.std.proofs.lemmas.Bool.{and_parts, cases_Bool, eq-eqb, false≢true, not-true}
 pub use Rattle.std.proofs.lemmas.List.{drop_at, drop_more, take_all, take_at}
@@ -60,6 +60,13 @@ pub use Rattle.cargo_toml_parts.{specs.declared.error.Error.Memory, specs.declar
 pub use Rattle.cargo_toml_write.{specs.Examples.untested_binary}
 pub use Rattle.semver.{specs.Grammar.is_pre_identifier, specs.Grammar.is_pre_release, specs.Order.parts, specs.declared.Comparator.Comparator, specs.declared.Op.Op, specs.declared.Op.TheVariants.Caret, specs.declared.Op.TheVariants.Wildcard, specs.declared.error.Position.Position}
 pub use Rattle.std.{proofs.lemmas.Bool.Decides.Decides-int_eq, proofs.lemmas.Cmp.nat_list_cmp_total, proofs.lemmas.Iterator.Adapters.option_map_id, proofs.lemmas.List.Elements.All-from_recursion, proofs.lemmas.List.Elements.recursion_from_All, proofs.lemmas.List.Folds.flat_map-map}
-pub use Rattle.std.{proofs.lemmas.Map.Text.is_eq-slice_cmp, proofs.lemmas.Slice.Eq.bytes_eq-Decides, specs.Char.is_ascii_digit, specs.Cmp.tied_itself, specs.Cmp.Lexicographic.slice_cmp, specs.Fmt.decimal, specs.List.Sorted.IsStrictlySortedBy, specs.Map.keys_of, specs.Map.lookup, specs.Option.unwrap_or}
+pub use Rattle.std.{proofs.lemmas.Map.Text.is_eq-slice_cmp, proofs.lemmas.Slice.Eq.bytes_eq-Decides, specs.Char.is_ascii_digit, specs.Cmp.tied_itself, specs.Cmp.Lexicographic.slice_cmp, specs.Fmt.decimal, specs.Map.keys_of, specs.Map.lookup, specs.Option.unwrap_or}
 pub use Rattle.std.{specs.Ordering.match_ordering, specs.Ordering.ordering_reverse, specs.Result.result_ok, specs.Str.bytes_eq, specs.String.string_cmp}
 pub use Rattle.toml.{specs.declared.value.Value.Value}
+unfoldable pub use Rattle.cargo_toml_package.specs.Dependencies.{dependency_of}
+unfoldable pub use Rattle.cargo_toml_package.specs.Packages.{package_reads}
+unfoldable pub use Rattle.cargo_toml_package.specs.Templates.{template_reads}
+unfoldable pub use Rattle.cargo_toml_package.specs.Workspaces.{workspace_reads}
+unfoldable pub use Rattle.cargo_toml_write.specs.Writes.{WritesFrom}
+unfoldable pub use Rattle.semver.specs.Parse.{digits_from, req_from, strip_spaces}
+unfoldable pub use Rattle.std.specs.List.Sorted.{IsStrictlySortedBy}

@@ -11,7 +11,7 @@ pub use Rattle.cargo_toml_features.{proofs.TextKeys.inserted, proofs.TextKeys.no
 pub use Rattle.cargo_toml_features.{specs.declared.features.Features.Features}
 pub use Rattle.cargo_toml_graph.{proofs.BinLists.among-either, proofs.BinLists.among-first, proofs.BinLists.among-second, proofs.Closure.chained}
 pub use Rattle.cargo_toml_lint.specs.Findings.{About, Counts, HoldsOf, IsCyclic, IsFound, IsOnlyDefault, IsUnreachable, about, asked_of, entry_findings, feature_findings, findings_by, is_hidden, is_private, product_findings}
-pub use Rattle.cargo_toml_lint.specs.Findings.{required_fault, table_findings, text_fault, texts_findings, told, when, written_findings}
+pub use Rattle.cargo_toml_lint.specs.Findings.{list_findings, required_fault, table_findings, texts_findings, told, when, written_findings}
 pub use Rattle.cargo_toml_lint.specs.Known.{Marked, Names, acted_by, acted_keys, all_names, has_key, is_name, keys_in, target_tables}
 pub use Rattle.cargo_toml_lint.specs.Linked.{AreLed, AreLinks, AreWalked, AreWalks, LeadsOn, Passes, name_at, names_of}
 pub use Rattle.cargo_toml_lint.specs.Reached.{IsFlagged, IsInRing, IsWhole, Leads, Path, Searches, Stands, edges_left, row_at}

@@ -1,5 +1,5 @@
 -- Where places lead is where names turn.
-use Rattle.cargo_toml_lint.proofs.Cited.{◌<◌, ◌↔◌, ◌∙◌, ◌∷◌, ◌≡◌, ◌≢◌, [], among_at, ap, AreLed, AreLinks, AreWalks, arith, at_among, Bool, Bor, bytes_eq, bytes_eq-Decides, cases_Bool, codes, Edge, Enables, enables_has, false, false≢true, further}
+use Rattle.cargo_toml_lint.proofs.Cited.{◌+◌, ◌<◌, ◌↔◌, ◌∙◌, ◌∷◌, ◌≡◌, ◌≢◌, ◌⊎◌, [], among_at, ap, AreLed, AreLinks, AreWalks, arith, at_among, Bool, Bor, bytes_eq, bytes_eq-Decides, cases_Bool, cases_eq, codes, Edge, Enables, enables_has, false, false≢true, further}
 use Rattle.cargo_toml_lint.proofs.Cited.{get_or, inl, inr, is_hidden, IsCyclic, IsFlagged, IsInRing, IsOnlyDefault, IsTrue, IsUnreachable, itself, Leads, LeadsOn, length, Links, List, map, name_at, names_of, None, not, not-true, not_from_false}
 use Rattle.cargo_toml_lint.proofs.Cited.{nth_text, once, Path, refl, subst, suc, sym, Table, Text, true, Walks, zero, ℕ}
 use Rattle.cargo_toml_lint.proofs.{Edges.length_now, Searching.along, Searching.path_edge}
@@ -9,6 +9,23 @@ pub text_at : (names : List (Bor Text)) (i : ℕ) (t : Bor Text) → i < length 
 text_at [] i t lt e = absurd (omega arith)
 text_at (x ∷ xs) zero t lt e = ap (λ (s : Bor Text). s.now) e
 text_at (x ∷ xs) (suc i) t lt e = text_at xs i t (omega arith) e
+
+-- one more place whose feature goes on, if it passes
+pub led_more : {l : Links} {test : Text → Bool} {Goes : ℕ → ℕ → Type 0} (a : ℕ) (b : Bool) (old new : List Bool) → b ≡ test (name_at l a) → AreLed l a test Goes old → length new ≡ length old
+    → ((y : ℕ) → IsFlagged new y ↔ (IsFlagged old y ⊎ (IsTrue b × Goes a y))) → AreLed l (a + 1) test Goes new
+led_more {l} {test} {Goes} a b old new is led len put = record {
+  len = len ∙ led.len;
+  are = λ y. (
+    λ f. elim ((put y).0 f) [
+      | inl o ↦ let w = (led.are y).0 o in (w.0, (let lt = w.1 in omega arith), w.2, w.3)
+      | inr g ↦ (a, omega arith, sym is ∙ g.0, g.1)
+    ],
+    λ w. (put y).1 (elim (cases_eq w.0 a) [
+      | inl e ↦ inr (is ∙ subst (λ k. IsTrue (test (name_at l k))) e w.2, subst (λ k. Goes k y) e w.3)
+      | inr other ↦ inl ((led.are y).1 (w.0, (let lt = w.1 in omega (arith, other)), w.2, w.3))
+    ]),
+  );
+}
 
 module _ (t : Table) (l : Links) (are : AreLinks t l) where
   abbrev n : ℕ

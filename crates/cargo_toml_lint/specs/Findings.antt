@@ -79,7 +79,11 @@ is_over limit listed f ts =
     nat_lt limit (length ts) || not (is_explicit (admitted limit listed) f)
 
 -- ---- what is found in what is written
--- of the texts of f, by what is wrong with each
+-- of the list of f
+abbrev pub list_findings : Names → Text → List Text → List About
+list_findings n f ts = flat_map (λ t. told f t (text_fault n f t)) ts
+
+-- of other texts of f, by what is wrong with each
 abbrev pub texts_findings : (Text → Option Code) → Text → List Text → List About
 texts_findings fault f ts = flat_map (λ t. told f t (fault t)) ts
 
@@ -88,7 +92,7 @@ abbrev pub feature_findings : Names → Bool → Text → List Text → List Abo
 feature_findings n over f ts =
     told f [] (when (not (is_feature_name f)) code.BadName)
     ++ (told f [] (when (has_same_name n f) code.SameName)
-    ++ (told f [] (when over code.OverLimit) ++ texts_findings (text_fault n f) f ts))
+    ++ (told f [] (when over code.OverLimit) ++ list_findings n f ts))
 
 -- the features that are asked for of a dependency
 abbrev pub asked_of : DependencyMeaning → List Text

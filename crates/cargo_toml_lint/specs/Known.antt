@@ -24,9 +24,9 @@ abbrev pub target_tables : TargetMeaning → List (Entries × Bool)
 target_tables t =
     (t.dependencies, false) ∷ (t.build_dependencies, false) ∷ (t.dev_dependencies, true) ∷ []
 
--- all tables: of the manifest, then of each target
+-- all tables: of each target, then of the manifest
 abbrev pub tables_of : {M : Type 0} → ManifestMeaning M → List (Entries × Bool)
-tables_of m = target_tables (own_tables m) ++ flat_map (λ t. target_tables t.1) m.target
+tables_of m = flat_map (λ t. target_tables t.1) m.target ++ target_tables (own_tables m)
 
 -- the keys of all tables
 abbrev pub dependency_keys : {M : Type 0} → ManifestMeaning M → Marked

@@ -44,10 +44,10 @@ abbrev pub LeadsOn : Links → ℕ → ℕ → Type 0
 LeadsOn l a b = (b ≢ a) × Leads l.reach.next.items a b
 
 -- the flags of all three, as far as the first n go
-pub record AreWalked (l : Links) (n : ℕ) (reached by_default by_others : List Bool) : Type 0 where
-  pub reached : AreLed l n (λ f. not (is_hidden f)) (Path l.reach.next.items) reached
-  pub by_default : AreLed l n (λ f. bytes_eq f (codes "default")) (LeadsOn l) by_default
-  pub by_others : AreLed l n (λ f. not (bytes_eq f (codes "default"))) (LeadsOn l) by_others
+pub record AreWalked (l : Links) (n : ℕ) (far near others : List Bool) : Type 0 where
+  pub reached : AreLed l n (λ f. not (is_hidden f)) (Path l.reach.next.items) far
+  pub by_default : AreLed l n (λ f. bytes_eq f (codes "default")) (LeadsOn l) near
+  pub by_others : AreLed l n (λ f. not (bytes_eq f (codes "default"))) (LeadsOn l) others
 
 abbrev pub AreWalks : Links → Walks → Type 0
 AreWalks l w =

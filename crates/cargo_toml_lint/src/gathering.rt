@@ -1,5 +1,5 @@
 //! What is found of features as they are written, and of targets that require some.
-ghost use Rattle.std.specs.Prelude.{[], Some, OnOk, map, string_bytes};
+ghost use Rattle.std.specs.Prelude.{◌≡◌, [], Some, OnOk, map, string_bytes};
 ghost use Rattle.std.specs.List.{flat_map};
 ghost use Rattle.cargo_toml.specs.{Details.detail_of, Manifests.held, Products.product_meaning};
 ghost use Rattle.cargo_toml.specs.Reads.{map_meaning};
@@ -73,6 +73,18 @@ fn add_feature<'m>(
     Ok(())
 }
 
+// Whether the limit left out the name, or some of its texts.
+fn is_over<S: BuildHasher>(
+    features: &FeatureMap<'_, S>,
+    name: &str,
+    texts: &[String],
+    limit: usize,
+) -> bool
+    ensures { result ≡ is_beyond features.now limit name.now (map string_bytes texts.now) }
+{
+    texts.len() > limit || !features.get(name).is_some_and(|feature| feature.explicit)
+}
+
 /// Adds what is found of each listed feature.
 #[tactic(auto, using(crate::proofs::Adding::left_next, crate::proofs::Adding::left_none))]
 pub(crate) fn add_features<'m, S: BuildHasher>(
@@ -88,8 +100,8 @@ pub(crate) fn add_features<'m, S: BuildHasher>(
     for (name, texts) in known.features {
         let name = name.as_str();
         let texts = texts.as_slice();
-        let is_there = features.get(name).is_some_and(|feature| feature.explicit);
-        add_feature(found, known, name, texts, (texts.len() > limit) | !is_there)?;
+        let is_over = is_over(features, name, texts, limit);
+        add_feature(found, known, name, texts, is_over)?;
     }
     Ok(())
 }

@@ -62,7 +62,10 @@ fn texts_of<'k>(known: &'k Known<'_>, name: &str) -> &'k [String]
     ensures { map string_bytes result.now
         ≡ unwrap_or (lookup (bytes_eq name.now) (listed_by known.now)) [] }
 {
-    known.features.get(name).map_or(&[], |row| row.as_slice())
+    match known.features.get(name) {
+        Some(texts) => texts.as_slice(),
+        None => &[],
+    }
 }
 
 // The places of what the texts in the list of the feature of this name turn on.
@@ -77,7 +80,8 @@ fn row_of(
         (turned (listed_by known.now) (held_names known.now).optional name.now) b) }
 {
     let mut row = Vec::new(alloc);
-    for text in texts_of(known, name) {
+    let texts = texts_of(known, name);
+    for text in texts {
         add_edge(&mut row, known, names, text.as_str())?;
     }
     Ok(row)
@@ -170,6 +174,7 @@ impl<'m> Links<'m> {
 
     /// The features that the one in this place turns on in one step.
     pub fn next(&self, place: usize) -> &[usize] {
-        self.reach.next.get(place).map_or(&[], |row| row.as_slice())
+        let row = self.reach.next.get(place);
+        row.map_or(&[], |row| row.as_slice())
     }
 }

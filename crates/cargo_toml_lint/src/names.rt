@@ -1,5 +1,7 @@
 //! Which names and texts Cargo takes.
-ghost use Rattle.std.specs.Prelude.{◌≡◌};
+ghost use Rattle.std.specs.Prelude.{◌≡◌, IfSome, is_some};
+ghost use Rattle.std.specs.List.{after_first, before_first, list_any};
+ghost use Rattle.cargo_toml.specs.Action.{is_slash};
 ghost use Rattle.cargo_toml_lint.specs.Taken.{is_bad_text, is_feature_name, is_never_required};
 ghost use Rattle.cargo_toml_lint.specs.Taken.{may_follow, may_start};
 
@@ -27,13 +29,26 @@ pub(crate) fn is_feature_name(name: &str) -> bool
     begins & name.chars().all(may_follow)
 }
 
+// The text up to its first slash, and what follows that.
+fn split_slash(text: &str) -> (&str, Option<&str>)
+    ensures front { result.0.now ≡ before_first is_slash text.now }
+    ensures found { is_some result.1 ≡ list_any is_slash text.now }
+    ensures after { IfSome result.1 (λ rest. rest.now ≡ after_first is_slash text.now) }
+{
+    match text.split_once('/') {
+        Some((front, feature)) => (front, Some(feature)),
+        None => (text, None),
+    }
+}
+
 /// Whether the text is of no form that Cargo knows in a feature's list.
 pub(crate) fn is_bad_text(text: &str) -> bool
     ensures { result ≡ is_bad_text text.now }
 {
+    let parts = split_slash(text);
     let bytes = text.as_bytes();
-    match text.split_once('/') {
-        Some((_, feature)) => bytes.starts_with(b"dep:".as_slice()) | !is_feature_name(feature),
+    match parts.1 {
+        Some(feature) => bytes.starts_with(b"dep:".as_slice()) | !is_feature_name(feature),
         None => bytes.ends_with(b"?".as_slice()),
     }
 }
@@ -42,8 +57,9 @@ pub(crate) fn is_bad_text(text: &str) -> bool
 pub(crate) fn is_never_required(text: &str) -> bool
     ensures { result ≡ is_never_required text.now }
 {
-    match text.split_once('/') {
-        Some((front, _)) => front.as_bytes().ends_with(b"?".as_slice()),
+    let parts = split_slash(text);
+    match parts.1 {
+        Some(_) => parts.0.as_bytes().ends_with(b"?".as_slice()),
         None => text.as_bytes().starts_with(b"dep:".as_slice()),
     }
 }

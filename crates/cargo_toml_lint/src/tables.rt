@@ -20,14 +20,14 @@ pub(crate) fn tables_of<M>(
     ensures { IfOk result (λ v. map table_of v.items ≡ tables_of (held manifest.now)) }
 {
     let mut tables = Vec::new(alloc);
-    tables.push((&manifest.dependencies, false))?;
-    tables.push((&manifest.build_dependencies, false))?;
-    tables.push((&manifest.dev_dependencies, true))?;
     for (_, target) in &manifest.target {
         tables.push((&target.dependencies, false))?;
         tables.push((&target.build_dependencies, false))?;
         tables.push((&target.dev_dependencies, true))?;
     }
+    tables.push((&manifest.dependencies, false))?;
+    tables.push((&manifest.build_dependencies, false))?;
+    tables.push((&manifest.dev_dependencies, true))?;
     Ok(tables)
 }
 

@@ -6,4 +6,4 @@ abbrev pub invariant-loop-target : goal.invariant-loop-target
 invariant-loop-target g l =
     let of = λ (t : Text × TargetMeaning). target_tables t.1 in
     map table_of l.tables.items ++ flat_map of (map target_of l.target-iterator)
-    ≡ map table_of l.initial.tables.items ++ flat_map of (map_meaning target_meaning l.manifest.target)
+    ≡ flat_map of (map_meaning target_meaning l.manifest.target)

@@ -14,7 +14,7 @@ returns g c =
     let internal : (c.is_hidden.result || c.is_private.result) ≡ (is_hidden (name_at l place) || private_at m (name_at l place)) = λ i. hidden i || private i in
     let alone = apart (get_or_read w.by_default.items place c.index.result.now (omega arith) c.index.ensures false)
     (get_or_read w.by_others.items place c.index-2.result.now (omega arith) c.index-2.ensures false) in
-    let left = apart hidden (get_or_read w.reached.items place c.index-3.result.now (omega arith) c.index-3.ensures false) in
+    let left = apart (rw c.name-name.ensures at c.is_hidden-2.ensures) (get_or_read w.reached.items place c.index-3.result.now (omega arith) c.index-3.ensures false) in
     let found = c.args.found.now.items in
     let new = c.add_if-4.new.found.items in
     λ t are none d f x.

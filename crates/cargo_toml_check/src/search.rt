@@ -2,9 +2,8 @@
 ghost use Rattle.std.specs.Prelude.{◌≡◌, ◌++◌, ◌↔◌, [], IfOk, IsSome, OnOk, is_none, is_some, map};
 ghost use Rattle.toml.specs.View.{array_view, view, table_view};
 ghost use Rattle.cargo_toml_check.specs.Alone.{part_of};
-ghost use Rattle.cargo_toml_check.specs.Blamed.{blamed, blamed_items, blamed_members};
-ghost use Rattle.cargo_toml_check.specs.Blamed.{blamed_parts, inner_paths, path_of, reads};
-ghost use Rattle.cargo_toml_check.specs.Blamed.{reads_alone};
+ghost use Rattle.cargo_toml_check.specs.Blamed.{blamed, blamed_items, blamed_members, blamed_parts};
+ghost use Rattle.cargo_toml_check.specs.Blamed.{inner_paths, path_of, reads, reads_alone};
 
 use crate::alone::{Around, Step, alone, emptied};
 use cargo_toml::Error;

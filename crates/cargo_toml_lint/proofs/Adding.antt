@@ -1,7 +1,5 @@
 -- What a loop adds for each element of a list that it goes through, or of what is left of a map.
-use Rattle.cargo_toml_lint.proofs.Cited.{◌++◌, ◌+◌, ◌-◌, ◌<◌, ◌==◌, ◌∙◌, ◌∷◌, ◌≡◌, [], ap, append-nil, append_assoc, asked_of, Bool, Dependency, dependency_meaning, DependencyMeaning, Detailed, entry_findings, features_at, flat_map, flat_map-append}
-use Rattle.cargo_toml_lint.proofs.Cited.{get_or, Global, Inherited, length, List, map, map_push, None, Option, refl, rest_all, rest_more, Simple, Some, String, string_bytes, sym, table_findings, take, take_more, TakesFirst, Target}
-use Rattle.cargo_toml_lint.proofs.Cited.{target_meaning, TargetMeaning, Text, ℕ}
+use Rattle.cargo_toml_lint.proofs.Cited.{Bool, Dependency, DependencyMeaning, Detailed, Global, Inherited, List, None, Option, Simple, Some, String, TakesFirst, Target, TargetMeaning, Text, [], ap, append-nil, append_assoc, asked_of, dependency_meaning, entry_findings, features_at, flat_map, flat_map-append, get_or, length, map, map_push, refl, rest_all, rest_more, string_bytes, sym, table_findings, take, take_more, target_meaning, ℕ, ◌++◌, ◌+◌, ◌-◌, ◌<◌, ◌==◌, ◌∙◌, ◌∷◌, ◌≡◌}
 
 -- what an entry of a table holds, and one of the table of targets
 abbrev pub entry_of : String Global × Dependency → Text × DependencyMeaning

@@ -1,6 +1,5 @@
 -- Findings of single codes, for the features of which something holds.
-use Rattle.cargo_toml_lint.proofs.Cited.{◌&&◌, ◌++◌, ◌+◌, ◌<◌, ◌↔◌, ◌≡◌, ◌⊎◌, [], About, Among, among-either, among-first, among-second, ap, arith, Bool, Bor, cases_eq, Code, CountsBy, Cycle, false, false≢true, Feature, Finding, Finds, HashMap}
-use Rattle.cargo_toml_lint.proofs.Cited.{Implied, inl, inr, IsFound, IsTrue, List, not, PrivateDefault, refl, subst, sym, Table, Text, told, true, Unreachable, when, ℕ}
+use Rattle.cargo_toml_lint.proofs.Cited.{About, Among, Bool, Bor, Code, CountsBy, Cycle, Feature, Finding, Finds, HashMap, Implied, IsFound, IsTrue, List, PrivateDefault, Table, Text, Unreachable, [], among-either, among-first, among-second, ap, arith, cases_eq, false, false≢true, inl, inr, not, refl, subst, sym, told, true, when, ℕ, ◌&&◌, ◌++◌, ◌+◌, ◌<◌, ◌↔◌, ◌≡◌, ◌⊎◌}
 
 -- what is found after something was added
 found_after : (a b : List Finding) (xs : List About) → Finds xs a b → (c : Code) (f t : Text)

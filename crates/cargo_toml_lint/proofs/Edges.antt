@@ -1,7 +1,5 @@
 -- What the lists of features turn on, as rows of places.
-use Rattle.cargo_toml_lint.proofs.Cited.{◌&&◌, ◌<◌, ◌||◌, ◌↔◌, ◌∙◌, ◌∷◌, ◌≡◌, [], action_in, ActionText, Among, among_at, and-true, and_from, and_parts, ap, arith, Ascend, Bool, Bor, BTreeMap, bytes_eq, bytes_eq-Decides, common_steps, cond}
-use Rattle.cargo_toml_lint.proofs.Cited.{false, false≢true, get_by_text, Global, is_at, is_eq-slice_cmp, is_some, IsTrue, item_in, item_of, Leads, length, length-map, List, listed_in, lookup, map, Name, nat_cmp, not, nth_text, On, once}
-use Rattle.cargo_toml_lint.proofs.Cited.{option_map, Passes, refl, slice_cmp, String, string_bytes, subst, sym, Text, true, turns_to, Vec, ℕ}
+use Rattle.cargo_toml_lint.proofs.Cited.{ActionText, Among, Ascend, BTreeMap, Bool, Bor, Global, IsTrue, Leads, List, Name, On, Passes, String, Text, Vec, [], action_in, among_at, and-true, and_from, and_parts, ap, arith, bytes_eq, bytes_eq-Decides, common_steps, cond, false, false≢true, get_by_text, is_at, is_eq-slice_cmp, is_some, item_in, item_of, length, length-map, listed_in, lookup, map, nat_cmp, not, nth_text, once, option_map, refl, slice_cmp, string_bytes, subst, sym, true, turns_to, ℕ, ◌&&◌, ◌<◌, ◌||◌, ◌↔◌, ◌∙◌, ◌∷◌, ◌≡◌}
 
 pub length_now : (names : List (Bor Text)) → length (map (λ t. t.now) names) ≡ length names
 length_now names = length-map names (λ t. t.now)

@@ -1,7 +1,5 @@
 -- Where places lead is where names turn.
-use Rattle.cargo_toml_lint.proofs.Cited.{◌+◌, ◌<◌, ◌↔◌, ◌∙◌, ◌∷◌, ◌≡◌, ◌≢◌, ◌⊎◌, [], among_at, ap, AreLed, AreLinks, AreWalks, arith, at_among, Bool, Bor, bytes_eq, bytes_eq-Decides, cases_Bool, cases_eq, codes, Edge, Enables, enables_has, false, false≢true, further}
-use Rattle.cargo_toml_lint.proofs.Cited.{get_or, inl, inr, is_hidden, IsCyclic, IsFlagged, IsInRing, IsOnlyDefault, IsTrue, IsUnreachable, itself, Leads, LeadsOn, length, Links, List, map, name_at, names_of, None, not, not-true, not_from_false}
-use Rattle.cargo_toml_lint.proofs.Cited.{nth_text, once, Path, refl, subst, suc, sym, Table, Text, true, Walks, zero, ℕ}
+use Rattle.cargo_toml_lint.proofs.Cited.{AreLed, AreLinks, AreWalks, Bool, Bor, Edge, Enables, IsCyclic, IsFlagged, IsInRing, IsOnlyDefault, IsTrue, IsUnreachable, Leads, LeadsOn, Links, List, None, Path, Table, Text, Walks, [], among_at, ap, arith, at_among, bytes_eq, bytes_eq-Decides, cases_Bool, cases_eq, codes, enables_has, false≢true, further, get_or, inl, inr, is_hidden, itself, length, map, name_at, names_of, not, not-true, not_from_false, nth_text, once, refl, subst, suc, sym, true, zero, ℕ, ◌+◌, ◌<◌, ◌↔◌, ◌∙◌, ◌∷◌, ◌≡◌, ◌≢◌, ◌⊎◌}
 use Rattle.cargo_toml_lint.proofs.{Edges.length_now, Searching.along, Searching.path_edge}
 
 -- the text that is read in a place

@@ -1,6 +1,5 @@
 -- Lists, and what is read of them.
-use Rattle.cargo_toml_lint.proofs.Cited.{◌++◌, ◌+◌, ◌<◌, ◌||◌, ◌↔◌, ◌∷◌, ◌≡◌, ◌≤◌, ◌⊎◌, [], Among, among-either, among-first, among-second, arith, Bool, cases_eq, edges_left, false, false≢true, get_or, get_or-set_other, get_or-set_same, get_or_read}
-use Rattle.cargo_toml_lint.proofs.Cited.{IsFlagged, IsTrue, length, List, or_cases, or_left, or_right, refl, row_at, set, suc, sym, take, take_more, true, Vec, zero, ℕ}
+use Rattle.cargo_toml_lint.proofs.Cited.{Among, Bool, IsFlagged, IsTrue, List, Vec, [], among-either, among-first, among-second, arith, cases_eq, edges_left, false, false≢true, get_or, get_or-set_other, get_or-set_same, get_or_read, length, or_cases, or_left, or_right, refl, row_at, set, suc, sym, take, take_more, true, zero, ℕ, ◌+◌, ◌<◌, ◌||◌, ◌↔◌, ◌∷◌, ◌≡◌, ◌≤◌, ◌⊎◌}
 
 pub among_more : (xs : List ℕ) (i v : ℕ) → i < length xs → Among (take (i + 1) xs) v ↔ (Among (take i xs) v ⊎ (v ≡ get_or xs i 0))
 among_more xs i v lt = grind (arith, take_more xs i 0 lt, among-either, among-first, among-second)

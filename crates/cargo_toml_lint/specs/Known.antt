@@ -1,11 +1,10 @@
 -- Which names a manifest has.
-use Rattle.std.specs.Prelude.{Bool, true, false, ◌&&◌, ◌||◌, not, List, [], ◌∷◌, ◌++◌, bytes_eq}
-use Rattle.std.specs.Prelude.{map}
-use Rattle.std.specs.List.{flat_map, list_any}
+use Rattle.std.specs.Prelude.{Bool, true, false, ◌&&◌, ◌||◌, not, List, ◌∷◌, ◌++◌, bytes_eq, map}
+use Rattle.std.specs.{List.flat_map, List.list_any, Prelude.[]}
 use Rattle.cargo_toml.specs.Action.{Text, Item, item_of}
 use Rattle.cargo_toml.specs.{InheritedDependencies.Entries, InheritedManifests.own_tables}
 use Rattle.cargo_toml.specs.{Manifests.ManifestMeaning, Dependencies.is_optional, Action.Item.Name}
-use Rattle.cargo_toml.specs.{Targets.TargetMeaning, Admitted.Listed, Action.Item.On}
+use Rattle.cargo_toml.specs.{Action.Item.On, Targets.TargetMeaning, Admitted.Listed}
 
 -- keys of dependencies, some of which are marked
 abbrev pub Marked : Type 0

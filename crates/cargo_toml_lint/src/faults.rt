@@ -1,9 +1,8 @@
 //! What is wrong with one text, or with one feature.
 ghost use Rattle.std.specs.Prelude.{◌≡◌};
 ghost use Rattle.cargo_toml.specs.Action.{item_of};
-ghost use Rattle.cargo_toml_lint.specs.Findings.{action_fault, is_missing, name_fault};
-ghost use Rattle.cargo_toml_lint.specs.{Findings.required_fault, Findings.text_fault};
-ghost use Rattle.cargo_toml_lint.specs.Names.{held_names};
+ghost use Rattle.cargo_toml_lint.specs.Findings.{action_fault, required_fault, text_fault};
+ghost use Rattle.cargo_toml_lint.specs.{Names.held_names, Findings.is_missing, Findings.name_fault};
 
 use crate::finding::Code;
 use crate::known::Known;

@@ -1,4 +1,4 @@
-use Rattle.cargo_toml_lint.proofs.Cited.{◌&&◌, ◌<◌, ◌∷◌, ◌≡◌, [], all_from_yields_List, ap, arith, chars, false, get_or, length, List, list_all, may_follow, may_start, None, Option, option_map_or, refl, rules, slice_get, Some, tests, YieldsList-end, YieldsList-from_chars, YieldsList-turn, ℕ}
+use Rattle.cargo_toml_lint.proofs.Cited.{◌&&◌, ◌<◌, ◌∷◌, ◌≡◌, [], all_from_yields_List, ap, arith, chars, false, get_or, length, List, may_follow, may_start, None, Option, option_map_or, refl, rules, slice_get, Some, tests, YieldsList-end, YieldsList-from_chars, YieldsList-turn, ℕ}
 use Rattle.cargo_toml_lint.proofs.names.is_feature_name.Goals as goal
 
 at_first : (all : List ℕ) (r : Option ℕ)

@@ -1,6 +1,5 @@
-use Rattle.cargo_toml_lint.proofs.Cited.{◌∙◌, ◌≡◌, arith, false≢true, inserted, length, names_of, none_in, Path, rules, sym}
-use Rattle.cargo_toml_lint.proofs.{Leading.in_place, Placed.so_far_none, Placed.so_far_put, Placed.so_far_skip}
-use Rattle.cargo_toml_lint.proofs.linking.Links.turned_on.Goals.{else-leads, then-leads+in_ok-insert}
+use Rattle.cargo_toml_lint.proofs.Cited.{Path, arith, false≢true, inserted, length, names_of, none_in, rules, sym, ◌∙◌, ◌≡◌}
+use Rattle.cargo_toml_lint.proofs.{Leading.in_place, Placed.so_far_none, Placed.so_far_put, Placed.so_far_skip, linking.Links.turned_on.Goals.else-leads, linking.Links.turned_on.Goals.then-leads+in_ok-insert}
 use Rattle.cargo_toml_lint.proofs.linking.Links.turned_on.Goals as goal
 
 pub loop-other-init : goal.loop-other-init

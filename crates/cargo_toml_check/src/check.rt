@@ -41,7 +41,7 @@ pub fn faults_in(alloc: Global, text: &str) -> Result<Vec<Told>, AllocError>
                 key: String::new(alloc),
                 words: String::from_str(alloc, fault.message())?,
             };
-            return vec![in alloc; told];
+            return Ok(vec![in alloc; told]?);
         }
     };
     let tree = Value::Table(table);

@@ -69,12 +69,17 @@ fn kept<'m>(
     allowed: &[&str],
     findings: &[Finding<'m>],
 ) -> Result<Vec<Finding<'m>>, AllocError> {
-    let mut all = Vec::from_slice(alloc, allowed)?;
+    let mut own = Vec::new(alloc);
     if let Some(Value::Array(items)) = own_allow(manifest) {
-        all.extend(items.iter().filter_map(|item| item.as_str()))?;
+        own.extend(items.iter().filter_map(|item| item.as_str()))?;
     }
-    let is_kept = |finding: &&Finding<'m>| !is_allowed(all.as_slice(), *finding);
-    findings.iter().filter(is_kept).copied().collect(alloc)
+    let mut kept = Vec::new(alloc);
+    for finding in findings {
+        if !is_allowed(allowed, finding) && !is_allowed(own.as_slice(), finding) {
+            kept.push(*finding)?;
+        }
+    }
+    Ok(kept)
 }
 
 /// Whether one of these findings is an error or a warning, or a hint where hints are denied. It is
@@ -174,7 +179,7 @@ impl Paths<'_> {
         let feature = self.finding.feature;
         let path = below(self.alloc, "features", feature)?;
         let listed = manifest.features.get(feature);
-        let texts = listed.map_or(&[], |texts| texts.as_slice());
+        let texts: &[String] = listed.map_or(&[], |texts| texts.as_slice());
         self.add_text(path.clone()?, texts)?;
         self.add(path, "enables", texts)
     }

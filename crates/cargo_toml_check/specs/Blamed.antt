@@ -1,12 +1,13 @@
 -- Which parts of a manifest are at fault.
-use Rattle.std.specs.Prelude.{List, ◌∷◌, ◌++◌, map, Bool, if◌then◌else◌, Option, false, is_some}
-use Rattle.std.specs.{Option.option_map_or, Prelude.ℕ, Prelude.[], Prelude.suc}
+use Rattle.std.specs.Prelude.{ℕ, suc, List, [], ◌∷◌, ◌++◌, map, Bool, if◌then◌else◌, Option, false}
+use Rattle.std.specs.Prelude.{is_some}
+use Rattle.std.specs.Option.{option_map_or}
 use Rattle.toml.specs.Data.{Data, Items, Members, array, item, member, no_items, no_members, table}
-use Rattle.cargo_toml.specs.Manifests.{ManifestMeaning, manifest_reads}
-use Rattle.cargo_toml.specs.{Floats.without_floats, Texts.any_tree}
+use Rattle.cargo_toml.specs.{Floats.without_floats, Manifests.ManifestMeaning}
+use Rattle.cargo_toml.specs.{Manifests.manifest_reads, Texts.any_tree}
 use Rattle.cargo_toml_check.specs.Alone.{Part, alone, emptied, key, nth, part_of}
-use Rattle.cargo_toml_check.specs.declared.search.Fault.{Fault}
 use Rattle.cargo_toml_check.specs.declared.alone.Around.TheVariants as around
+use Rattle.cargo_toml_check.specs.declared.search.Fault.{Fault}
 
 -- what the library reads of a tree
 abbrev pub reads : Data → Option (ManifestMeaning Data)

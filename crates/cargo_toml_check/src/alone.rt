@@ -59,7 +59,9 @@ pub fn alone(
         }
         Step::Item(_) => {
             let value = alone(alloc, Around::Other, inner, part)?;
-            Ok(Value::Array(vec![in alloc; value]?))
+            let mut items = Vec::new(alloc);
+            items.push(value)?;
+            Ok(Value::Array(items))
         }
     }
 }
@@ -100,13 +102,20 @@ fn table_at(around: Around, path: &[Step<'_>]) -> Around
 fn next(around: Around, key: &str) -> Around
     ensures { result ≡ next around key.now }
 {
-    match (around, key) {
-        (Around::Manifest, "package") => Around::Package,
-        (Around::Manifest, "workspace") => Around::Workspace,
-        (Around::Manifest | Around::Workspace, "lints") => Around::Lints,
-        (Around::Lints, _) => Around::Tool,
-        (Around::Tool, _) => Around::Lint,
-        _ => Around::Other,
+    match around {
+        Around::Manifest => match key {
+            "package" => Around::Package,
+            "workspace" => Around::Workspace,
+            "lints" => Around::Lints,
+            _ => Around::Other,
+        },
+        Around::Workspace => match key {
+            "lints" => Around::Lints,
+            _ => Around::Other,
+        },
+        Around::Lints => Around::Tool,
+        Around::Tool => Around::Lint,
+        Around::Package | Around::Lint | Around::Other => Around::Other,
     }
 }
 

@@ -35,14 +35,7 @@ pub fn faults_in(alloc: Global, text: &str) -> Result<Vec<Told>, AllocError>
     let table = match toml::table_from_str(alloc, text) {
         Ok(table) => table,
         Err(fault) if fault.is_memory() => return Err(AllocError),
-        Err(fault) => {
-            let told = Told {
-                place: place_in(text, fault.span().map_or(0, |span| span.start)),
-                key: String::new(alloc),
-                words: String::from_str(alloc, fault.message())?,
-            };
-            return Ok(vec![in alloc; told]?);
-        }
+        Err(fault) => return not_toml(alloc, text, &fault),
     };
     let tree = Value::Table(table);
     let faults = faults(alloc, &tree)?;
@@ -113,6 +106,21 @@ fn told_lines(alloc: Global, file: &str, all: &[Told]) -> Result<String, AllocEr
 pub fn push_place(line: &mut String, file: &str, place: Place) -> Result<(), AllocError> {
     let file = Escaped(file, Format::Line);
     write!(line, "{file}:{}:{}: ", place.0, place.1)
+}
+
+/// Where a text isn't TOML.
+fn not_toml(alloc: Global, text: &str, fault: &toml::de::Error) -> Result<Vec<Told>, AllocError>
+    ensures { IfOk result (λ v. length v.items ≡ 1) }
+{
+    let start = fault.span().map_or(0, |span| span.start);
+    let told = Told {
+        place: place_in(text, start),
+        key: String::new(alloc),
+        words: String::from_str(alloc, fault.message())?,
+    };
+    let mut all = Vec::new(alloc);
+    all.push(told)?;
+    Ok(all)
 }
 
 /// These faults, each with its place.

@@ -1,11 +1,12 @@
 //! Resolved features as JSON.
-ghost use Rattle.std.specs.Prelude.{◌≡◌, IfOk};
-ghost use Rattle.serde_json.specs.View.{view};
+ghost use Rattle.std.specs.Prelude.{◌≡◌, IfOk, OnOk};
+ghost use Rattle.serde_json.specs.View.{members_view, view};
 ghost use Rattle.cargo_toml.specs.{Manifests.held, Reads.map_meaning, Targets.target_meaning};
-ghost use Rattle.cargo_toml_tools.specs.Sections.{lists_meaning};
+ghost use Rattle.cargo_toml_tools.specs.{Sections.lists_meaning, IndexEntries.with_rows};
 ghost use Rattle.cargo_toml_check.specs.Listed.{AreMembers, IsListing, action_json, actions_json};
 ghost use Rattle.cargo_toml_check.specs.Listed.{are_cut_targets, feature_json, has_long, is_cut};
-ghost use Rattle.cargo_toml_check.specs.Listed.{is_cut_target, stands_for_json};
+ghost use Rattle.cargo_toml_check.specs.Listed.{is_cut_target, is_over, row_at, stands_for_json};
+ghost use Rattle.cargo_toml_check.specs.Listed.{texts_json};
 
 use cargo_toml::features::{DepAction, Feature, Features};
 use cargo_toml::{FeatureSet, Manifest, Target, TargetDepsSet};
@@ -53,8 +54,7 @@ impl ToJson for BTreeSet<&str> {
     ghost json = { stands_for_json };
 
     fn to_json(&self, alloc: Global) -> Result<Value, AllocError> {
-        let texts: Vec<&str> = self.iter().copied().collect(alloc)?;
-        array(alloc, texts.as_slice())
+        set_json(alloc, self)
     }
 }
 
@@ -68,20 +68,33 @@ fn all_of<X: ToJson, S: BuildHasher>(
     let names = keys_in_order(alloc, found)?;
     let mut members = Map::new(alloc);
     for name in &names {
-        if let Some(one) = found.get(*name) {
-            put(&mut members, alloc, *name, one.to_json(alloc)?)?;
-        }
+        put_one(alloc, &mut members, found, *name)?;
     }
     Ok(Value::from(members))
+}
+
+fn put_one<X: ToJson, S: BuildHasher>(
+    alloc: Global,
+    members: &mut Map<String, Value>,
+    found: &HashMap<&str, X, S>,
+    name: &str,
+) -> Result<(), AllocError>
+    ensures { OnOk result (members_view members.new.entries
+        ≡ with_rows (row_at X.json found.now name.now) (members_view members.old.entries)) }
+{
+    match found.get(name) {
+        Some(one) => put(members, alloc, name, one.to_json(alloc)?),
+        None => Ok(()),
+    }
 }
 
 impl ToJson for Feature<'_> {
     ghost json = { feature_json };
 
     fn to_json(&self, alloc: Global) -> Result<Value, AllocError> {
-        let names = self.enables_features.to_json(alloc)?;
+        let names = set_json(alloc, &self.enables_features)?;
         let dependencies = actions_json(alloc, &self.enables_deps)?;
-        let enabled_by = self.enabled_by.to_json(alloc)?;
+        let enabled_by = set_json(alloc, &self.enabled_by)?;
         let binaries = array(alloc, self.required_by_bins.as_slice())?;
         let mut members = Map::new(alloc);
         put(&mut members, alloc, "listed", Value::from(self.explicit))?;
@@ -109,7 +122,7 @@ fn actions_json(alloc: Global, actions: &BTreeMap<&str, DepAction<'_>>) -> Resul
 fn action_json(alloc: Global, action: &DepAction<'_>) -> Result<Value, AllocError>
     ensures { IfOk result (λ v. view v ≡ action_json action.now) }
 {
-    let features = action.dep_features.to_json(alloc)?;
+    let features = set_json(alloc, &action.dep_features)?;
     let conditional = Value::from(action.is_conditional);
     let dep_only = Value::from(action.is_dep_only);
     let mut members = Map::new(alloc);
@@ -119,35 +132,58 @@ fn action_json(alloc: Global, action: &DepAction<'_>) -> Result<Value, AllocErro
     Ok(Value::from(members))
 }
 
+fn set_json(alloc: Global, texts: &BTreeSet<&str>) -> Result<Value, AllocError>
+    ensures { IfOk result (λ v. view v ≡ texts_json texts.now.keys) }
+{
+    let texts: Vec<&str> = texts.iter().copied().collect(alloc)?;
+    array(alloc, texts.as_slice())
+}
+
 /// Whether a manifest has more features, more texts of one, or more keys of a table of dependencies
 /// than count.
 fn is_cut<M>(manifest: &Manifest<M>) -> bool
     ensures { result ≡ is_cut (held manifest.now) }
 {
-    manifest.features.len() > MAX_ITEMS
+    is_over(manifest.features.len())
         || has_long(&manifest.features)
-        || manifest.dependencies.len() > MAX_ITEMS
-        || manifest.build_dependencies.len() > MAX_ITEMS
-        || manifest.dev_dependencies.len() > MAX_ITEMS
+        || is_over(manifest.dependencies.len())
+        || is_over(manifest.build_dependencies.len())
+        || is_over(manifest.dev_dependencies.len())
         || are_cut_targets(&manifest.target)
 }
 
 fn has_long(features: &FeatureSet) -> bool
     ensures { result ≡ has_long (lists_meaning features.now) }
 {
-    features.values().any(|texts| texts.len() > MAX_ITEMS)
+    for (_name, texts) in features.iter() {
+        if is_over(texts.len()) {
+            return true;
+        }
+    }
+    false
 }
 
 fn are_cut_targets(targets: &TargetDepsSet) -> bool
     ensures { result ≡ are_cut_targets (map_meaning target_meaning targets.now) }
 {
-    targets.values().any(is_cut_target)
+    for (_name, target) in targets.iter() {
+        if is_cut_target(target) {
+            return true;
+        }
+    }
+    false
 }
 
 fn is_cut_target(target: &Target) -> bool
     ensures { result ≡ is_cut_target (target_meaning target.now) }
 {
-    target.dependencies.len() > MAX_ITEMS
-        || target.build_dependencies.len() > MAX_ITEMS
-        || target.dev_dependencies.len() > MAX_ITEMS
+    is_over(target.dependencies.len())
+        || is_over(target.build_dependencies.len())
+        || is_over(target.dev_dependencies.len())
+}
+
+fn is_over(count: usize) -> bool
+    ensures { result ≡ is_over count }
+{
+    count > MAX_ITEMS
 }

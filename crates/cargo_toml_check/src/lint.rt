@@ -5,7 +5,7 @@ ghost use Rattle.cargo_toml_check.specs.Judged.{counts, is_odd};
 
 use crate::check::{faults_in, push_place};
 use crate::places::{Place, places, push_item, push_key};
-use cargo_toml::{DepsSet, Error, Manifest, Product, Value};
+use cargo_toml::{DepsSet, Error, Manifest, Product, Target, Value};
 use cargo_toml_lint::{Finding, Level};
 use cargo_toml_manifest::HeldManifest;
 use cargo_toml_tools::Judging;
@@ -18,8 +18,17 @@ use std::collections::BTreeSet;
 use std::fmt::Write;
 use std::random::RandomSource;
 
-/// What a line tells behind its place.
-const CELLS: [&str; 5] = ["level", "code", "feature", "text", "words"];
+/// A finding as a line has it.
+#[derive(Clone, Copy, Debug)]
+struct Line<'a> {
+    file: &'a str,
+    place: Place,
+    level: &'a str,
+    code: &'a str,
+    feature: &'a str,
+    text: &'a str,
+    words: &'a str,
+}
 
 /// What is amiss with the features of the manifest in this text of a file, a line each, and whether
 /// something counts. A manifest that doesn't read has the finding `unreadable` for each part at
@@ -54,10 +63,17 @@ fn readable<R: RandomSource + AllocGlobal>(
     let kept = kept(alloc, manifest, judging.allowed.as_slice(), all.as_slice())?;
     let places = places_of(alloc, text, manifest, kept.as_slice())?;
     let mut lines = String::new(alloc);
-    for (found, place) in kept.iter().zip(places.iter()) {
-        let (level, code) = (found.code.level().name(), found.code.name());
-        let cells = [level, code, found.feature, found.text, found.code.words()];
-        lines.push_str(line_of(alloc, file, *place, &cells, judging.json)?.as_str())?;
+    for (finding, place) in kept.iter().zip(places.iter()) {
+        let line = Line {
+            file,
+            place: *place,
+            level: finding.code.level().name(),
+            code: finding.code.name(),
+            feature: finding.feature,
+            text: finding.text,
+            words: finding.code.words(),
+        };
+        push_line(alloc, &mut lines, line, judging.json)?;
     }
     Ok((lines, is_odd(kept.as_slice(), judging.denies_hints)))
 }
@@ -69,10 +85,7 @@ fn kept<'m>(
     allowed: &[&str],
     findings: &[Finding<'m>],
 ) -> Result<Vec<Finding<'m>>, AllocError> {
-    let mut own = Vec::new(alloc);
-    if let Some(Value::Array(items)) = own_allow(manifest) {
-        own.extend(items.iter().filter_map(|item| item.as_str()))?;
-    }
+    let own = allowed_by(alloc, manifest)?;
     let mut kept = Vec::new(alloc);
     for finding in findings {
         if !is_allowed(allowed, finding) && !is_allowed(own.as_slice(), finding) {
@@ -102,6 +115,14 @@ fn counts(level: Level, denies_hints: bool) -> bool
 }
 
 /// What the manifest itself wants to have passed over.
+fn allowed_by<'m>(alloc: Global, manifest: &'m Manifest) -> Result<Vec<&'m str>, AllocError> {
+    let mut allowed = Vec::new(alloc);
+    if let Some(Value::Array(items)) = own_allow(manifest) {
+        allowed.extend(items.iter().filter_map(|item| item.as_str()))?;
+    }
+    Ok(allowed)
+}
+
 fn own_allow(manifest: &Manifest) -> Option<&Value> {
     let metadata = manifest.package.as_ref()?.metadata.as_ref()?;
     metadata.get("cargo-toml-tools")?.get("allow")
@@ -134,8 +155,10 @@ fn places_of(
     let found = places(alloc, text, &wanted)?;
     let mut all = Vec::new(alloc);
     for paths in &keys {
-        let first = paths.iter().find_map(|path| found.get(path.as_str()));
-        all.push(first.copied().unwrap_or((1, 1)))?;
+        let first = paths
+            .iter()
+            .find_map(|path| found.get(path.as_str()).copied());
+        all.push(first.unwrap_or((1, 1)))?;
     }
     Ok(all)
 }
@@ -153,12 +176,11 @@ fn paths_of(
         all: Vec::new(alloc),
     };
     paths.add_feature(manifest)?;
-    let (build, dev) = (&manifest.build_dependencies, &manifest.dev_dependencies);
-    paths.add_entries("", [&manifest.dependencies, build, dev])?;
+    paths.add_entry("", "dependencies", &manifest.dependencies)?;
+    paths.add_entry("", "build-dependencies", &manifest.build_dependencies)?;
+    paths.add_entry("", "dev-dependencies", &manifest.dev_dependencies)?;
     for (name, target) in &manifest.target {
-        let above = below(alloc, "target", name.as_str())?;
-        let (build, dev) = (&target.build_dependencies, &target.dev_dependencies);
-        paths.add_entries(above.as_str(), [&target.dependencies, build, dev])?;
+        paths.add_target(name.as_str(), target)?;
     }
     paths.add_products("bin", manifest.bin.as_slice())?;
     paths.add_products("example", manifest.example.as_slice())?;
@@ -178,20 +200,28 @@ impl Paths<'_> {
     fn add_feature(&mut self, manifest: &Manifest) -> Result<(), AllocError> {
         let feature = self.finding.feature;
         let path = below(self.alloc, "features", feature)?;
-        let listed = manifest.features.get(feature);
-        let texts: &[String] = listed.map_or(&[], |texts| texts.as_slice());
-        self.add_text(path.clone()?, texts)?;
-        self.add(path, "enables", texts)
+        if let Some(texts) = manifest.features.get(feature) {
+            self.add_text(path.clone()?, texts.as_slice())?;
+            return self.add(path, "enables", texts.as_slice());
+        }
+        self.all.push(path)?;
+        Ok(())
     }
 
-    fn add_entries(&mut self, above: &str, tables: [&DepsSet; 3]) -> Result<(), AllocError> {
-        let kinds = ["dependencies", "build-dependencies", "dev-dependencies"];
-        for (kind, table) in kinds.iter().zip(tables.iter()) {
-            if let Some(dependency) = table.get(self.finding.feature) {
-                let table = below(self.alloc, above, *kind)?;
-                let path = below(self.alloc, table.as_str(), self.finding.feature)?;
-                self.add(path, "features", dependency.req_features())?;
-            }
+    fn add_target(&mut self, name: &str, target: &Target) -> Result<(), AllocError> {
+        let path = below(self.alloc, "target", name)?;
+        let place = path.as_str();
+        self.add_entry(place, "dependencies", &target.dependencies)?;
+        self.add_entry(place, "build-dependencies", &target.build_dependencies)?;
+        self.add_entry(place, "dev-dependencies", &target.dev_dependencies)
+    }
+
+    fn add_entry(&mut self, above: &str, kind: &str, table: &DepsSet) -> Result<(), AllocError> {
+        let feature = self.finding.feature;
+        if let Some(dependency) = table.get(feature) {
+            let table = below(self.alloc, above, kind)?;
+            let path = below(self.alloc, table.as_str(), feature)?;
+            self.add(path, "features", dependency.req_features())?;
         }
         Ok(())
     }
@@ -235,38 +265,48 @@ fn below(alloc: Global, above: &str, key: &str) -> Result<String, AllocError> {
 fn unreadable(alloc: Global, file: &str, text: &str, json: bool) -> Result<String, AllocError> {
     let mut lines = String::new(alloc);
     for told in &faults_in(alloc, text)? {
-        let words = told.words.as_str().trim_end();
-        let cells = ["error", "unreadable", told.key.as_str(), "", words];
-        lines.push_str(line_of(alloc, file, told.place, &cells, json)?.as_str())?;
+        let line = Line {
+            file,
+            place: told.place,
+            level: "error",
+            code: "unreadable",
+            feature: told.key.as_str(),
+            text: "",
+            words: told.words.as_str(),
+        };
+        push_line(alloc, &mut lines, line, json)?;
     }
     Ok(lines)
 }
 
-/// A line `FILE:LINE:COLUMN: LEVEL | CODE | FEATURE | TEXT | words`, or the same as JSON.
-fn line_of(
+/// Writes a line `FILE:LINE:COLUMN: LEVEL | CODE | FEATURE | TEXT | words`, or the same as JSON.
+fn push_line(
     alloc: Global,
-    file: &str,
-    place: Place,
-    cells: &[&str; 5],
+    lines: &mut String,
+    line: Line<'_>,
     json: bool,
-) -> Result<String, AllocError> {
-    let mut line = String::new(alloc);
+) -> Result<(), AllocError> {
     if json {
-        let mut object = Map::new(alloc);
-        put_text(alloc, &mut object, "file", Some(file))?;
-        put(&mut object, alloc, "line", Json::from(place.0))?;
-        put(&mut object, alloc, "column", Json::from(place.1))?;
-        for (key, cell) in CELLS.iter().zip(cells.iter()) {
-            put_text(alloc, &mut object, *key, Some(*cell))?;
-        }
-        line = Json::from(object).to_string(alloc)?;
-    } else {
-        push_place(&mut line, file, place)?;
-        for (index, cell) in cells.iter().enumerate() {
-            let before = if index == 0 { "" } else { " | " };
-            write!(line, "{before}{}", Escaped(*cell, Format::Line))?;
-        }
+        lines.push_str(object_of(alloc, line)?.to_string(alloc)?.as_str())?;
+        return lines.push_str("\n");
     }
-    line.push_str("\n")?;
-    Ok(line)
+    push_place(lines, line.file, line.place)?;
+    lines.push_str(line.level)?;
+    for cell in &[line.code, line.feature, line.text, line.words.trim_end()] {
+        write!(lines, " | {}", Escaped(*cell, Format::Line))?;
+    }
+    lines.push_str("\n")
+}
+
+fn object_of(alloc: Global, line: Line<'_>) -> Result<Json, AllocError> {
+    let mut object = Map::new(alloc);
+    put_text(alloc, &mut object, "file", Some(line.file))?;
+    put(&mut object, alloc, "line", Json::from(line.place.0))?;
+    put(&mut object, alloc, "column", Json::from(line.place.1))?;
+    put_text(alloc, &mut object, "level", Some(line.level))?;
+    put_text(alloc, &mut object, "code", Some(line.code))?;
+    put_text(alloc, &mut object, "feature", Some(line.feature))?;
+    put_text(alloc, &mut object, "text", Some(line.text))?;
+    put_text(alloc, &mut object, "words", Some(line.words.trim_end()))?;
+    Ok(Json::from(object))
 }

@@ -124,10 +124,8 @@ impl<'t> Walk<'t> {
         first(self.rest())
     }
 
-    /// Goes on behind so many bytes, and the white space after them.
     fn skip(&mut self, count: usize) {
         self.at = self.at.saturating_add(count);
-        self.go_to(skip_ws(self.rest()));
     }
 
     /// Goes on at what is left of the text.
@@ -148,6 +146,7 @@ impl<'t> Walk<'t> {
                 _ => {
                     let path = self.key(section.clone()?, false)?;
                     self.skip(1);
+                    self.go_to(skip_ws(self.rest()));
                     self.value(path)?;
                 }
             }
@@ -157,10 +156,14 @@ impl<'t> Walk<'t> {
 
     /// A header; what it leads to is answered.
     fn header(&mut self) -> Result<String, AllocError> {
-        let brackets = if self.rest().starts_with("[[") { 2 } else { 1 };
-        self.skip(brackets);
-        let path = self.key(String::new(self.alloc), brackets == 2)?;
-        self.skip(brackets);
+        self.skip(1);
+        let is_item = self.byte() == b'[';
+        if is_item {
+            self.skip(1);
+        }
+        self.go_to(skip_ws(self.rest()));
+        let path = self.key(String::new(self.alloc), is_item)?;
+        self.skip(if is_item { 2 } else { 1 });
         Ok(path)
     }
 
@@ -186,6 +189,7 @@ impl<'t> Walk<'t> {
                 return Ok(path);
             }
             self.skip(1);
+            self.go_to(skip_ws(self.rest()));
         }
         Ok(path)
     }
@@ -201,9 +205,13 @@ impl<'t> Walk<'t> {
     fn key_part(&mut self) -> Result<String, AllocError> {
         let rest = self.rest();
         if starts_string(rest) {
-            let (part, rest) = quoted(self.alloc, rest).map_err(|_| AllocError)?;
-            self.go_to(rest);
-            return Ok(part);
+            return match quoted(self.alloc, rest) {
+                Ok((part, rest)) => {
+                    self.go_to(rest);
+                    Ok(part)
+                }
+                Err(_) => Err(AllocError),
+            };
         }
         let length = rest.bytes().take_while(|byte| is_bare(*byte)).count();
         self.skip(length);
@@ -237,6 +245,7 @@ impl<'t> Walk<'t> {
             self.open.push(open)?;
             path = self.key(path, false)?;
             self.skip(1);
+            self.go_to(skip_ws(self.rest()));
             return self.begin(path);
         };
         push_item(&mut path, index)?;

@@ -2,8 +2,9 @@
 ghost use Rattle.std.specs.Prelude.{◌≡◌, ◌++◌, ◌↔◌, [], IfOk, IsSome, OnOk, is_none, is_some, map};
 ghost use Rattle.toml.specs.View.{array_view, view, table_view};
 ghost use Rattle.cargo_toml_check.specs.Alone.{part_of};
-ghost use Rattle.cargo_toml_check.specs.Blamed.{blamed, blamed_items, blamed_members, blamed_parts};
-ghost use Rattle.cargo_toml_check.specs.Blamed.{inner_paths, path_of, reads, reads_alone};
+ghost use Rattle.cargo_toml_check.specs.Blamed.{blamed, blamed_items, blamed_members};
+ghost use Rattle.cargo_toml_check.specs.Blamed.{blamed_parts, inner_paths, path_of, reads};
+ghost use Rattle.cargo_toml_check.specs.Blamed.{reads_alone, reads_emptied};
 
 use crate::alone::{Around, Step, alone, emptied};
 use cargo_toml::Error;
@@ -73,10 +74,7 @@ fn blame_parts<'t>(
         ++ inner_paths (map part_of path.old.items) (view part.now)
         (blamed_parts (map part_of path.old.items) (view part.now))) }
 {
-    let Some(emptied) = emptied(alloc, path.as_slice(), part)? else {
-        return Ok(());
-    };
-    if refusal(alloc, path.as_slice(), &emptied)?.is_some() {
+    if !reads_emptied(alloc, path.as_slice(), part)? {
         return Ok(());
     }
     match part {
@@ -122,6 +120,16 @@ fn blame_members<'t>(
         path.pop();
     }
     Ok(())
+}
+
+/// Whether the part at this path is an array or a table that reads, whatever stands in it.
+fn reads_emptied(alloc: Global, path: &[Step<'_>], part: &Value) -> Result<bool, AllocError>
+    ensures { IfOk result (λ b. b ≡ reads_emptied (map part_of path.now) (view part.now)) }
+{
+    let Some(emptied) = emptied(alloc, path, part)? else {
+        return Ok(false);
+    };
+    Ok(refusal(alloc, path, &emptied)?.is_none())
 }
 
 /// Why the part at this path doesn't read by itself, if it doesn't.

@@ -1,11 +1,12 @@
 //! A manifest as text: TOML, or the same as JSON.
 ghost use Rattle.std.specs.Prelude.{◌≡◌, IfErr, IfOk, Some, string_bytes};
 ghost use Rattle.serde_json.specs.Data.{array, no_members, object};
+ghost use Rattle.serde_json.specs.View.{view as json_view};
 ghost use Rattle.toml.specs.{Data.table, View.array_view, View.table_view, View.view};
 ghost use Rattle.cargo_toml.specs.{Manifests.manifest_meaning, Reread.IsTold, Reread.reread};
-ghost use Rattle.cargo_toml_check.specs.Shown.{IsShownAsJson, IsUnshown, json_items, with_json};
-ghost use Rattle.cargo_toml_check.specs.{Blamed.reads, Shown.IsShown, Shown.json_of};
-ghost use Rattle.serde_json.specs.View.{view as json_view};
+ghost use Rattle.cargo_toml_check.specs.Shown.{IsShown, IsShownAsJson, IsUnshown, json_items};
+ghost use Rattle.cargo_toml_check.specs.Shown.{json_of, with_json};
+ghost use Rattle.cargo_toml_check.specs.Blamed.{reads};
 
 use cargo_toml::{Error, Manifest, ToValue};
 use cargo_toml_write::write::package::value_metadata;

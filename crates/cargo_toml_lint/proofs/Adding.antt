@@ -1,7 +1,5 @@
 -- What a loop adds for each element of a list that it goes through, or of what is left of a map.
-use Rattle.cargo_toml_lint.proofs.Cited.{◌++◌, ◌+◌, ◌-◌, ◌<◌, ◌==◌, ◌∙◌, ◌∷◌, ◌≡◌, [], ap, append-nil, asked_of, Bool, Dependency, dependency_meaning, DependencyMeaning, Detailed, entry_findings, features_at, flat_map, flat_map-append}
-use Rattle.cargo_toml_lint.proofs.Cited.{get_or, Global, Inherited, length, List, map, map_push, None, Option, refl, rest_all, rest_more, Simple, Some, String, string_bytes, sym, table_findings, take, take_more, TakesFirst, Target}
-use Rattle.cargo_toml_lint.proofs.Cited.{target_meaning, TargetMeaning, Text, ℕ}
+use Rattle.cargo_toml_lint.proofs.Cited.{Bool, Dependency, DependencyMeaning, Detailed, Global, Inherited, List, None, Option, Simple, Some, String, TakesFirst, Target, TargetMeaning, Text, [], ap, append-nil, append_assoc, asked_of, dependency_meaning, entry_findings, features_at, flat_map, flat_map-append, get_or, length, map, map_push, refl, rest_all, rest_more, string_bytes, sym, table_findings, take, take_more, target_meaning, ℕ, ◌++◌, ◌+◌, ◌-◌, ◌<◌, ◌==◌, ◌∙◌, ◌∷◌, ◌≡◌}
 
 -- what an entry of a table holds, and one of the table of targets
 abbrev pub entry_of : String Global × Dependency → Text × DependencyMeaning
@@ -15,6 +13,13 @@ pub asked_is : (d : Dependency) → map string_bytes (features_at d) ≡ asked_o
 asked_is (Simple r) = refl
 asked_is (Inherited i) = refl
 asked_is (Detailed d) = refl
+
+-- three elements are added
+pub pushed_three : {X Y : Type 0} (g : X → Y) (xs p q r : List X) (a b d : X) → p ≡ xs ++ a ∷ [] → q ≡ p ++ b ∷ [] → r ≡ q ++ d ∷ []
+    → map g r ≡ map g xs ++ (g a ∷ g b ∷ g d ∷ [])
+pushed_three g xs p q r a b d e f h =
+    let assoc : ((map g xs ++ g a ∷ []) ++ g b ∷ []) ++ g d ∷ [] ≡ map g xs ++ (g a ∷ g b ∷ g d ∷ []) = simp append_assoc in
+    ap (map g) h ∙ map_push g q d ∙ ap (λ ys. ys ++ g d ∷ []) (ap (map g) f ∙ map_push g p b ∙ ap (λ ys. ys ++ g b ∷ []) (ap (map g) e ∙ map_push g xs a)) ∙ assoc
 
 -- one more of the first elements
 pub mapped_next : {X Y Z : Type 0} (f : Y → List Z) (g : X → Y) (xs : List X) (i : ℕ) (x : X)

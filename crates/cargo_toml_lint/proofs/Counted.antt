@@ -1,6 +1,5 @@
 -- Findings of single codes, for the features of which something holds.
-use Rattle.cargo_toml_lint.proofs.Cited.{◌++◌, ◌+◌, ◌<◌, ◌↔◌, ◌≡◌, ◌⊎◌, [], About, Among, among-either, among-first, among-second, ap, arith, Bool, Bor, cases_eq, Code, CountsBy, Cycle, false, false≢true, Feature, Finding, Finds, HashMap}
-use Rattle.cargo_toml_lint.proofs.Cited.{Implied, inl, inr, IsFound, IsTrue, List, PrivateDefault, refl, subst, sym, Table, Text, told, true, Unreachable, when, ℕ}
+use Rattle.cargo_toml_lint.proofs.Cited.{About, Among, Bool, Bor, Code, CountsBy, Cycle, Feature, Finding, Finds, HashMap, Implied, IsFound, IsTrue, List, PrivateDefault, Table, Text, Unreachable, [], among-either, among-first, among-second, ap, arith, cases_eq, false, false≢true, inl, inr, not, refl, subst, sym, told, true, when, ℕ, ◌&&◌, ◌++◌, ◌+◌, ◌<◌, ◌↔◌, ◌≡◌, ◌⊎◌}
 
 -- what is found after something was added
 found_after : (a b : List Finding) (xs : List About) → Finds xs a b → (c : Code) (f t : Text)
@@ -58,6 +57,15 @@ module _ {S : Type 0} (m : HashMap (Bor Text) Feature S) (t : Table) (n : Text) 
       | inr r ↦ inr (subst (λ (z : Text). Among All (c, f, z)) (sym r.0) (subst (λ (g : Text). Among All (c, g, [])) r.1 (of_code c (subst (CountsBy m t c) (sym r.1) r.2))))
     ]),
   )
+
+-- one holds, and the other doesn't
+pub apart : {a b c d : Bool} → a ≡ c → b ≡ d → IsTrue (a && not b) ↔ (IsTrue c × ¬ IsTrue d)
+apart {a} {b} p q = rw (← p, ← q) (go a b)
+  where
+    go : (a b : Bool) → IsTrue (a && not b) ↔ (IsTrue a × ¬ IsTrue b)
+    go true true = (λ e. absurd (false≢true e), λ h. absurd (h.1 refl))
+    go true false = (λ e. (refl, false≢true), λ h. refl)
+    go false b = (λ e. absurd (false≢true e), λ h. absurd (false≢true h.0))
 
 -- one more place
 pub more_places : {T C start old new : Type 0} {N : ℕ → Type 0} {i : ℕ} → old ↔ (start ⊎ (T × ((a : ℕ) × (a < i) × N a) × C))

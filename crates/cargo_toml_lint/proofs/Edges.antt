@@ -1,7 +1,5 @@
 -- What the lists of features turn on, as rows of places.
-use Rattle.cargo_toml_lint.proofs.Cited.{◌&&◌, ◌<◌, ◌||◌, ◌↔◌, ◌∙◌, ◌∷◌, ◌≡◌, [], action_in, ActionText, Among, among_at, and-true, and_from, and_parts, ap, arith, Ascend, Bool, Bor, BTreeMap, bytes_eq, bytes_eq-Decides, common_steps, cond}
-use Rattle.cargo_toml_lint.proofs.Cited.{false, false≢true, get_by_text, Global, is_at, is_eq-slice_cmp, is_some, IsTrue, item_in, item_of, Leads, length, length-map, List, listed_in, lookup, map, Name, nat_cmp, not, nth_text, On, once}
-use Rattle.cargo_toml_lint.proofs.Cited.{option_map, Passes, refl, slice_cmp, String, string_bytes, subst, sym, Text, true, turns_to, Vec, ℕ}
+use Rattle.cargo_toml_lint.proofs.Cited.{ActionText, Among, Ascend, BTreeMap, Bool, Bor, Global, IsTrue, Leads, List, Name, On, Passes, String, Text, Vec, [], action_in, among_at, and-true, and_from, and_parts, ap, arith, bytes_eq, bytes_eq-Decides, common_steps, cond, false, false≢true, get_by_text, is_at, is_eq-slice_cmp, is_some, item_in, item_of, length, length-map, listed_in, lookup, map, nat_cmp, not, nth_text, once, option_map, refl, slice_cmp, string_bytes, subst, sym, true, turns_to, ℕ, ◌&&◌, ◌<◌, ◌||◌, ◌↔◌, ◌∙◌, ◌∷◌, ◌≡◌}
 
 pub length_now : (names : List (Bor Text)) → length (map (λ t. t.now) names) ≡ length names
 length_now names = length-map names (λ t. t.now)
@@ -11,8 +9,10 @@ abbrev pub IsFilled : {Z : Type 0} → (ℕ → ℕ → Type 0) → ℕ → List
 IsFilled P n rows = (length rows ≡ n) × ((a b : ℕ) → a < n → Leads rows a b ↔ P a b)
 
 -- ---- what one text turns on: the name that it names or acts on, if it does so
-module _ (names : List (Bor Text)) (optional : Text → Bool) (text : Text) (t : ActionText) (turns : Bool) (item : item_in t ≡ item_of text)
-    (told : turns ≡ (not (t.is_dep_only || is_some t.dep_feature) || (optional t.target.now && (not t.is_conditional && not t.is_dep_only)))) (b : ℕ) where
+module _ (names : List (Bor Text)) (optional : Text → Bool) (text : Text) (t : ActionText) (item : item_in t ≡ item_of text) (b : ℕ) where
+  abbrev turns : Bool
+  turns = not (t.is_dep_only || is_some t.dep_feature) || (optional t.target.now && (not t.is_conditional && not t.is_dep_only))
+
   abbrev texts : List Text
   texts = map (λ t. t.now) names
 
@@ -20,7 +20,7 @@ module _ (names : List (Bor Text)) (optional : Text → Bool) (text : Text) (t :
   Passed = Passes names (λ x. turns_to optional x (item_of text)) b
 
   is : (x : Text) → turns_to optional x (item_of text) ≡ (bytes_eq x t.target.now && turns)
-  is x = ap (turns_to optional x) (sym item) ∙ go (t.is_dep_only || is_some t.dep_feature) ∙ ap (λ b. bytes_eq x t.target.now && b) (sym told)
+  is x = ap (turns_to optional x) (sym item) ∙ go (t.is_dep_only || is_some t.dep_feature)
     where
       go : (acts : Bool) → turns_to optional x (cond acts (On t.target.now (action_in t)) (Name t.target.now))
           ≡ (bytes_eq x t.target.now && (not acts || (optional t.target.now && (not t.is_conditional && not t.is_dep_only))))

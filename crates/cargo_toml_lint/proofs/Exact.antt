@@ -1,8 +1,5 @@
 -- What is found in an answer for a manifest is what holds of the manifest.
-use Rattle.cargo_toml_lint.proofs.Cited.{◌++◌, ◌||◌, ◌↔◌, ◌∙◌, ◌≡◌, ◌⊎◌, [], admitted, all_names, Among, and_parts, answer_of, ap, arith, Bool, Code, Counts, CountsBy, Cycle, Entry, explicit_at, false, false_from_ne_true, false≢true}
-use Rattle.cargo_toml_lint.proofs.Cited.{Feature, Features, findings_by, held, held_names, HoldsOf, Implied, implied_at, is_explicit, is_hidden, is_implied, is_private, is_removed, is_some, IsOnlyDefault, IsParsed, IsTrue}
-use Rattle.cargo_toml_lint.proofs.Cited.{Known, length, List, Listed, listed_by, ManifestMeaning, marked, marks_in, marks_of, nat_lt, not, not-true, not_from_false, option_map_or, or_cases, or_left, or_right, parsed_entries}
-use Rattle.cargo_toml_lint.proofs.Cited.{parsed_table, plain_detail, private_at, PrivateDefault, Some, subst, sym, Table, table_in, Text, there, true, turning, turning_by, Unreachable, value_at, written_findings, written_in, ℕ}
+use Rattle.cargo_toml_lint.proofs.Cited.{Among, Bool, Code, Counts, CountsBy, Cycle, Entry, Feature, Features, HoldsOf, Implied, IsOnlyDefault, IsParsed, IsTrue, Known, List, Listed, ManifestMeaning, PrivateDefault, Some, Table, Text, Unreachable, [], admitted, all_names, and_parts, answer_of, ap, arith, explicit_at, false, false_from_ne_true, false≢true, findings_by, held, held_names, implied_at, is_explicit, is_hidden, is_implied, is_private, is_removed, is_some, length, listed_by, marked, marks_in, marks_of, nat_lt, not, not-true, not_from_false, option_map_or, or_cases, or_left, or_right, parsed_entries, parsed_table, plain_detail, private_at, subst, sym, table_in, there, true, turning, turning_by, value_at, written_findings, written_in, ℕ, ◌||◌, ◌↔◌, ◌∙◌, ◌≡◌, ◌⊎◌}
 
 same_truth : (a b : Bool) → (IsTrue a ↔ IsTrue b) → a ≡ b
 same_truth a b h = grind arith

@@ -1,7 +1,5 @@
 -- What a loop over a list gathers.
-use Rattle.cargo_toml_lint.proofs.Cited.{◌&&◌, ◌++◌, ◌+◌, ◌<◌, ◌||◌, ◌↔◌, ◌∙◌, ◌∷◌, ◌≡◌, ◌⊎◌, [], Among, ap, arith, Bool, Bor, bytes_eq, bytes_eq-Decides, common_steps, false, false≢true, get_or, Global, inl, inr, is_at, is_eq-slice_cmp}
-use Rattle.cargo_toml_lint.proofs.Cited.{is_some, IsTrue, length, List, list_any, list_any-append, lookup, map, map_push, nat_cmp, or-false, or_cases, or_left, or_right, refl, slice_cmp, String, string_bytes, sym, take, take_more, Text}
-use Rattle.cargo_toml_lint.proofs.Cited.{true, Vec, ℕ}
+use Rattle.cargo_toml_lint.proofs.Cited.{Among, Bool, Bor, Global, IsTrue, List, String, Text, Vec, [], ap, arith, bytes_eq, bytes_eq-Decides, common_steps, false≢true, get_or, inl, inr, is_at, is_eq-slice_cmp, is_some, length, list_any, list_any-append, lookup, map, map_push, nat_cmp, or-false, or_cases, or_left, or_right, refl, slice_cmp, string_bytes, take, take_more, ℕ, ◌+◌, ◌<◌, ◌||◌, ◌↔◌, ◌∙◌, ◌∷◌, ◌≡◌, ◌⊎◌}
 
 -- some of the keys is f
 abbrev pub has_in : List (Bor Text) → Text → Bool

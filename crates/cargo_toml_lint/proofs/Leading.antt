@@ -1,7 +1,5 @@
 -- Where places lead is where names turn.
-use Rattle.cargo_toml_lint.proofs.Cited.{◌<◌, ◌↔◌, ◌∙◌, ◌∷◌, ◌≡◌, ◌≢◌, [], among_at, ap, AreLinks, AreWalks, arith, at_among, Bool, Bor, bytes_eq, bytes_eq-Decides, cases_Bool, codes, Edge, Enables, enables_has, false, false≢true, further}
-use Rattle.cargo_toml_lint.proofs.Cited.{get_or, inl, inr, is_hidden, IsCyclic, IsFlagged, IsInRing, IsOnlyDefault, IsTrue, IsUnreachable, itself, Leads, length, Links, List, map, name_at, names_of, None, not, not-true, not_from_false}
-use Rattle.cargo_toml_lint.proofs.Cited.{nth_text, once, Path, refl, subst, suc, sym, Table, Text, true, Walks, zero, ℕ}
+use Rattle.cargo_toml_lint.proofs.Cited.{AreLed, AreLinks, AreWalks, Bool, Bor, Edge, Enables, IsCyclic, IsFlagged, IsInRing, IsOnlyDefault, IsTrue, IsUnreachable, Leads, LeadsOn, Links, List, None, Path, Table, Text, Walks, [], among_at, ap, arith, at_among, bytes_eq, bytes_eq-Decides, cases_Bool, cases_eq, codes, enables_has, false≢true, further, get_or, inl, inr, is_hidden, itself, length, map, name_at, names_of, not, not-true, not_from_false, nth_text, once, refl, subst, suc, sym, true, zero, ℕ, ◌+◌, ◌<◌, ◌↔◌, ◌∙◌, ◌∷◌, ◌≡◌, ◌≢◌, ◌⊎◌}
 use Rattle.cargo_toml_lint.proofs.{Edges.length_now, Searching.along, Searching.path_edge}
 
 -- the text that is read in a place
@@ -9,6 +7,23 @@ pub text_at : (names : List (Bor Text)) (i : ℕ) (t : Bor Text) → i < length 
 text_at [] i t lt e = absurd (omega arith)
 text_at (x ∷ xs) zero t lt e = ap (λ (s : Bor Text). s.now) e
 text_at (x ∷ xs) (suc i) t lt e = text_at xs i t (omega arith) e
+
+-- one more place whose feature goes on, if it passes
+pub led_more : {l : Links} {test : Text → Bool} {Goes : ℕ → ℕ → Type 0} (a : ℕ) (b : Bool) (old new : List Bool) → b ≡ test (name_at l a) → AreLed l a test Goes old → length new ≡ length old
+    → ((y : ℕ) → IsFlagged new y ↔ (IsFlagged old y ⊎ (IsTrue b × Goes a y))) → AreLed l (a + 1) test Goes new
+led_more {l} {test} {Goes} a b old new is led len put = record {
+  len = len ∙ led.len;
+  are = λ y. (
+    λ f. elim ((put y).0 f) [
+      | inl o ↦ let w = (led.are y).0 o in (w.0, (let lt = w.1 in omega arith), w.2, w.3)
+      | inr g ↦ (a, omega arith, sym is ∙ g.0, g.1)
+    ],
+    λ w. (put y).1 (elim (cases_eq w.0 a) [
+      | inl e ↦ inr (is ∙ subst (λ k. IsTrue (test (name_at l k))) e w.2, subst (λ k. Goes k y) e w.3)
+      | inr other ↦ inl ((led.are y).1 (w.0, (let lt = w.1 in omega (arith, other)), w.2, w.3))
+    ]),
+  );
+}
 
 module _ (t : Table) (l : Links) (are : AreLinks t l) where
   abbrev n : ℕ
@@ -73,20 +88,19 @@ module _ (t : Table) (l : Links) (are : AreLinks t l) where
     edge_at k lk = grind (arith, known_at, same_place)
 
     -- the sources by one step of which the test holds
-    of_led : (test : Text → Bool) (flags : List Bool) → ((b : ℕ) → IsFlagged flags b ↔ ((a : ℕ) × (a < n) × IsTrue (test (name_at l a)) × ((b ≢ a) × Leads l.reach.next.items a b)))
-        → IsFlagged flags p ↔ ((e : Text) × Edge t e own × IsTrue (test e))
+    of_led : (test : Text → Bool) (flags : List Bool) → AreLed l n test (LeadsOn l) flags → IsFlagged flags p ↔ ((e : Text) × Edge t e own × IsTrue (test e))
     of_led test flags led = (
-      λ h. let r = (led p).0 h in (name_at l r.0, (edge_at r.0 r.1).0 r.3, r.2),
+      λ h. let r = (led.are p).0 h in (name_at l r.0, (edge_at r.0 r.1).0 r.3, r.2),
       λ e.
           let q = place e.0 e.1.source in
-          (led p).1 (q.0, q.1, ap test q.2 ∙ e.2, (edge_at q.0 q.1).1 (subst (λ f. Edge t f own) (sym q.2) e.1)),
+          (led.are p).1 (q.0, q.1, ap test q.2 ∙ e.2, (edge_at q.0 q.1).1 (subst (λ f. Edge t f own) (sym q.2) e.1)),
     )
 
     pub only_default_at : (IsFlagged w.by_default.items p × ¬ IsFlagged w.by_others.items p) ↔ IsOnlyDefault t own
     only_default_at =
         let is : (e : Text) → (bytes_eq e (codes "default") ≡ true) ↔ (e ≡ codes "default") = λ e. bytes_eq-Decides e (codes "default") in
-        let by_default = of_led (λ e. bytes_eq e (codes "default")) w.by_default.items walks.by_default.are in
-        let by_others = of_led (λ e. not (bytes_eq e (codes "default"))) w.by_others.items walks.by_others.are in (
+        let by_default = of_led (λ e. bytes_eq e (codes "default")) w.by_default.items walks.by_default in
+        let by_others = of_led (λ e. not (bytes_eq e (codes "default"))) w.by_others.items walks.by_others in (
           λ h. record {
             default_does = let r = by_default.0 h.0 in subst (λ f. Edge t f own) ((is r.0).0 r.2) r.1;
             no_other = λ e d. elim (cases_Bool (bytes_eq e (codes "default"))) [

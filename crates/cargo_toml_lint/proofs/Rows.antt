@@ -1,6 +1,5 @@
 -- Lists, and what is read of them.
-use Rattle.cargo_toml_lint.proofs.Cited.{◌++◌, ◌+◌, ◌<◌, ◌↔◌, ◌∷◌, ◌≡◌, ◌≤◌, ◌⊎◌, [], Among, among-either, among-first, among-second, arith, Bool, cases_eq, edges_left, false, false≢true, get_or, get_or-set_other, get_or-set_same}
-use Rattle.cargo_toml_lint.proofs.Cited.{IsFlagged, length, List, refl, row_at, set, suc, sym, take, take_more, true, Vec, zero, ℕ}
+use Rattle.cargo_toml_lint.proofs.Cited.{Among, Bool, IsFlagged, IsTrue, List, Vec, [], among-either, among-first, among-second, arith, cases_eq, edges_left, false, false≢true, get_or, get_or-set_other, get_or-set_same, get_or_read, length, or_cases, or_left, or_right, refl, row_at, set, suc, sym, take, take_more, true, zero, ℕ, ◌+◌, ◌<◌, ◌||◌, ◌↔◌, ◌∷◌, ◌≡◌, ◌≤◌, ◌⊎◌}
 
 pub among_more : (xs : List ℕ) (i v : ℕ) → i < length xs → Among (take (i + 1) xs) v ↔ (Among (take i xs) v ⊎ (v ≡ get_or xs i 0))
 among_more xs i v lt = grind (arith, take_more xs i 0 lt, among-either, among-first, among-second)
@@ -8,6 +7,11 @@ among_more xs i v lt = grind (arith, take_more xs i 0 lt, among-either, among-fi
 -- a flag is set
 pub flag_set : (flags : List Bool) (x : ℕ) → x < length flags → (y : ℕ) → IsFlagged (set flags x true) y ↔ (IsFlagged flags y ⊎ (y ≡ x))
 flag_set flags x lt y = grind (arith, cases_eq y x, get_or-set_same flags x true false lt, get_or-set_other flags x y true false)
+
+-- a flag is set, if that is wanted
+pub flag_or : (flags : List Bool) (x : ℕ) (v b : Bool) → x < length flags → v ≡ get_or flags x v → (y : ℕ) → IsFlagged (set flags x (v || b)) y ↔ (IsFlagged flags y ⊎ ((y ≡ x) × IsTrue b))
+flag_or flags x v b lt at y =
+    grind (arith, cases_eq y x, get_or-set_same flags x (v || b) false lt, get_or-set_other flags x y (v || b) false, get_or_read flags x v lt at false, or_cases v b, or_left v b, or_right v b)
 
 -- the edges of a vertex are taken
 pub left_taken : {Z : Type 0} (rows : List (Vec ℕ Z)) (flags : List Bool) (x : ℕ) → x < length rows → x < length flags → get_or flags x false ≡ false → edges_left rows (set flags x true) + length (row_at rows x) ≡ edges_left rows flags

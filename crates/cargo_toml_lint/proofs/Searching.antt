@@ -1,6 +1,5 @@
 -- A search, one vertex after another.
-use Rattle.cargo_toml_lint.proofs.Cited.{◌++◌, ◌<◌, ◌==◌, ◌↔◌, ◌∙◌, ◌∷◌, ◌≡◌, ◌≢◌, ◌⊎◌, [], Among, among-either, among-first, among-second, among_at, arith, Bool, cases_eq, chained, Decides-eqb, edge, false, Gathers, get_or, inl, inr}
-use Rattle.cargo_toml_lint.proofs.Cited.{IsFlagged, IsInRing, IsWhole, Leads, length, length-set, List, Path, Reach, Reaches, refl, row_at, Searches, set, Stands, subst, sym, through, true, Vec, ℕ}
+use Rattle.cargo_toml_lint.proofs.Cited.{Among, Bool, Decides-eqb, Gathers, IsFlagged, IsInRing, IsWhole, Leads, List, Path, Reach, Reaches, Searches, Stands, Vec, [], among-either, among-first, among-second, among_at, arith, cases_eq, chained, edge, false, get_or, inl, inr, length, length-set, refl, row_at, set, subst, sym, through, true, ℕ, ◌++◌, ◌<◌, ◌==◌, ◌↔◌, ◌∙◌, ◌∷◌, ◌≡◌, ◌≢◌, ◌⊎◌}
 use Rattle.cargo_toml_lint.proofs.Rows.{flag_set}
 
 abbrev All : ℕ → Type 0

@@ -1,8 +1,5 @@
 -- Findings in their order, each once.
-use Rattle.cargo_toml_lint.proofs.Cited.{◌<◌, ◌↔◌, ◌∙◌, ◌∷◌, ◌≡◌, [], About, about, Among, and_parts, Any-dedup, ap, arith, Bool, bytes_eq-Decides, Code, Contains, Contains-from_dedup, Contains-permutation, dedup, dedup_is, DiffersFromLast}
-use Rattle.cargo_toml_lint.proofs.Cited.{eq_by_cmp_equiv, Finding, get_or, inl, inr, is_eq, IsEquivalence, IsFiltered, IsFound, IsPermutation, IsPermutation-sym, IsSorted, IsStrictlySortedBy, IsStrictlySortedBy-dedup, length, List, map}
-use Rattle.cargo_toml_lint.proofs.Cited.{Ordering, refl, same_true, subst, suc, sym, Text, true, zero, ℕ}
-use Rattle.cargo_toml_lint.{specs.contracts.finding.Code.the_type}
+use Rattle.cargo_toml_lint.proofs.Cited.{About, Among, Any-dedup, Bool, Code, Contains, Contains-from_dedup, Contains-permutation, DiffersFromLast, Finding, IsEquivalence, IsFiltered, IsFound, IsPermutation, IsPermutation-sym, IsSorted, IsStrictlySortedBy, IsStrictlySortedBy-dedup, List, Ordering, Text, [], about, and_parts, ap, arith, bytes_eq-Decides, dedup, dedup_is, eq_by_cmp_equiv, get_or, inl, inr, is_eq, length, map, refl, same_true, subst, suc, sym, the_type, true, zero, ℕ, ◌<◌, ◌↔◌, ◌∙◌, ◌∷◌, ◌≡◌}
 use Rattle.cargo_toml_lint.specs.contracts.finding.FindingOrd.TheImpl as finding_order
 use Rattle.cargo_toml_lint.specs.contracts.finding.FindingOrd.TheImpl.Laws as laws
 

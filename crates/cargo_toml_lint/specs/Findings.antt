@@ -1,5 +1,5 @@
 -- What is found of a manifest.
-use Rattle.std.specs.Prelude.{◌≡◌, ◌≢◌, ◌⊎◌, ℕ, ◌-◌, ◌==◌, Bool, false, true, ◌&&◌, ◌||◌, not}
+use Rattle.std.specs.Prelude.{◌≡◌, ◌≢◌, ◌⊎◌, ℕ, ◌-◌, ◌==◌, Bool, ◌&&◌, ◌||◌, not}
 use Rattle.std.specs.Prelude.{if◌then◌else◌, nat_eq, nat_lt, length, List, [], ◌∷◌, ◌++◌, map}
 use Rattle.std.specs.Prelude.{IsTrue, IsFalse, bytes_eq, codes, Option, Some, None, unwrap_or}
 use Rattle.std.specs.List.{flat_map, starts_with}
@@ -7,20 +7,13 @@ use Rattle.cargo_toml.specs.Action.{Text, Item, item_of}
 use Rattle.cargo_toml.specs.Admitted.{Listed, admitted, is_explicit}
 use Rattle.cargo_toml.specs.Dependencies.DependencyMeaning.{simple, inherited, detailed}
 use Rattle.cargo_toml.specs.{Dependencies.DependencyMeaning, InheritedDependencies.Entries}
-use Rattle.cargo_toml.specs.{InheritedManifests.own_tables, Manifests.ManifestMeaning, Graph.Table}
+use Rattle.cargo_toml.specs.{Manifests.ManifestMeaning, Graph.Table, Parsed.parsed_entries}
 use Rattle.cargo_toml.specs.{Dependencies.is_optional, Products.ProductMeaning, Parsed.parsed_table}
-use Rattle.cargo_toml.specs.{Parsed.parsed_entries, Targets.TargetMeaning, Recorded.is_implied}
 use Rattle.cargo_toml.specs.{Marks.NamedDetails, Recursive.Enables, Action.Item.Name, Reach.Among}
-use Rattle.cargo_toml.specs.{Action.Item.On, Marks.marks_in, Graph.Edge}
-use Rattle.cargo_toml_lint.specs.Known.{Names, all_names}
+use Rattle.cargo_toml.specs.{Action.Item.On, Marks.marks_in, Graph.Edge, Recorded.is_implied}
+use Rattle.cargo_toml_lint.specs.Known.{Names, all_names, tables_of}
 use Rattle.cargo_toml_lint.specs.Taken.{is_bad_text, is_feature_name, is_never_required}
-use Rattle.cargo_toml_lint.specs.declared.finding.Code.TheVariants.{BadName, BadRequest}
-use Rattle.cargo_toml_lint.specs.declared.finding.Code.TheVariants.{BadRequired, BadText}
-use Rattle.cargo_toml_lint.specs.declared.finding.Code.TheVariants.{FeatureTable, NamesItself}
-use Rattle.cargo_toml_lint.specs.declared.finding.Code.TheVariants.{NotOptional, OptionalDev}
-use Rattle.cargo_toml_lint.specs.declared.finding.Code.TheVariants.{Reserved, SameName, Unknown}
-use Rattle.cargo_toml_lint.specs.declared.finding.Code.TheVariants.{Implied, PrivateDefault, Cycle}
-use Rattle.cargo_toml_lint.specs.declared.finding.Code.TheVariants.{Missing, OverLimit, Unreachable}
+use Rattle.cargo_toml_lint.specs.declared.finding.Code.TheVariants as code
 use Rattle.cargo_toml_lint.specs.declared.finding.Level.TheVariants.{Error, Hint, Warning}
 use Rattle.cargo_toml_lint.specs.{declared.finding.Finding.Finding, declared.finding.Level.Level}
 use Rattle.cargo_toml_lint.specs.{declared.finding.Code.Code, Turning.turning}
@@ -42,16 +35,17 @@ told f t (Some c) = (c, f, t) ∷ []
 -- with the name x in the list of f
 abbrev pub name_fault : Names → Text → Text → Option Code
 name_fault n f x =
-    if bytes_eq x f then Some NamesItself
+    if bytes_eq x f then Some code.NamesItself
     else if n.listed x then None
-    else if n.optional x then when (n.reserved x) Reserved
-    else if n.dependency x then Some NotOptional
-    else Some Unknown
+    else if n.optional x then when (n.reserved x) code.Reserved
+    else if n.dependency x then Some code.NotOptional
+    else Some code.Unknown
 
 -- with an action on k, which has to be optional where the mark says so
 abbrev pub action_fault : Names → Text → Bool → Option Code
 action_fault n k marked =
-    if not (n.dependency k) then Some Unknown else when (marked && not (n.optional k)) NotOptional
+    if not (n.dependency k) then Some code.Unknown
+    else when (marked && not (n.optional k)) code.NotOptional
 
 -- with an item in the list of f
 abbrev pub item_fault : Names → Text → Item → Option Code
@@ -60,7 +54,7 @@ item_fault n f (On k a) = action_fault n k (a.is_dep_only || a.is_conditional)
 
 -- with a text in the list of f
 abbrev pub text_fault : Names → Text → Text → Option Code
-text_fault n f t = if is_bad_text t then Some BadText else item_fault n f (item_of t)
+text_fault n f t = if is_bad_text t then Some code.BadText else item_fault n f (item_of t)
 
 -- a name that no feature has, be it listed or the key of an optional dependency that no text names
 -- by `dep:`; or an action on no dependency
@@ -71,8 +65,8 @@ is_missing n (On k a) = not (n.dependency k)
 -- with a text that a target requires
 abbrev pub required_fault : Names → Text → Option Code
 required_fault n t =
-    if is_never_required t then Some BadRequired
-    else when (is_bad_text t || is_missing n (item_of t)) Missing
+    if is_never_required t then Some code.BadRequired
+    else when (is_bad_text t || is_missing n (item_of t)) code.Missing
 
 -- the name of an optional dependency on which no text acts: of a listed feature, so that Cargo
 -- would never turn the dependency on
@@ -89,12 +83,16 @@ is_over limit listed f ts =
 abbrev pub list_findings : Names → Text → List Text → List About
 list_findings n f ts = flat_map (λ t. told f t (text_fault n f t)) ts
 
+-- of other texts of f, by what is wrong with each
+abbrev pub texts_findings : (Text → Option Code) → Text → List Text → List About
+texts_findings fault f ts = flat_map (λ t. told f t (fault t)) ts
+
 -- of the listed feature f
 abbrev pub feature_findings : Names → Bool → Text → List Text → List About
 feature_findings n over f ts =
-    told f [] (when (not (is_feature_name f)) BadName)
-    ++ (told f [] (when (has_same_name n f) SameName)
-    ++ (told f [] (when over OverLimit) ++ list_findings n f ts))
+    told f [] (when (not (is_feature_name f)) code.BadName)
+    ++ (told f [] (when (has_same_name n f) code.SameName)
+    ++ (told f [] (when over code.OverLimit) ++ list_findings n f ts))
 
 -- the features that are asked for of a dependency
 abbrev pub asked_of : DependencyMeaning → List Text
@@ -102,15 +100,12 @@ asked_of (simple r) = []
 asked_of (inherited i) = i.features
 asked_of (detailed d) = d.features
 
--- of the texts that are asked for of the dependency k
-abbrev pub request_findings : Text → List Text → List About
-request_findings k ts = flat_map (λ t. told k t (when (not (is_feature_name t)) BadRequest)) ts
-
 -- of an entry of a table, which may be of dev-dependencies, or beyond the limit
 abbrev pub entry_findings : Bool → Bool → Text → DependencyMeaning → List About
 entry_findings dev over k d =
-    told k [] (when (dev && is_optional d) OptionalDev)
-    ++ (told k [] (when over OverLimit) ++ request_findings k (asked_of d))
+    told k [] (when (dev && is_optional d) code.OptionalDev)
+    ++ (told k [] (when over code.OverLimit)
+    ++ texts_findings (λ t. when (not (is_feature_name t)) code.BadRequest) k (asked_of d))
 
 -- of a table, of which so many entries count
 abbrev pub table_findings : Bool → ℕ → Entries → List About
@@ -118,25 +113,14 @@ table_findings dev n [] = []
 table_findings dev n (e ∷ es) =
     entry_findings dev (n == 0) e.0 e.1 ++ table_findings dev (n - 1) es
 
--- of the three tables of a target
-abbrev pub target_findings : ℕ → TargetMeaning → List About
-target_findings limit t =
-    table_findings false limit t.dependencies
-    ++ (table_findings false limit t.build_dependencies
-    ++ table_findings true limit t.dev_dependencies)
-
 -- of all tables of dependencies
 abbrev pub tables_findings : {M : Type 0} → ℕ → ManifestMeaning M → List About
-tables_findings limit m =
-    target_findings limit (own_tables m) ++ flat_map (λ t. target_findings limit t.1) m.target
-
--- of the texts that a target of the name f requires
-abbrev pub required_findings : Names → Text → List Text → List About
-required_findings n f ts = flat_map (λ t. told f t (required_fault n t)) ts
+tables_findings limit m = flat_map (λ t. table_findings t.1 limit t.0) (tables_of m)
 
 -- of a target that is built: a binary, an example, a test or a benchmark
 abbrev pub product_findings : Names → ProductMeaning → List About
-product_findings n p = required_findings n (unwrap_or p.name []) p.required_features
+product_findings n p =
+    texts_findings (required_fault n) (unwrap_or p.name []) p.required_features
 
 -- of all such targets
 abbrev pub products_findings : {M : Type 0} → Names → ManifestMeaning M → List About
@@ -176,11 +160,11 @@ pub record IsOnlyDefault (t : Table) (f : Text) : Type 0 where
 
 -- what holds of f among the features that count, by which of them are implied and which are private
 abbrev pub CountsWith : (Text → Bool) → (Text → Bool) → Table → Code → Text → Type 0
-CountsWith implied internal t Implied f = IsTrue (implied f)
-CountsWith implied internal t PrivateDefault f =
+CountsWith implied internal t code.Implied f = IsTrue (implied f)
+CountsWith implied internal t code.PrivateDefault f =
     IsTrue (is_hidden f || internal f) × IsOnlyDefault t f
-CountsWith implied internal t Cycle f = IsCyclic t f
-CountsWith implied internal t Unreachable f = IsUnreachable t f
+CountsWith implied internal t code.Cycle f = IsCyclic t f
+CountsWith implied internal t code.Unreachable f = IsUnreachable t f
 CountsWith implied internal t _ f = ⊥
 
 -- the findings of all that is written, by the names that there are, and the lists beyond the limit
@@ -188,7 +172,7 @@ abbrev pub findings_by : {M : Type 0} → Names → (Text → List Text → Bool
     → ManifestMeaning M → List About
 findings_by n over limit listed m =
     flat_map (λ e. feature_findings n (over e.0 e.1) e.0 e.1) listed
-    ++ (flat_map (λ e. told e.0 [] (Some FeatureTable)) m.feature_details
+    ++ (flat_map (λ e. told e.0 [] (Some code.FeatureTable)) m.feature_details
     ++ (tables_findings limit m ++ products_findings n m))
 
 -- where so many names of the table of features count, texts of a feature, and keys of a table of
@@ -212,12 +196,12 @@ module _ {M : Type 0} (limit : ℕ) (m : ManifestMeaning M) where
 -- ---- the answer
 -- the level of a code
 abbrev pub code_level : Code → Level
-code_level Implied = Hint
-code_level PrivateDefault = Hint
-code_level Cycle = Warning
-code_level Missing = Warning
-code_level OverLimit = Warning
-code_level Unreachable = Warning
+code_level code.Implied = Hint
+code_level code.PrivateDefault = Hint
+code_level code.Cycle = Warning
+code_level code.Missing = Warning
+code_level code.OverLimit = Warning
+code_level code.Unreachable = Warning
 code_level _ = Error
 
 -- what a finding is about

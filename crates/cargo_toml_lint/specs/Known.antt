@@ -1,11 +1,10 @@
 -- Which names a manifest has.
-use Rattle.std.specs.Prelude.{Bool, true, false, ◌&&◌, ◌||◌, not, List, [], ◌∷◌, ◌++◌, bytes_eq}
-use Rattle.std.specs.Prelude.{map}
-use Rattle.std.specs.List.{flat_map, list_any}
+use Rattle.std.specs.Prelude.{Bool, true, false, ◌&&◌, ◌||◌, not, List, ◌∷◌, ◌++◌, bytes_eq, map}
+use Rattle.std.specs.{List.flat_map, List.list_any, Prelude.[]}
 use Rattle.cargo_toml.specs.Action.{Text, Item, item_of}
 use Rattle.cargo_toml.specs.{InheritedDependencies.Entries, InheritedManifests.own_tables}
 use Rattle.cargo_toml.specs.{Manifests.ManifestMeaning, Dependencies.is_optional, Action.Item.Name}
-use Rattle.cargo_toml.specs.{Targets.TargetMeaning, Admitted.Listed, Action.Item.On}
+use Rattle.cargo_toml.specs.{Action.Item.On, Targets.TargetMeaning, Admitted.Listed}
 
 -- keys of dependencies, some of which are marked
 abbrev pub Marked : Type 0
@@ -19,14 +18,18 @@ has_key marked ks k = list_any (λ p. bytes_eq k p.0 && (p.1 || not marked)) ks
 abbrev pub keys_in : Entries → Marked
 keys_in entries = map (λ e. (e.0, is_optional e.1)) entries
 
--- the keys of the three tables of a target
-abbrev pub target_keys : TargetMeaning → Marked
-target_keys t =
-    keys_in t.dependencies ++ (keys_in t.build_dependencies ++ keys_in t.dev_dependencies)
+-- the three tables of dependencies of a target, each with whether it is of dev-dependencies
+abbrev pub target_tables : TargetMeaning → List (Entries × Bool)
+target_tables t =
+    (t.dependencies, false) ∷ (t.build_dependencies, false) ∷ (t.dev_dependencies, true) ∷ []
 
--- those of all tables: of the manifest, then of each target
+-- all tables: of each target, then of the manifest
+abbrev pub tables_of : {M : Type 0} → ManifestMeaning M → List (Entries × Bool)
+tables_of m = flat_map (λ t. target_tables t.1) m.target ++ target_tables (own_tables m)
+
+-- the keys of all tables
 abbrev pub dependency_keys : {M : Type 0} → ManifestMeaning M → Marked
-dependency_keys m = target_keys (own_tables m) ++ flat_map (λ t. target_keys t.1) m.target
+dependency_keys m = flat_map (λ t. keys_in t.0) (tables_of m)
 
 -- the key on which an item acts; marked by `dep:`
 abbrev pub acted_in : Item → Marked

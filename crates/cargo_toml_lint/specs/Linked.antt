@@ -4,9 +4,8 @@ use Rattle.std.specs.{Borrow.Bor, Prelude.not, Prelude.ℕ}
 use Rattle.cargo_toml.specs.{Ascending.Ascend, Action.Text, Graph.Table, Reach.Among}
 use Rattle.cargo_toml_features.specs.Places.{nth_text}
 use Rattle.cargo_toml_lint.specs.Reached.{IsFinished, IsFlagged, Leads, Path}
-use Rattle.cargo_toml_lint.specs.declared.walks.Source.TheVariants.{Shown, Default, Others}
-use Rattle.cargo_toml_lint.specs.{declared.linking.Links.Links, declared.walks.Source.Source}
-use Rattle.cargo_toml_lint.specs.{declared.walks.Walks.Walks, Findings.is_hidden}
+use Rattle.cargo_toml_lint.specs.{Findings.is_hidden, declared.linking.Links.Links}
+use Rattle.cargo_toml_lint.specs.declared.walks.Walks.{Walks}
 
 abbrev pub names_of : Links → List Text
 names_of l = map (λ t. t.now) l.names.items
@@ -33,25 +32,23 @@ pub record AreLinks (t : Table) (l : Links) : Type 0 where
   pub leads : (a b : ℕ) → a < length l.names.items → b < length l.names.items
       → Leads l.reach.next.items a b ↔ IsTrue (t.names (name_at l a) (name_at l b))
 
--- whether the feature of a name is of this source
-abbrev pub is_of : Source → Text → Bool
-is_of Shown f = not (is_hidden f)
-is_of Default f = bytes_eq f (codes "default")
-is_of Others f = not (bytes_eq f (codes "default"))
-
--- by any number of edges, or to another by one
-abbrev pub Goes : Source → Links → ℕ → ℕ → Type 0
-Goes Shown l a b = Path l.reach.next.items a b
-Goes Default l a b = (b ≢ a) × Leads l.reach.next.items a b
-Goes Others l a b = (b ≢ a) × Leads l.reach.next.items a b
-
--- the flags of the places to which those of the source go
-pub record AreLed (s : Source) (l : Links) (flags : List Bool) : Type 0 where
+-- the flags of the places to which those of the first n go that pass
+pub record AreLed (l : Links) (n : ℕ) (test : Text → Bool) (Goes : ℕ → ℕ → Type 0)
+    (flags : List Bool) : Type 0 where
   pub len : length flags ≡ length l.names.items
-  pub are : (b : ℕ) → IsFlagged flags b ↔ ((a : ℕ) × (a < length l.names.items)
-      × IsTrue (is_of s (name_at l a)) × Goes s l a b)
+  pub are : (b : ℕ) → IsFlagged flags b
+      ↔ ((a : ℕ) × (a < n) × IsTrue (test (name_at l a)) × Goes a b)
 
-pub record AreWalks (l : Links) (w : Walks) : Type 0 where
-  pub reached : AreLed Shown l w.reached.items
-  pub by_default : AreLed Default l w.by_default.items
-  pub by_others : AreLed Others l w.by_others.items
+-- to another by one edge
+abbrev pub LeadsOn : Links → ℕ → ℕ → Type 0
+LeadsOn l a b = (b ≢ a) × Leads l.reach.next.items a b
+
+-- the flags of all three, as far as the first n go
+pub record AreWalked (l : Links) (n : ℕ) (far near others : List Bool) : Type 0 where
+  pub reached : AreLed l n (λ f. not (is_hidden f)) (Path l.reach.next.items) far
+  pub by_default : AreLed l n (λ f. bytes_eq f (codes "default")) (LeadsOn l) near
+  pub by_others : AreLed l n (λ f. not (bytes_eq f (codes "default"))) (LeadsOn l) others
+
+abbrev pub AreWalks : Links → Walks → Type 0
+AreWalks l w =
+    AreWalked l (length l.names.items) w.reached.items w.by_default.items w.by_others.items

@@ -1,18 +1,13 @@
 //! What is wrong with one text, or with one feature.
-ghost use Rattle.std.specs.Prelude.{◌≡◌, not, map, string_bytes};
+ghost use Rattle.std.specs.Prelude.{◌≡◌};
 ghost use Rattle.cargo_toml.specs.Action.{item_of};
-ghost use Rattle.cargo_toml_lint.specs.Findings.{has_same_name, is_missing, action_fault};
-ghost use Rattle.cargo_toml_lint.specs.Findings.{name_fault, required_fault, text_fault, when};
-ghost use Rattle.cargo_toml_lint.specs.Steps.{explicit_at, is_beyond};
-ghost use Rattle.cargo_toml_lint.specs.{Names.held_names, Taken.is_feature_name};
-ghost use Rattle.cargo_toml_lint.specs.declared.finding.Code.TheVariants.{BadRequest};
+ghost use Rattle.cargo_toml_lint.specs.Findings.{action_fault, required_fault, text_fault};
+ghost use Rattle.cargo_toml_lint.specs.{Names.held_names, Findings.is_missing, Findings.name_fault};
 
 use crate::finding::Code;
-use crate::graph::FeatureMap;
 use crate::known::Known;
-use crate::names::{is_bad_text, is_feature_name, is_never_required};
+use crate::names::{is_bad_text, is_never_required};
 use cargo_toml_features::action::read_action;
-use std::hash::BuildHasher;
 
 // What is wrong with a name in the list of a feature.
 fn name_fault(known: &Known<'_>, feature: &str, name: &str) -> Option<Code>
@@ -82,41 +77,4 @@ pub(crate) fn required_fault(known: &Known<'_>, text: &str) -> Option<Code>
         return Some(Code::BadRequired);
     }
     (is_bad_text(text) || is_missing(known, text)).then_some(Code::Missing)
-}
-
-/// What is wrong with a feature that is asked for of a dependency.
-pub(crate) fn request_fault(text: &str) -> Option<Code>
-    ensures { result ≡ when (not (is_feature_name text.now)) BadRequest }
-{
-    if is_feature_name(text) {
-        None
-    } else {
-        Some(Code::BadRequest)
-    }
-}
-
-/// Whether a feature and an optional dependency on which no text acts have the name.
-pub(crate) fn is_same_name(known: &Known<'_>, name: &str) -> bool
-    ensures { result ≡ has_same_name (held_names known.now) name.now }
-{
-    known.optional.contains(name) && !known.acted.contains(name)
-}
-
-// Whether the resolved features have one of the name that the manifest lists.
-fn is_explicit<S: BuildHasher>(features: &FeatureMap<'_, S>, name: &str) -> bool
-    ensures { result ≡ explicit_at features.now name.now }
-{
-    features.get(name).is_some_and(|feature| feature.explicit)
-}
-
-/// Whether the limit left out the name, or some of its texts.
-pub(crate) fn is_over<S: BuildHasher>(
-    features: &FeatureMap<'_, S>,
-    name: &str,
-    texts: &[String],
-    limit: usize,
-) -> bool
-    ensures { result ≡ is_beyond features.now limit name.now (map string_bytes texts.now) }
-{
-    texts.len() > limit || !is_explicit(features, name)
 }

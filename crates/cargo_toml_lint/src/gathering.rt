@@ -1,5 +1,5 @@
 //! What is found of features as they are written, and of targets that require some.
-ghost use Rattle.std.specs.Prelude.{◌≡◌, [], Some, OnOk, map, string_bytes, unwrap_or};
+ghost use Rattle.std.specs.Prelude.{◌≡◌, [], Some, OnOk, map, string_bytes};
 ghost use Rattle.std.specs.List.{flat_map};
 ghost use Rattle.cargo_toml.specs.{Details.detail_of, Manifests.held, Products.product_meaning};
 ghost use Rattle.cargo_toml.specs.Reads.{map_meaning};
@@ -8,10 +8,10 @@ ghost use Rattle.cargo_toml_lint.specs.declared.finding.Code.TheVariants.{Featur
 ghost use Rattle.cargo_toml_lint.specs.{Findings.product_findings, Names.held_names, Steps.Finds};
 ghost use Rattle.cargo_toml_lint.specs.{Names.listed_by, Steps.is_beyond};
 
-use crate::faults::{is_over, is_same_name, required_fault, text_fault};
+use crate::faults::{required_fault, text_fault};
 use crate::finding::{Code, Finding};
-use crate::graph::FeatureMap;
 use crate::known::Known;
+use crate::linking::FeatureMap;
 use crate::names::is_feature_name;
 use cargo_toml::{FeatureDetails, Manifest, Product};
 use std::alloc::AllocError;
@@ -27,14 +27,13 @@ pub(crate) fn add<'m>(
     ensures { OnOk result (Finds (told feature.now text.now fault) found.old.items
         found.new.items) }
 {
-    let Some(code) = fault else {
-        return Ok(());
-    };
-    found.push(Finding {
-        code,
-        feature,
-        text,
-    })?;
+    if let Some(code) = fault {
+        found.push(Finding {
+            code,
+            feature,
+            text,
+        })?;
+    }
     Ok(())
 }
 
@@ -64,13 +63,26 @@ fn add_feature<'m>(
         (map string_bytes texts.now)) found.old.items found.new.items) }
 {
     add_if(found, !is_feature_name(name), Code::BadName, name)?;
-    add_if(found, is_same_name(known, name), Code::SameName, name)?;
+    let is_left_alone = known.optional.contains(name) & !known.acted.contains(name);
+    add_if(found, is_left_alone, Code::SameName, name)?;
     add_if(found, is_over, Code::OverLimit, name)?;
     for text in texts {
         let text = text.as_str();
         add(found, text_fault(known, name, text), name, text)?;
     }
     Ok(())
+}
+
+// Whether the limit left out the name, or some of its texts.
+fn is_over<S: BuildHasher>(
+    features: &FeatureMap<'_, S>,
+    name: &str,
+    texts: &[String],
+    limit: usize,
+) -> bool
+    ensures { result ≡ is_beyond features.now limit name.now (map string_bytes texts.now) }
+{
+    texts.len() > limit || !features.get(name).is_some_and(|feature| feature.explicit)
 }
 
 /// Adds what is found of each listed feature.
@@ -109,13 +121,6 @@ pub(crate) fn add_details<'m>(
     Ok(())
 }
 
-// The name of a target, empty where it has none.
-fn name_of(product: &Product) -> &str
-    ensures { result.now ≡ unwrap_or (product_meaning product.now).name [] }
-{
-    product.name.as_deref().unwrap_or("")
-}
-
 // Adds what is found of the features that a target requires.
 #[tactic(auto, using(crate::proofs::Adding::mapped_next))]
 fn add_product<'m>(
@@ -126,7 +131,7 @@ fn add_product<'m>(
     ensures { OnOk result (Finds (product_findings (held_names known.now)
         (product_meaning product.now)) found.old.items found.new.items) }
 {
-    let name = name_of(product);
+    let name = product.name.as_deref().unwrap_or("");
     for text in &product.required_features {
         let text = text.as_str();
         add(found, required_fault(known, text), name, text)?;

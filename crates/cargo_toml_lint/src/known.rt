@@ -1,14 +1,13 @@
 //! Which names a manifest has: of features, of dependencies, and those that `dep:` names.
 ghost use Rattle.std.specs.Prelude.{◌≡◌, IfOk, OnOk, map, string_bytes};
-ghost use Rattle.std.specs.List.{flat_map};
 ghost use Rattle.cargo_toml.specs.{Action.Text, Action.item_of, Dependencies.dependency_meaning};
-ghost use Rattle.cargo_toml.specs.{Manifests.held, Reads.map_meaning, Targets.target_meaning};
-ghost use Rattle.cargo_toml.specs.Views.{set_has};
-ghost use Rattle.cargo_toml_lint.specs.Known.{acted_keys, all_names, dependency_keys, target_keys};
-ghost use Rattle.cargo_toml_lint.specs.Known.{acted_by, acted_in, has_key, keys_in};
+ghost use Rattle.cargo_toml.specs.{Manifests.held, Reads.map_meaning, Views.set_has};
+ghost use Rattle.cargo_toml_lint.specs.Known.{acted_by, acted_in, acted_keys, all_names};
+ghost use Rattle.cargo_toml_lint.specs.Known.{dependency_keys, has_key, keys_in};
 ghost use Rattle.cargo_toml_lint.specs.Names.{AddsKeys, key_of, held_names, listed_by};
 
-use cargo_toml::{DepsSet, FeatureSet, Manifest, Target, TargetDepsSet};
+use crate::tables::tables_of;
+use cargo_toml::{DepsSet, FeatureSet, Manifest};
 use cargo_toml_features::action::{add_text, read_action};
 use std::alloc::{AllocError, Global};
 use std::collections::BTreeSet;
@@ -28,12 +27,8 @@ pub(crate) struct Known<'m> {
     pub reserved: BTreeSet<&'m str>,
 }
 
-// A key of a dependency, which may be marked.
-#[derive(Copy, Clone)]
-struct Key<'m> {
-    name: &'m str,
-    is_marked: bool,
-}
+// A key of a dependency, and whether it is marked.
+type Key<'m> = (&'m str, bool);
 
 // Adds those of a table: marked are those of optional dependencies.
 fn add_table<'m>(keys: &mut Vec<Key<'m>>, table: &'m DepsSet) -> Result<(), AllocError>
@@ -41,32 +36,7 @@ fn add_table<'m>(keys: &mut Vec<Key<'m>>, table: &'m DepsSet) -> Result<(), Allo
         keys.old.items keys.new.items) }
 {
     for (key, dependency) in table {
-        keys.push(Key {
-            name: key.as_str(),
-            is_marked: dependency.optional(),
-        })?;
-    }
-    Ok(())
-}
-
-// Adds those of the tables of a target.
-fn add_target<'m>(keys: &mut Vec<Key<'m>>, target: &'m Target) -> Result<(), AllocError>
-    ensures { OnOk result
-        (AddsKeys (target_keys (target_meaning target.now)) keys.old.items keys.new.items) }
-{
-    add_table(keys, &target.dependencies)?;
-    add_table(keys, &target.build_dependencies)?;
-    add_table(keys, &target.dev_dependencies)
-}
-
-// Adds those of each target.
-#[tactic(auto, using(crate::proofs::Adding::left_next, crate::proofs::Adding::left_none))]
-fn add_targets<'m>(keys: &mut Vec<Key<'m>>, targets: &'m TargetDepsSet) -> Result<(), AllocError>
-    ensures { OnOk result (AddsKeys (flat_map (λ t. target_keys t.1)
-        (map_meaning target_meaning targets.now)) keys.old.items keys.new.items) }
-{
-    for (_, target) in targets {
-        add_target(keys, target)?;
+        keys.push((key.as_str(), dependency.optional()))?;
     }
     Ok(())
 }
@@ -79,10 +49,7 @@ fn add_acted<'m>(keys: &mut Vec<Key<'m>>, text: &'m str) -> Result<(), AllocErro
     if !action.acts() {
         return Ok(());
     }
-    keys.push(Key {
-        name: action.target,
-        is_marked: action.is_dep_only,
-    })?;
+    keys.push((action.target, action.is_dep_only))?;
     Ok(())
 }
 
@@ -99,14 +66,14 @@ fn add_list<'m>(keys: &mut Vec<Key<'m>>, texts: &'m [String]) -> Result<(), Allo
 }
 
 // The keys of all tables of dependencies of a manifest.
+#[tactic(auto, using(crate::proofs::Adding::mapped_next))]
 fn dependency_keys<M>(alloc: Global, manifest: &Manifest<M>) -> Result<Vec<Key<'_>>, AllocError>
     ensures { IfOk result (λ v. map key_of v.items ≡ dependency_keys (held manifest.now)) }
 {
     let mut keys = Vec::new(alloc);
-    add_table(&mut keys, &manifest.dependencies)?;
-    add_table(&mut keys, &manifest.build_dependencies)?;
-    add_table(&mut keys, &manifest.dev_dependencies)?;
-    add_targets(&mut keys, &manifest.target)?;
+    for table in &tables_of(alloc, manifest)? {
+        add_table(&mut keys, table.0)?;
+    }
     Ok(keys)
 }
 
@@ -134,8 +101,8 @@ fn set_of<'m>(
 {
     let mut set = BTreeSet::new(alloc);
     for key in keys {
-        if key.is_marked | !marked {
-            add_text(&mut set, key.name)?;
+        if key.1 | !marked {
+            add_text(&mut set, key.0)?;
         }
     }
     Ok(set)

@@ -5,7 +5,6 @@
 mod faults;
 mod finding;
 mod gathering;
-mod graph;
 mod known;
 mod linking;
 mod linting;

@@ -1,25 +1,27 @@
 //! Which features of a manifest turn on which.
-ghost use Rattle.std.specs.Prelude.{◌≡◌, ◌↔◌, ◌⊎◌, ◌<◌, ◌&&◌, ◌||◌, ℕ, [], IfOk, IsTrue, OnOk};
-ghost use Rattle.std.specs.Prelude.{bytes_eq, is_some, length, map, not, string_bytes, unwrap_or};
+ghost use Rattle.std.specs.Prelude.{◌≡◌, ◌↔◌, ◌⊎◌, ◌<◌, ℕ, [], IfOk, IsTrue, OnOk, bytes_eq};
+ghost use Rattle.std.specs.Prelude.{length, map, string_bytes, unwrap_or};
 ghost use Rattle.std.specs.Map.{lookup};
-ghost use Rattle.cargo_toml.specs.{Recursive.Enables, Ascending.Ascend, Action.item_of};
-ghost use Rattle.cargo_toml.specs.{Manifests.held, Views.table_in, Views.set_has, Action.Text};
-ghost use Rattle.cargo_toml.specs.{Graph.Table, Reach.Among};
+ghost use Rattle.cargo_toml.specs.Action.{item_of, Text};
+ghost use Rattle.cargo_toml.specs.{Recursive.Enables, Ascending.Ascend, Manifests.held};
+ghost use Rattle.cargo_toml.specs.{Views.table_in, Views.set_has, Graph.Table, Reach.Among};
 ghost use Rattle.cargo_toml_features.specs.Places.{nth_text};
 ghost use Rattle.cargo_toml_lint.specs.Linked.{AreFound, AreLinks, Passes, name_at};
-ghost use Rattle.cargo_toml_lint.specs.Names.{held_names, listed_by};
-ghost use Rattle.cargo_toml_lint.specs.Reached.{Leads, Path};
 ghost use Rattle.cargo_toml_lint.specs.Turning.{turned, turning, turning_by, turns_to};
+ghost use Rattle.cargo_toml_lint.specs.{Names.held_names, Names.listed_by, Reached.Leads};
 
-use crate::graph::FeatureMap;
 use crate::known::{Known, known_names};
 use crate::reach::{Reach, reach_all};
 use cargo_toml::Manifest;
-use cargo_toml_features::action::{ActionText, read_action};
+use cargo_toml::features::Feature;
+use cargo_toml_features::action::read_action;
 use cargo_toml_features::texts::{in_order, keys_in_order, place_of};
 use std::alloc::{AllocError, Global};
-use std::collections::BTreeSet;
+use std::collections::{BTreeSet, HashMap};
 use std::hash::BuildHasher;
+
+/// The features of a manifest, as they are resolved with none removed.
+pub type FeatureMap<'m, S> = HashMap<&'m str, Feature<'m>, S>;
 
 /// The features of a manifest by the places of their names, and which turn on which.
 #[derive(Drop)]
@@ -30,18 +32,8 @@ pub struct Links<'m> {
     pub(crate) reach: Reach,
 }
 
-// Whether an action turns on the feature of its target's name: where it names that, or where the
-// dependency is optional, and the action is neither conditional nor by `dep:`.
-fn is_turning(known: &Known<'_>, action: &ActionText<'_>) -> bool
-    ensures { result ≡ (not (action.now.is_dep_only || is_some action.now.dep_feature)
-        || ((held_names known.now).optional action.now.target.now
-        && (not action.now.is_conditional && not action.now.is_dep_only))) }
-{
-    !action.acts()
-        || (known.optional.contains(action.target) && !action.is_conditional && !action.is_dep_only)
-}
-
-// Adds the place of what a text of a list turns on, if that is a feature.
+// Adds the place of what a text of a list turns on, if that is a feature: what it names, or an
+// optional dependency on which it acts, neither conditionally nor by `dep:`.
 fn add_edge(
     row: &mut Vec<usize>,
     known: &Known<'_>,
@@ -53,7 +45,9 @@ fn add_edge(
         names.now (λ x. turns_to (held_names known.now).optional x (item_of text.now)) b)) }
 {
     let action = read_action(text);
-    if !is_turning(known, &action) {
+    let is_whole = !action.is_conditional & !action.is_dep_only;
+    let turns = !action.acts() | (known.optional.contains(action.target) & is_whole);
+    if !turns {
         return Ok(());
     }
     let Some(place) = place_of(names, action.target) else {
@@ -118,10 +112,7 @@ fn names_in_order<'m, S: BuildHasher>(
     ensures in_order { IfOk result (λ names. Ascend (map (λ t. t.now) names.items)) }
 {
     let keys = keys_in_order(alloc, features)?;
-    let mut names = Vec::with_capacity(alloc, keys.len())?;
-    for name in &keys {
-        names.push(*name)?;
-    }
+    let names: Vec<&str> = keys.iter().copied().collect(alloc)?;
     Ok(in_order(names))
 }
 
@@ -161,21 +152,10 @@ impl<'m> Links<'m> {
         ensures { IfOk result (λ s. (t : Table) → AreLinks t self.now → (x : Text)
             → IsTrue (set_has s x) ↔ (IsTrue (t.has name.now) × Enables t name.now x)) }
     {
-        match place_of(self.names.as_slice(), name) {
-            Some(place) => self.led_to(alloc, place),
-            None => Ok(BTreeSet::new(alloc)),
-        }
-    }
-
-    // Those to which the one in this place leads.
-    fn led_to(&self, alloc: Global, place: usize) -> Result<BTreeSet<&'m str>, AllocError>
-        requires found { AreFound self.now }
-        requires inside { place < length self.now.names.items }
-        ensures { IfOk result (λ s. (x : Text) → IsTrue (set_has s x) ↔ ((a : ℕ)
-            × (a < length self.now.names.items) × (name_at self.now a ≡ x)
-            × Path self.now.reach.next.items place a)) }
-    {
         let mut found = BTreeSet::new(alloc);
+        let Some(place) = place_of(self.names.as_slice(), name) else {
+            return Ok(found);
+        };
         for other in 0..self.names.len() {
             if self.reach.leads(place, other) {
                 found.insert(self.name(other))?;
@@ -194,9 +174,7 @@ impl<'m> Links<'m> {
 
     /// The features that the one in this place turns on in one step.
     pub fn next(&self, place: usize) -> &[usize] {
-        match self.reach.next.get(place) {
-            Some(row) => row.as_slice(),
-            None => &[],
-        }
+        let row = self.reach.next.get(place);
+        row.map_or(&[], |row| row.as_slice())
     }
 }

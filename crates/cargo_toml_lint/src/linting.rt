@@ -1,19 +1,16 @@
 //! What is found of a manifest.
 ghost use Rattle.std.specs.Prelude.{◌≡◌, ◌≤◌, ◌⊎◌, ◌↔◌, [], None, true, IfErr, IfOk, IsTrue, OnOk};
 ghost use Rattle.std.specs.List.Sorted.{IsStrictlySortedBy};
-ghost use Rattle.cargo_toml.specs.Views.{answer_of, table_in};
-ghost use Rattle.cargo_toml.specs.{Limits.MAX_ITEMS, Parsed.IsParsed, Manifests.held, Error.Memory};
-ghost use Rattle.cargo_toml.specs.{Action.Text, Graph.Table, Reach.Among};
-ghost use Rattle.cargo_toml_lint.specs.Steps.{CountsBy, written_in};
-ghost use Rattle.cargo_toml_lint.specs.{declared.finding.Code.Code, Turning.turning_by};
-ghost use Rattle.cargo_toml_lint.specs.{Findings.HoldsOf, Findings.IsFound, Names.held_names};
-ghost use Rattle.cargo_toml_lint.specs.{Linked.AreFound, Linked.AreLinks, Names.listed_by};
+ghost use Rattle.cargo_toml.specs.{Action.Text, Error.Memory, Graph.Table, Limits.MAX_ITEMS};
+ghost use Rattle.cargo_toml.specs.{Manifests.held, Parsed.IsParsed, Views.answer_of};
+ghost use Rattle.cargo_toml_lint.specs.{Findings.HoldsOf, Findings.IsFound, Linked.AreFound};
+ghost use Rattle.cargo_toml_lint.specs.{Linked.AreLinks, Steps.CountsBy};
+ghost use Rattle.cargo_toml_lint.specs.declared.finding.Code.{Code};
 
 use crate::finding::Finding;
 use crate::gathering::{add_details, add_features, add_products};
-use crate::graph::FeatureMap;
-use crate::known::{Known, known_names};
-use crate::linking::{Links, links_of};
+use crate::known::known_names;
+use crate::linking::{FeatureMap, Links, links_of};
 use crate::tables::add_tables;
 use crate::walks::{add_place, walks_of};
 use cargo_toml::features::{Features, Resolver};
@@ -65,43 +62,6 @@ fn add_counting<'m, S: BuildHasher>(
     Ok(())
 }
 
-// The findings in their order, each once.
-fn in_order<'m>(mut found: Vec<Finding<'m>>) -> Vec<Finding<'m>>
-    ensures same { (c : Code) (f t : Text) → IsFound result.items c f t
-        ↔ IsFound found.entry.items c f t }
-    ensures in_order { IsStrictlySortedBy ⟦<Finding<'m> as Ord>⟧.cmp result.items }
-{
-    found.sort_unstable();
-    found.dedup();
-    found
-}
-
-// What is found in the features that were resolved.
-fn found_in<'m, M, S: BuildHasher>(
-    alloc: Global,
-    known: &Known<'m>,
-    features: &FeatureMap<'m, S>,
-    manifest: &'m Manifest<M>,
-    limit: usize,
-) -> Result<Vec<Finding<'m>>, AllocError>
-    ensures exact { IfOk result (λ v. (c : Code) (f x : Text) → IsFound v.items c f x
-        ↔ (Among (written_in features.now known.now limit (held manifest.now)) (c, f, x)
-        ⊎ ((x ≡ []) × IsTrue ((table_in features.now).has f) × CountsBy features.now
-        (turning_by (listed_by known.now) (held_names known.now).optional
-        (table_in features.now).has) c f))) }
-    ensures in_order { IfOk result
-        (λ v. IsStrictlySortedBy ⟦<Finding<'m> as Ord>⟧.cmp v.items) }
-{
-    let links = links_of(alloc, known, features)?;
-    let mut found = Vec::new(alloc);
-    add_features(&mut found, known, features, limit)?;
-    add_details(&mut found, &manifest.feature_details)?;
-    add_tables(&mut found, manifest, limit)?;
-    add_products(&mut found, known, manifest)?;
-    add_counting(&mut found, &links, features)?;
-    Ok(in_order(found))
-}
-
 /// What is found of the features of a manifest at a limit of items, which is at least 1.
 ///
 /// There is a finding of a code for a feature and a text exactly where what the code says holds of
@@ -122,7 +82,16 @@ pub fn lint_limited<'m, M, S: BuildHasher + Clone + Drop>(
 {
     let resolved = resolve_whole(alloc, state, manifest, limit)?;
     let known = known_names(alloc, manifest)?;
-    Ok(found_in(alloc, &known, &resolved.features, manifest, limit)?)
+    let links = links_of(alloc, &known, &resolved.features)?;
+    let mut found = Vec::new(alloc);
+    add_features(&mut found, &known, &resolved.features, limit)?;
+    add_details(&mut found, &manifest.feature_details)?;
+    add_tables(&mut found, manifest, limit)?;
+    add_products(&mut found, &known, manifest)?;
+    add_counting(&mut found, &links, &resolved.features)?;
+    found.sort_unstable();
+    found.dedup();
+    Ok(found)
 }
 
 /// The same at the limit of [`MAX_ITEMS`]. Who reads what strangers wrote hands in a random state,

@@ -1,7 +1,6 @@
 //! Which names and texts Cargo takes.
-ghost use Rattle.std.specs.Prelude.{◌≡◌, IfSome, is_some, slice_get};
-ghost use Rattle.std.specs.List.{after_first, before_first, list_all, list_any};
-ghost use Rattle.std.specs.Str.{chars};
+ghost use Rattle.std.specs.Prelude.{◌≡◌, IfSome, is_some};
+ghost use Rattle.std.specs.List.{after_first, before_first, list_any};
 ghost use Rattle.cargo_toml.specs.Action.{is_slash};
 ghost use Rattle.cargo_toml_lint.specs.Taken.{is_bad_text, is_feature_name, is_never_required};
 ghost use Rattle.cargo_toml_lint.specs.Taken.{may_follow, may_start};
@@ -22,27 +21,12 @@ fn may_follow(c: char) -> bool
     is_xid_continue(c) || c == '-' || c == '+' || c == '.'
 }
 
-fn first_char(text: &str) -> Option<char>
-    ensures { result ≡ slice_get (chars text.now) 0 }
-{
-    text.chars().next()
-}
-
-// Whether each character may stand in a feature's name.
-fn all_may_follow(text: &str) -> bool
-    ensures { result ≡ list_all may_follow (chars text.now) }
-{
-    text.chars().all(|c| may_follow(c))
-}
-
 /// Whether Cargo takes the text for the name of a feature.
 pub(crate) fn is_feature_name(name: &str) -> bool
     ensures { result ≡ is_feature_name name.now }
 {
-    match first_char(name) {
-        Some(first) => may_start(first) && all_may_follow(name),
-        None => false,
-    }
+    let begins = name.chars().next().is_some_and(may_start);
+    begins & name.chars().all(may_follow)
 }
 
 // The text up to its first slash, and what follows that.

@@ -15,18 +15,6 @@ pub struct Reach {
     rows: Vec<Vec<bool>>,
 }
 
-// Sets the flag of a vertex, unless it is the one's own.
-fn set_other(flags: &mut Vec<bool>, own: usize, x: usize)
-    requires { x < length flags.old.items }
-    ensures len { length flags.new.items ≡ length flags.old.items }
-    ensures put { (y : ℕ) → IsFlagged flags.new.items y
-        ↔ (IsFlagged flags.old.items y ⊎ ((y ≢ own) × (y ≡ x))) }
-{
-    if x != own {
-        flags[x] = true;
-    }
-}
-
 // Sets the flags that stand in the other list too.
 fn join(flags: &mut Vec<bool>, other: &[bool])
     requires { length flags.old.items ≡ length other.now }
@@ -78,8 +66,7 @@ fn row_of(alloc: Global, reach: &Reach, start: usize) -> Result<Vec<bool>, Alloc
         ↔ Path reach.now.next.items start y) }
 {
     let mut row = Vec::from_elem(alloc, false, reach.next.len())?;
-    let mut waiting = Vec::new(alloc);
-    waiting.push(start)?;
+    let mut waiting = vec![in alloc; start]?;
     while let Some(x) = waiting.pop() {
         meet(&mut row, &mut waiting, reach, x)?;
     }
@@ -122,37 +109,30 @@ fn by_ends(alloc: Global, next: &[Vec<usize>]) -> Result<Vec<usize>, AllocError>
     let mut is_met = Vec::from_elem(alloc, false, next.len())?;
     let mut open = Vec::new(alloc);
     for root in 0..next.len() {
-        open_if_new(&mut open, &mut is_met, root)?;
+        open.push((root, false))?;
         for _ in 0..u64::MAX {
-            let Some((at, place)) = open.pop() else {
-                break;
-            };
-            match edge(next, at, place) {
-                Some(to) => {
-                    open.push((at, place.saturating_add(1)))?;
-                    open_if_new(&mut open, &mut is_met, to)?;
-                }
-                None => order.push(at)?,
+            match open.pop() {
+                Some((x, true)) => order.push(x)?,
+                Some((x, false)) => open_if_new(next, &mut is_met, &mut open, x)?,
+                None => break,
             }
         }
     }
     Ok(order)
 }
 
-fn edge(next: &[Vec<usize>], at: usize, place: usize) -> Option<usize> {
-    let row = next.get(at)?;
-    row.as_slice().get(place).copied()
-}
-
+// Those to which a vertex leads that is met for the first time are to be met before it ends.
 fn open_if_new(
-    open: &mut Vec<(usize, usize)>,
+    next: &[Vec<usize>],
     is_met: &mut Vec<bool>,
+    open: &mut Vec<(usize, bool)>,
     x: usize,
 ) -> Result<(), AllocError> {
-    if let Some(flag) = is_met.get_mut(x) {
-        if !*flag {
-            *flag = true;
-            open.push((x, 0))?;
+    if x < next.len() && x < is_met.len() && !is_met[x] {
+        is_met[x] = true;
+        open.push((x, true))?;
+        for to in &next[x] {
+            open.push((*to, false))?;
         }
     }
     Ok(())
@@ -224,30 +204,32 @@ impl Reach {
         false
     }
 
-    /// Sets the flags of all that a vertex leads to.
-    pub fn add_reached(&self, flags: &mut Vec<bool>, a: usize)
+    /// Sets the flags of all that a vertex leads to, if that is wanted.
+    pub fn add_reached(&self, flags: &mut Vec<bool>, a: usize, is_wanted: bool)
         requires finished { IsFinished self.now }
         requires inside { a < length self.now.next.items }
         requires wide { length flags.old.items ≡ length self.now.next.items }
         ensures len { length flags.new.items ≡ length flags.old.items }
         ensures flags { (b : ℕ) → IsFlagged flags.new.items b
-            ↔ (IsFlagged flags.old.items b ⊎ Path self.now.next.items a b) }
+            ↔ (IsFlagged flags.old.items b ⊎ (IsTrue is_wanted × Path self.now.next.items a b)) }
     {
-        join(flags, self.row(a));
+        if is_wanted {
+            join(flags, self.row(a));
+        }
     }
 
-    /// Sets the flags of the others to which a vertex leads at once.
-    pub fn add_named(&self, flags: &mut Vec<bool>, a: usize)
+    /// Sets the flags of the others to which a vertex leads at once, if that is wanted.
+    pub fn add_named(&self, flags: &mut Vec<bool>, a: usize, is_wanted: bool)
         requires finished { IsFinished self.now }
         requires inside { a < length self.now.next.items }
         requires wide { length flags.old.items ≡ length self.now.next.items }
         ensures len { length flags.new.items ≡ length flags.old.items }
         ensures flags { (b : ℕ) → IsFlagged flags.new.items b
-            ↔ (IsFlagged flags.old.items b ⊎ ((b ≢ a) × Leads self.now.next.items a b)) }
+            ↔ (IsFlagged flags.old.items b
+            ⊎ (IsTrue is_wanted × (b ≢ a) × Leads self.now.next.items a b)) }
     {
-        let targets = self.targets(a);
-        for x in targets {
-            set_other(flags, a, *x);
+        for x in self.targets(a) {
+            flags[*x] |= is_wanted & (*x != a);
         }
     }
 }

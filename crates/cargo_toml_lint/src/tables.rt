@@ -1,15 +1,35 @@
 //! What is found of tables of dependencies.
-ghost use Rattle.std.specs.{Prelude.OnOk, List.flat_map};
+ghost use Rattle.std.specs.Prelude.{◌≡◌, IfOk, OnOk, map};
 ghost use Rattle.cargo_toml.specs.{Dependencies.dependency_meaning, Manifests.held};
-ghost use Rattle.cargo_toml.specs.{Reads.map_meaning, Targets.target_meaning};
+ghost use Rattle.cargo_toml.specs.Reads.{map_meaning};
 ghost use Rattle.cargo_toml_lint.specs.Findings.{entry_findings, table_findings, tables_findings};
-ghost use Rattle.cargo_toml_lint.specs.{Findings.target_findings, Steps.Finds};
+ghost use Rattle.cargo_toml_lint.specs.{Known.tables_of, Names.table_of, Steps.Finds};
 
-use crate::faults::request_fault;
 use crate::finding::{Code, Finding};
 use crate::gathering::{add, add_if};
-use cargo_toml::{Dependency, DepsSet, Manifest, Target, TargetDepsSet};
-use std::alloc::AllocError;
+use crate::names::is_feature_name;
+use cargo_toml::{Dependency, DepsSet, Manifest};
+use std::alloc::{AllocError, Global};
+
+/// All tables of dependencies of a manifest, each with whether it is of dev-dependencies.
+#[tactic(auto, using(crate::proofs::Adding::left_next, crate::proofs::Adding::left_none))]
+pub(crate) fn tables_of<M>(
+    alloc: Global,
+    manifest: &Manifest<M>,
+) -> Result<Vec<(&DepsSet, bool)>, AllocError>
+    ensures { IfOk result (λ v. map table_of v.items ≡ tables_of (held manifest.now)) }
+{
+    let mut tables = Vec::new(alloc);
+    for (_, target) in &manifest.target {
+        tables.push((&target.dependencies, false))?;
+        tables.push((&target.build_dependencies, false))?;
+        tables.push((&target.dev_dependencies, true))?;
+    }
+    tables.push((&manifest.dependencies, false))?;
+    tables.push((&manifest.build_dependencies, false))?;
+    tables.push((&manifest.dev_dependencies, true))?;
+    Ok(tables)
+}
 
 // Adds what is found of an entry, which may be of dev-dependencies, or beyond the limit.
 #[tactic(auto, using(crate::proofs::Adding::mapped_next, crate::proofs::Adding::asked_is))]
@@ -29,7 +49,8 @@ fn add_entry<'m>(
     let texts = dependency.req_features();
     for text in texts {
         let text = text.as_str();
-        add(found, request_fault(text), key, text)?;
+        let fault = (!is_feature_name(text)).then_some(Code::BadRequest);
+        add(found, fault, key, text)?;
     }
     Ok(())
 }
@@ -48,43 +69,13 @@ fn add_table<'m>(
     let mut left = limit;
     for (key, dependency) in table {
         add_entry(found, key.as_str(), dependency, is_dev, left == 0)?;
-        let rest = left.saturating_sub(1);
-        left = rest;
-    }
-    Ok(())
-}
-
-// Adds what is found of the tables of a target.
-fn add_target<'m>(
-    found: &mut Vec<Finding<'m>>,
-    target: &'m Target,
-    limit: usize,
-) -> Result<(), AllocError>
-    ensures { OnOk result (Finds (target_findings limit (target_meaning target.now))
-        found.old.items found.new.items) }
-{
-    add_table(found, &target.dependencies, false, limit)?;
-    add_table(found, &target.build_dependencies, false, limit)?;
-    add_table(found, &target.dev_dependencies, true, limit)
-}
-
-// Adds what is found of the tables of each target.
-#[tactic(auto, using(crate::proofs::Adding::left_next, crate::proofs::Adding::left_none))]
-fn add_targets<'m>(
-    found: &mut Vec<Finding<'m>>,
-    targets: &'m TargetDepsSet,
-    limit: usize,
-) -> Result<(), AllocError>
-    ensures { OnOk result (Finds (flat_map (λ t. target_findings limit t.1)
-        (map_meaning target_meaning targets.now)) found.old.items found.new.items) }
-{
-    for (_, target) in targets {
-        add_target(found, target, limit)?;
+        left = left.saturating_sub(1);
     }
     Ok(())
 }
 
 /// Adds what is found of all tables of dependencies.
+#[tactic(auto, using(crate::proofs::Adding::mapped_next))]
 pub(crate) fn add_tables<'m, M>(
     found: &mut Vec<Finding<'m>>,
     manifest: &'m Manifest<M>,
@@ -93,8 +84,8 @@ pub(crate) fn add_tables<'m, M>(
     ensures { OnOk result (Finds (tables_findings limit (held manifest.now))
         found.old.items found.new.items) }
 {
-    add_table(found, &manifest.dependencies, false, limit)?;
-    add_table(found, &manifest.build_dependencies, false, limit)?;
-    add_table(found, &manifest.dev_dependencies, true, limit)?;
-    add_targets(found, &manifest.target, limit)
+    for table in &tables_of(*found.allocator(), manifest)? {
+        add_table(found, table.0, table.1, limit)?;
+    }
+    Ok(())
 }

@@ -5,16 +5,16 @@ use Rattle.cargo_toml_lint.proofs.linking.add_edge.Goals as goal
 same : {A P : Type 0} → (¬ P) → A ↔ (A ⊎ P)
 same never = (inl, elim [ inl a ↦ a | inr p ↦ absurd (never p) ])
 
-pub returns-then-not-is_turning : goal.returns-then-not-is_turning
-returns-then-not-is_turning c = λ b. same (passes_none c.args.names.now (held_names c.args.known.now).optional c.args.text.now c.read_action-action.result
-    c.is_turning.result c.read_action-action.ensures.item c.is_turning.ensures b c.if-not-is_turning.true)
+pub returns-then-not-turns : goal.returns-then-not-turns
+returns-then-not-turns c = λ b. same (passes_none c.args.names.now (held_names c.args.known.now).optional c.args.text.now c.read_action-action.result
+    c.read_action-action.ensures.item b (rw (c.acts.ensures, c.contains.ensures) at c.if-not-turns.true))
 
 pub returns-in_default : goal.returns-in_default
 returns-in_default c = λ b. same (passes_missing c.args.names.now (held_names c.args.known.now).optional c.args.text.now c.read_action-action.result
-    c.is_turning.result c.read_action-action.ensures.item c.is_turning.ensures b (c.place_of.ensures.missing c.in_default.is))
+    c.read_action-action.ensures.item b (c.place_of.ensures.missing c.in_default.is))
 
 pub returns : goal.returns
 returns c = λ b.
-    let at = passes_at c.args.names.now (held_names c.args.known.now).optional c.args.text.now c.read_action-action.result c.is_turning.result
-    c.read_action-action.ensures.item c.is_turning.ensures b c.if-not-is_turning.false c.requires c.in-Some.place c.in-Some.ensures.found in
+    let at = passes_at c.args.names.now (held_names c.args.known.now).optional c.args.text.now c.read_action-action.result
+    c.read_action-action.ensures.item b (rw (c.acts.ensures, c.contains.ensures) at c.if-not-turns.false) c.requires c.in-Some.place c.in-Some.ensures.found in
     grind (arith, among-either, among-first, among-second, c.in_ok-push.ensures.items, at)

@@ -1,6 +1,5 @@
-use Rattle.cargo_toml_lint.proofs.Cited.{◌∙◌, Among, edge, false≢true, get_or, inr, refl, rules, subst, sym, take_all}
-use Rattle.cargo_toml_lint.proofs.{Rows.among_more, Searching.first_step, Searching.target_at}
-use Rattle.cargo_toml_lint.proofs.reach.Reach.is_in_ring.Goals.{else-x-own-via-else-x-own}
+use Rattle.cargo_toml_lint.proofs.Cited.{Among, edge, false≢true, get_or, inr, refl, rules, subst, sym, take_all, ◌∙◌}
+use Rattle.cargo_toml_lint.proofs.{Rows.among_more, Searching.first_step, Searching.target_at, reach.Reach.is_in_ring.Goals.else-x-own-via-else-x-own}
 use Rattle.cargo_toml_lint.proofs.reach.Reach.is_in_ring.Goals as goal
 
 pub leads-requires-clause-from : goal.leads-requires-clause-from

@@ -2,39 +2,30 @@
 """Holds what `cargo-toml-tools` prints against the rules of docs/TOOLS.md, read once more.
 
     compare/tools.py index|lint|document|graph FILE..     # prints what is wanted of these manifests
-    compare/tools.py audit|report FOLDER..                # and of these workspaces
-    compare/tools.py --compare TOOL FILE|FOLDER..         # holds the program against that
+    compare/tools.py --compare TOOL FILE..                # holds the program against that
     compare/tools.py --random TOOL COUNT [SEED]           # the same, on random ones
 
 Nothing here follows the program's code. Features are found by definitions.py.
 """
 
 import concurrent.futures
-import fnmatch
 import importlib.machinery
 import importlib.util
 import json
 import os
 import re
-import stat
 import subprocess
 import sys
 import tempfile
 import tomllib
 
 from definitions import Graph, enabled_by, in_order, join, mention
-from workspaces import Workspaces
 
 HERE = os.path.dirname(os.path.realpath(__file__))
 PROGRAM = os.path.join(os.path.dirname(HERE), "cargo-toml-tools")
 LIMIT = 2048
 TABLES = [("dependencies", "normal"), ("dev-dependencies", "dev"), ("build-dependencies", "build")]
 CRATES_IO = "https://github.com/rust-lang/crates.io-index"
-INHERITED = [
-    *("version", "edition", "authors", "categories", "exclude", "include", "keywords", "publish"),
-    *("readme", "description", "documentation", "homepage", "license", "license-file"),
-    *("repository", "rust-version"),
-]
 
 
 class Refused(Exception):
@@ -543,186 +534,18 @@ def lint(path):
     return f"{text}status {status}\n"
 
 
-# audit
-
-
-def is_folder(path):
-    """Whether a folder is there. Any other fault is raised."""
-    try:
-        return stat.S_ISDIR(os.stat(path).st_mode)
-    except (FileNotFoundError, NotADirectoryError):
-        return False
-
-
-def expanded(root, entry):
-    """The folders that an entry of `members` stands for."""
-    found = ["/" if entry.startswith("/") else ""]
-    for name in filter(None, entry.split("/")):
-        if not set("*?") & set(name):
-            found = [os.path.join(folder, name) for folder in found]
-            continue
-        further = []
-        for folder in found:
-            place = os.path.join(root, folder)
-            within = os.listdir(place) if is_folder(place) else []
-            for other in fnmatch.filter(within, name.replace("[", "[[]")):
-                if is_folder(os.path.join(place, other)):
-                    further.append(os.path.join(folder, other))
-        found = further
-    return found or [entry]
-
-
-def leads_out(path):
-    """Whether a normalized path leads out of the folder in which it is seen."""
-    return path.startswith("/") or path.split("/")[0] == ".."
-
-
-def lies_under(folder, outer):
-    """Whether a folder is another, or lies in it, by their normalized paths."""
-    if outer == ".":
-        return not leads_out(folder)
-    names, front = folder.split("/"), outer.split("/")
-    return names[: len(front)] == front and names[len(front) : len(front) + 1] != [".."]
-
-
-def lies_in(folder, outers):
-    return any(lies_under(folder, outer) for outer in map(os.path.normpath, outers))
-
-
-def members(root, manifest):
-    """The members, and those that are listed twice."""
-    workspace, found, twice = manifest["workspace"], set(), set()
-    written = workspace.get("members", [])
-    for entry in written:
-        for folder in map(os.path.normpath, expanded(root, entry)):
-            if lies_in(folder, workspace.get("exclude", [])) and not lies_in(folder, written):
-                continue
-            (twice if folder in found else found).add(folder)
-    return found | ({"."} if "package" in manifest else set()), twice
-
-
-def summary(folder, manifest, workspace):
-    if "package" not in manifest:
-        raise Refused("there is no package")
-    package = manifest["package"]
-    # what a table `workspace.package` gives, also where it says nothing of publishing or a readme
-    given = {*workspace["package"], "publish", "readme"} if "package" in workspace else {}
-    if any(is_inherited(package.get(key)) and key not in given for key in INHERITED):
-        name = package["name"]
-        raise Refused(f"not all fields of `{name}` have been present in workspace.package")
-
-    def value(key, missing=None):
-        found = package_value(key, package, workspace)
-        return missing if found is None else found
-
-    publish = value("publish", True)
-    is_unversioned = value("version", "0.0.0") == "0.0.0"
-    if is_unversioned and publish is True and not is_inherited(package.get("publish")):
-        publish = False
-    if isinstance(publish, list):
-        publish = ", ".join(publish) or "no"
-    inherits = [key for key in INHERITED if is_inherited(package.get(key))]
-    inherits += ["lints"] * is_inherited(manifest.get("lints"))
-    for name, _, _, table in tables(manifest):
-        inherits += [f"{name}.{key}" for key in in_order(table) if is_inherited(table[key])]
-    return {
-        "folder": folder,
-        "name": package["name"],
-        "version": value("version", "0.0.0"),
-        "edition": value("edition", "2015"),
-        "rust_version": value("rust-version"),
-        "license": value("license"),
-        "publish": {True: "yes", False: "no"}.get(publish, publish),
-        "inherits": inherits,
-    }
-
-
-def inspected(root):
-    """What is told of each member, and what is odd."""
-    manifest = load(os.path.join(root, "Cargo.toml"))
-    if "workspace" not in manifest:
-        raise Refused("there is no workspace")
-    workspace = manifest["workspace"]
-    folders, twice = members(root, manifest)
-    told, uses, inherited = [], {}, set()
-    odd = {("listed-twice", folder, "two entries of members lead to it") for folder in twice}
-    for folder in in_order(folders):
-        if leads_out(folder):
-            odd.add(("outside", folder, "it lies outside the workspace's folder"))
-        try:
-            member = load(os.path.join(root, folder, "Cargo.toml"))
-            for _, _, _, table in tables(member):
-                inherited |= {key for key in table if is_inherited(table[key])}
-            asked = [
-                (given.get("package", key), requirement(given["version"]))
-                for _, _, _, table in tables_to_fill(member)
-                for key in in_order(table)
-                if "version" in (given := filled(key, table[key], workspace))
-            ]
-            told.append(summary(folder, member, workspace))
-        except (FileNotFoundError, NotADirectoryError) as fault:
-            odd.add(("incomplete", folder, f"{fault.strerror} (os error {fault.errno})"))
-            continue
-        except Refused as why:
-            odd.add(("incomplete", folder, str(why)))
-            continue
-        for crate, text in asked:
-            uses.setdefault(crate, {}).setdefault(text, set()).add(folder)
-        given = workspace.get("package", {})
-        for key, word in ("edition", "other-edition"), ("license", "other-license"):
-            own = told[-1][key]
-            if key in given and given[key] != own:
-                own = "none" if own is None else own
-                odd.add((word, folder, f"{own}, where the workspace has {given[key]}"))
-    for crate, texts in uses.items():
-        if len(texts) > 1:
-            parts = [f"{text} in {', '.join(in_order(texts[text]))}" for text in in_order(texts)]
-            odd.add(("several-requirements", crate, "; ".join(parts)))
-    for key in workspace.get("dependencies", {}).keys() - inherited:
-        odd.add(("unused-dependency", key, "no member inherits it"))
-    return told, sorted(odd, key=lambda one: [text.encode() for text in one])
-
-
-def audit(root):
-    told, odd = inspected(root)
-    text = ""
-    for one in told:
-        keys = "name", "version", "edition", "rust_version", "license", "publish"
-        cells = ["-" if one[key] is None else one[key] for key in keys]
-        inherits = ", ".join(map(for_line, one["inherits"])) or "-"
-        front = f"member {for_line(one['folder'])}"
-        text += " | ".join([front, *map(for_line, cells), inherits]) + "\n"
-    for one in odd:
-        text += "finding " + " | ".join(map(for_line, one)) + "\n"
-    return text + f"status {3 if odd else 0}\n"
-
-
-def report(root):
-    told, odd = inspected(root)
-    findings = [dict(zip(("code", "subject", "words"), one)) for one in odd]
-    made = {"members": told, "findings": findings}
-    line = json.dumps(made, ensure_ascii=False, separators=(",", ":"), sort_keys=True)
-    return f"{line}\nstatus {3 if odd else 0}\n"
-
-
 TOOLS = {
     "index": index,
     "lint": lint,
     "document": lambda path: Document(path).page(),
     "graph": lambda path: Document(path).dot(),
-    "audit": audit,
-    "report": report,
 }
 WORDS = {
     "index": ["index"],
     "lint": ["lint"],
     "document": ["document"],
     "graph": ["document", "--dot"],
-    "audit": ["audit"],
-    "report": ["audit", "--json"],
 }
-# the tools whose status says what they found
-TELLING = ["lint", "audit", "report"]
 
 
 def options_beside(path):
@@ -749,9 +572,9 @@ def told(tool, path):
     """What the program tells, with its status where that says what was found."""
     words = [PROGRAM, *WORDS[tool], path]
     done = subprocess.run(words, capture_output=True, text=True, check=False)
-    if tool in TELLING and not done.stderr:
+    if tool == "lint" and not done.stderr:
         # where a finding stands, the program alone says
-        text = re.sub(r"(?m)^.*?:\d+:\d+: ", "", done.stdout) if tool == "lint" else done.stdout
+        text = re.sub(r"(?m)^.*?:\d+:\d+: ", "", done.stdout)
         return f"{text}status {done.returncode}\n"
     return done.stdout or done.stderr
 
@@ -783,17 +606,10 @@ def random_manifests(folder, count, seed):
     return paths
 
 
-def random_workspaces(folder, count, seed):
-    """Paths of random workspaces."""
-    workspaces = Workspaces(seed)
-    return [workspaces.write(f"{folder}/{number}") for number in range(count)]
-
-
 def compare_random(tool, count, seed=1):
-    """The same, on random manifests or, where the tool is of workspaces, on these."""
-    made = random_workspaces if tool in ["audit", "report"] else random_manifests
+    """The same, on random manifests."""
     with tempfile.TemporaryDirectory() as folder:
-        return compare(tool, made(folder, int(count), int(seed)))
+        return compare(tool, random_manifests(folder, int(count), int(seed)))
 
 
 def main(words):

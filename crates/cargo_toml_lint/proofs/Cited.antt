@@ -13,7 +13,7 @@ pub use Rattle.cargo_toml_lint.specs.Findings.{About, Counts, HoldsOf, IsCyclic,
 pub use Rattle.cargo_toml_lint.specs.Known.{Marked, Names, acted_by, acted_keys, all_names, has_key, is_name, keys_in, target_tables}
 pub use Rattle.cargo_toml_lint.specs.Linked.{AreLed, AreLinks, AreWalked, AreWalks, LeadsOn, Passes, name_at, names_of}
 pub use Rattle.cargo_toml_lint.specs.Names.{held_names, key_of, listed_by, table_of}
-pub use Rattle.cargo_toml_lint.specs.Reached.{IsFlagged, IsInRing, IsWhole, Leads, Path, Searches, Stands, edges_left, row_at}
+pub use Rattle.cargo_toml_lint.specs.Reached.{HasEdges, IsFinished, IsFlagged, IsInRing, IsWhole, Leads, Path, Searches, Stands, edges_left, row_at}
 pub use Rattle.cargo_toml_lint.specs.Steps.{CountsBy, Finds, explicit_at, implied_at, is_beyond, private_at, written_in}
 pub use Rattle.cargo_toml_lint.specs.Taken.{is_feature_name, may_follow, may_start}
 pub use Rattle.cargo_toml_lint.specs.Turning.{turned, turning, turning_by, turns_to}

@@ -1,5 +1,5 @@
 -- A search, one vertex after another.
-use Rattle.cargo_toml_lint.proofs.Cited.{Among, Bool, Decides-eqb, Gathers, IsFlagged, IsInRing, IsWhole, Leads, List, Path, Reach, Reaches, Searches, Stands, Vec, [], among-either, among-first, among-second, among_at, arith, cases_eq, chained, edge, false, get_or, inl, inr, length, length-set, refl, row_at, set, subst, sym, through, true, ℕ, ◌++◌, ◌<◌, ◌==◌, ◌↔◌, ◌∙◌, ◌∷◌, ◌≡◌, ◌≢◌, ◌⊎◌}
+use Rattle.cargo_toml_lint.proofs.Cited.{Among, Bool, Decides-eqb, Gathers, HasEdges, IsFinished, IsFlagged, IsInRing, IsWhole, Leads, List, Path, Reach, Reaches, Searches, Stands, Vec, [], among-either, among-first, among-second, among_at, arith, cases_eq, chained, edge, false, false≢true, get_or, inl, inr, length, length-set, refl, row_at, set, subst, sym, through, true, ℕ, ◌++◌, ◌<◌, ◌==◌, ◌↔◌, ◌∙◌, ◌∷◌, ◌≡◌, ◌≢◌, ◌⊎◌}
 use Rattle.cargo_toml_lint.proofs.Rows.{flag_set}
 
 abbrev All : ℕ → Type 0
@@ -56,6 +56,25 @@ search_ends r start row (w ∷ waiting) none s y = absurd (omega arith)
 -- a row that isn't empty stands
 pub stood : (r : Reach) (x : ℕ) (own : List Bool) → own ≡ row_at r.rows.items x → {b : Bool} → b ≡ (length own == 0) → b ≡ false → Stands r x
 stood r x own is told off = grind (arith, Decides-eqb)
+
+-- where all is found, a vertex leads to itself and to what its row flags
+pub led_by : (r : Reach) (a b : ℕ) → IsFinished r → ((b ≡ a) ⊎ IsFlagged (row_at r.rows.items a) b) ↔ Path r.next.items a b
+led_by r a b all = (
+  elim [ inl e ↦ inl e | inr on ↦ (all.whole.right a b (flagged (row_at r.rows.items a) on)).0 on ],
+  elim [ inl e ↦ inl e | inr p ↦ inr ((all.whole.right a b (all.settled a (leads p.1))).1 (inr p)) ],
+)
+  where
+    flagged : (row : List Bool) → IsFlagged row b → 0 < length row
+    flagged [] on = absurd (false≢true on)
+    flagged (f ∷ row) on = omega arith
+
+    some : (v : ℕ) (to : List ℕ) → Among to v → 0 < length to
+    some v [] i = absurd i
+    some v (t ∷ to) i = omega arith
+
+    leads : Reaches (Leads r.next.items) All a b → HasEdges r a
+    leads (edge e) = some b (row_at r.next.items a) e
+    leads (through {b = c} e s p) = some c (row_at r.next.items a) e
 
 -- an edge that is read in the list of its vertex
 pub target_at : (r : Reach) (a i : ℕ) (targets : List ℕ) → targets ≡ row_at r.next.items a → i < length targets → Leads r.next.items a (get_or targets i 0)

@@ -25,6 +25,10 @@ Path rows a b = Gathers (Leads rows) (λ _. Unit {0}) a b
 abbrev pub IsInRing : {Z : Type 0} → List (Vec ℕ Z) → ℕ → Type 0
 IsInRing rows a = (b : ℕ) × (b ≢ a) × Path rows a b × Path rows b a
 
+-- an edge leads from a
+abbrev pub HasEdges : Reach → ℕ → Type 0
+HasEdges r a = 0 < length (row_at r.next.items a)
+
 -- what a leads to is found
 abbrev pub Stands : Reach → ℕ → Type 0
 Stands r a = 0 < length (row_at r.rows.items a)
@@ -37,10 +41,10 @@ pub record IsWhole (r : Reach) : Type 0 where
   pub right : (a b : ℕ) → Stands r a
       → IsFlagged (row_at r.rows.items a) b ↔ Path r.next.items a b
 
--- all is found
+-- what each vertex with edges leads to is found: one without leads to itself alone
 pub record IsFinished (r : Reach) : Type 0 where
   pub whole : IsWhole r
-  pub settled : (a : ℕ) → a < length r.next.items → Stands r a
+  pub settled : (a : ℕ) → HasEdges r a → Stands r a
 
 -- the state of a search: what is flagged has its edges to what is flagged, or waits
 pub record Searches (r : Reach) (start : ℕ) (row : List Bool) (waiting : List ℕ) : Type 0 where

@@ -1,8 +1,8 @@
 //! What each vertex of a graph leads to, by any number of edges.
 ghost use Rattle.std.specs.Prelude.{◌≡◌, ◌≢◌, ◌<◌, ◌≤◌, ◌+◌, ◌↔◌, ◌⊎◌, ◌++◌, ◌∷◌, [], ℕ, IfOk};
 ghost use Rattle.std.specs.Prelude.{IsTrue, OnOk, length};
-ghost use Rattle.cargo_toml_lint.specs.Reached.{IsFinished, IsFlagged, IsInRing, IsWhole, Leads};
-ghost use Rattle.cargo_toml_lint.specs.Reached.{Path, Searches, Stands, edges_left, row_at};
+ghost use Rattle.cargo_toml_lint.specs.Reached.{HasEdges, IsFinished, IsFlagged, IsInRing, IsWhole};
+ghost use Rattle.cargo_toml_lint.specs.Reached.{Leads, Path, Searches, Stands, edges_left, row_at};
 
 use std::alloc::{AllocError, Global};
 
@@ -11,13 +11,13 @@ use std::alloc::{AllocError, Global};
 pub struct Reach {
     /// The edges of each vertex.
     pub next: Vec<Vec<usize>>,
-    /// Whether it leads to each, itself too: no flags while that isn't looked for.
+    /// Whether it leads to each, itself too: no flags without edges, or while that isn't sought.
     rows: Vec<Vec<bool>>,
 }
 
 // Sets the flags that stand in the other list too.
 fn join(flags: &mut Vec<bool>, other: &[bool])
-    requires { length flags.old.items ≡ length other.now }
+    requires { length other.now ≤ length flags.old.items }
     ensures len { length flags.new.items ≡ length flags.old.items }
     ensures joined { (x : ℕ) → IsFlagged flags.new.items x
         ↔ (IsFlagged flags.old.items x ⊎ IsFlagged other.now x) }
@@ -73,16 +73,16 @@ fn row_of(alloc: Global, reach: &Reach, start: usize) -> Result<Vec<bool>, Alloc
     Ok(row)
 }
 
-// The row of a vertex is found.
+// The row of a vertex is found, if it has edges.
 fn settle(alloc: Global, reach: &mut Reach, x: usize) -> Result<(), AllocError>
     requires whole { IsWhole reach.old }
     requires inside { x < length reach.old.next.items }
     ensures whole { OnOk result (IsWhole reach.new) }
     ensures next { reach.new.next ≡ reach.old.next }
-    ensures own { OnOk result (Stands reach.new x) }
+    ensures own { OnOk result (HasEdges reach.old x → Stands reach.new x) }
     ensures others { OnOk result ((y : ℕ) → Stands reach.old y → Stands reach.new y) }
 {
-    if reach.rows[x].is_empty() {
+    if reach.rows[x].is_empty() & !reach.next[x].is_empty() {
         let row = row_of(alloc, reach, x)?;
         reach.rows[x] = row;
     }
@@ -141,7 +141,8 @@ fn open_if_new(
 /// What each vertex of a graph leads to.
 ///
 /// Whoever stands behind those that it leads to finds their rows whole. So a graph without rings
-/// takes as many steps as it has edges, and a ring is walked but once.
+/// takes edges times vertices steps at most, and each vertex in a ring up to as many again. A row
+/// is kept of each vertex with edges alone: the others lead but to themselves.
 pub fn reach_all(alloc: Global, next: Vec<Vec<usize>>) -> Result<Reach, AllocError>
     requires { (a b : ℕ) → Leads next.items a b → b < length next.items }
     ensures finished { IfOk result IsFinished }
@@ -186,7 +187,8 @@ impl Reach {
         requires to { to < length self.now.next.items }
         ensures { IsTrue result ↔ Path self.now.next.items from to }
     {
-        self.row(from)[to]
+        let row = self.row(from);
+        if row.is_empty() { from == to } else { row[to] }
     }
 
     /// Whether a vertex leads to another that leads back.
@@ -214,6 +216,7 @@ impl Reach {
             ↔ (IsFlagged flags.old.items b ⊎ (IsTrue is_wanted × Path self.now.next.items a b)) }
     {
         if is_wanted {
+            flags[a] = true;
             join(flags, self.row(a));
         }
     }

@@ -162,7 +162,7 @@ def check_choices(manifest, publish, own, names):
     for code in sorted(found):
         if WORDS_OF[code][0] == "error" and found[code]:
             name = in_order(name for name, _ in found[code])[0]
-            raise Refused(f"lint finds an error of the feature {name}")
+            raise Refused(f"lint finds an error of {name}")
 
 
 def kept_texts(texts, kept):

@@ -81,7 +81,7 @@ impl fmt::Display for IndexError {
                 write!(f, "the registry of the dependency {name} has no address")
             }
             Fault::NotPublished => f.write_str("the package isn't published in this registry"),
-            Fault::Features => write!(f, "lint finds an error of the feature {name}"),
+            Fault::Features => write!(f, "lint finds an error of {name}"),
         }
     }
 }

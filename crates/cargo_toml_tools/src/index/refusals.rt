@@ -41,7 +41,7 @@ pub enum Fault {
     NoAddress,
     /// The package isn't published in the registry.
     NotPublished,
-    /// Lint finds an error of this feature.
+    /// Lint finds an error of the feature, dependency or target of this name.
     Features,
 }
 

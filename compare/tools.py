@@ -194,8 +194,8 @@ def entries(manifest, workspace, own, names):
 
 def entry(key, kind, target, value, own, names):
     text = value.get("version")
-    if text is None and ("path" in value or "git" in value):
-        if kind == "dev":
+    if text is None:
+        if kind == "dev" and ("path" in value or "git" in value):
             return None
         raise Refused(f"the dependency {key} has no version")
     registry = value.get("registry-index", names.get(value.get("registry", "crates-io")))
@@ -203,7 +203,7 @@ def entry(key, kind, target, value, own, names):
         raise Refused(f"the registry of the dependency {key} has no address")
     made = {
         "name": key,
-        "req": requirement(text or "*"),
+        "req": requirement(text),
         "features": value.get("features", []),
         "optional": value.get("optional", False),
         "default_features": value.get("default-features", True),

@@ -19,6 +19,7 @@ use Rattle.cargo_toml.specs.{Action.Item.Name, Action.Item.On, Manifests.Manifes
 use Rattle.cargo_toml_lint.specs.Findings.{asked_of}
 use Rattle.cargo_toml_tools.specs.Indexed.{DependencyTable, Wanted, elsewhere, lacks_version}
 use Rattle.cargo_toml_tools.specs.Indexed.{source_of, written_flag, dependency_tables, written}
+pub use Rattle.cargo_toml_tools.specs.Indexed.{required_version}
 
 -- an object with each of these members put in its place, in byte order of their names
 abbrev pub with_rows : List (Text × Data) → Members → Members
@@ -38,12 +39,7 @@ abbrev pub rows_if : Text → Option Text → List (Text × Data)
 rows_if key None = []
 rows_if key (Some text) = (key, string text) ∷ []
 
--- the requirement on the version, if there is one, and how it is written
-abbrev pub required_version : DependencyMeaning → Option (List Held)
-required_version (simple r) = Some r
-required_version (inherited i) = None
-required_version (detailed d) = d.version
-
+-- how the requirement on the version is written
 abbrev pub req_text : Option (List Held) → Text
 req_text None = codes "*"
 req_text (Some r) = requirement_text r

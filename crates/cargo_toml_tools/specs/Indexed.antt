@@ -3,6 +3,7 @@ use Rattle.std.specs.Prelude.{◌++◌, ◌&&◌, ◌||◌, Bool, true, false, i
 use Rattle.std.specs.Prelude.{◌∷◌, Option, Some, None, is_none, is_some, map, bytes_eq, codes}
 use Rattle.std.specs.Prelude.{option_and_then, option_map, unwrap_or}
 use Rattle.std.specs.{List.flat_map, List.list_any, Option.option_map_or, Option.option_or}
+use Rattle.semver.specs.Parse.{Held}
 use Rattle.toml.specs.Data.{Data, Members, as_bool, as_table, get_member, no_members}
 use Rattle.toml.specs.Parse.{parse_document}
 use Rattle.cargo_toml.specs.Dependencies.{DependencyMeaning, simple, inherited, detailed}
@@ -152,6 +153,12 @@ abbrev pub first_refusal : {A : Type 0} → (A → Option Refusal) → List A �
 first_refusal refusal [] = None
 first_refusal refusal (x ∷ xs) = option_or (refusal x) (first_refusal refusal xs)
 
+-- the requirement on the version, if there is one
+abbrev pub required_version : DependencyMeaning → Option (List Held)
+required_version (simple r) = Some r
+required_version (inherited i) = None
+required_version (detailed d) = d.version
+
 -- it has a path or a repository, and no version
 abbrev pub lacks_version : DependencyMeaning → Bool
 lacks_version (simple r) = false
@@ -181,6 +188,7 @@ entry_refusal names t e =
     else if is_some (written_flag t.written e.0 other_flag) || keeps_other_flag e.1
     then Some (fault.OtherFlag, e.0)
     else if lacks_version e.1 then unversioned_refusal t.kind e.0
+    else if is_none (required_version e.1) then Some (fault.NoRequirement, e.0)
     else refuse_if (is_none (source_of names e.1)) fault.NoAddress e.0
 
 abbrev pub table_refusal : List (Text × Text) → DependencyTable → Option Refusal

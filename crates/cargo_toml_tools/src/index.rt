@@ -91,8 +91,8 @@ impl std::error::Error for IndexError {}
 /// What a registry's index has of the crate of this manifest, which is completed. `text` is what
 /// the manifest was read from, and `findings` what lint finds of its features.
 ///
-/// - Dev-dependencies stay. A dependency with a path or a repository is refused where it has no
-///   version, and a dev-dependency of that kind is left out, with what acts on it in features.
+/// - Dev-dependencies stay. One with a path or a repository and no version is left out, with what
+///   acts on it in features. Another dependency without a version is refused.
 /// - A feature whose list has a `dep:` or a `?/` has that list under `features2`, and `v` is 2.
 pub fn index_entry<M>(
     alloc: Global,

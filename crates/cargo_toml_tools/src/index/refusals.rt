@@ -15,6 +15,7 @@ ghost use Rattle.cargo_toml_tools.specs.Sections.{names_of, refused, table_of, w
 use super::Options;
 use super::registries::{Named, address_named, source_of};
 use super::sections::{Section, flag_in, table_in};
+use crate::requirement::required_version;
 use cargo_toml::features::Kind;
 use cargo_toml::{Dependency, Inheritable, Package, Publish, SemVer};
 use cargo_toml_lint::{Finding, Level};
@@ -34,7 +35,7 @@ pub enum Fault {
     OtherTable,
     /// The dependency of this key has `default_features`, which isn't read.
     OtherFlag,
-    /// The dependency of this key has a path or a repository, and no version.
+    /// The dependency of this key has no version.
     NoRequirement,
     /// The dependency of this key names its registry, and the address of that registry's index
     /// isn't known.
@@ -156,6 +157,8 @@ fn entry_refusal<'a>(
             Kind::Normal | Kind::Build => Some((Fault::NoRequirement, key)),
             Kind::Dev => None,
         }
+    } else if required_version(dependency).is_none() {
+        Some((Fault::NoRequirement, key))
     } else {
         let is_unknown = source_of(names, dependency).is_none();
         is_unknown.then_some((Fault::NoAddress, key))

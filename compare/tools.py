@@ -130,6 +130,9 @@ def index(path, options=None):
     if version is None:
         raise Refused("the package has no version")
     deps = [entry for entry in entries(manifest, workspace, own, names) if entry]
+    rust = package_value("rust-version", package, workspace)
+    if rust is not None and not re.fullmatch(r"(0|[1-9][0-9]*)(\.(0|[1-9][0-9]*)){0,2}", rust):
+        raise Refused(f"the rust-version {rust} isn't a version like 1.70")
     if "force" not in options:
         check_choices(manifest, package_value("publish", package, workspace), own, names)
     kept = {entry["name"] for entry in deps}
@@ -143,7 +146,7 @@ def index(path, options=None):
         "features": {name: [] if name in later else texts for name, texts in lists.items()},
         "yanked": False,
         "links": package.get("links"),
-        "rust_version": package_value("rust-version", package, workspace),
+        "rust_version": rust,
     }
     if later:
         line |= {"features2": {name: lists[name] for name in later}, "v": 2}

@@ -80,6 +80,7 @@ impl fmt::Display for IndexError {
             Fault::NoAddress => {
                 write!(f, "the registry of the dependency {name} has no address")
             }
+            Fault::OddRust => write!(f, "the rust-version {name} isn't a version like 1.70"),
             Fault::NotPublished => f.write_str("the package isn't published in this registry"),
             Fault::Features => write!(f, "lint finds an error of {name}"),
         }

@@ -130,6 +130,9 @@ def index(path, options=None):
     if version is None:
         raise Refused("the package has no version")
     deps = [entry for entry in entries(manifest, workspace, own, names) if entry]
+    rust = package_value("rust-version", package, workspace)
+    if rust is not None and not re.fullmatch(r"(0|[1-9][0-9]*)(\.(0|[1-9][0-9]*)){0,2}", rust):
+        raise Refused(f"the rust-version {rust} isn't a version like 1.70")
     if "force" not in options:
         check_choices(manifest, package_value("publish", package, workspace), own, names)
     kept = {entry["name"] for entry in deps}
@@ -143,7 +146,7 @@ def index(path, options=None):
         "features": {name: [] if name in later else texts for name, texts in lists.items()},
         "yanked": False,
         "links": package.get("links"),
-        "rust_version": package_value("rust-version", package, workspace),
+        "rust_version": rust,
     }
     if later:
         line |= {"features2": {name: lists[name] for name in later}, "v": 2}
@@ -162,7 +165,7 @@ def check_choices(manifest, publish, own, names):
     for code in sorted(found):
         if WORDS_OF[code][0] == "error" and found[code]:
             name = in_order(name for name, _ in found[code])[0]
-            raise Refused(f"lint finds an error of the feature {name}")
+            raise Refused(f"lint finds an error of {name}")
 
 
 def kept_texts(texts, kept):
@@ -194,8 +197,8 @@ def entries(manifest, workspace, own, names):
 
 def entry(key, kind, target, value, own, names):
     text = value.get("version")
-    if text is None and ("path" in value or "git" in value):
-        if kind == "dev":
+    if text is None:
+        if kind == "dev" and ("path" in value or "git" in value):
             return None
         raise Refused(f"the dependency {key} has no version")
     registry = value.get("registry-index", names.get(value.get("registry", "crates-io")))
@@ -203,7 +206,7 @@ def entry(key, kind, target, value, own, names):
         raise Refused(f"the registry of the dependency {key} has no address")
     made = {
         "name": key,
-        "req": requirement(text or "*"),
+        "req": requirement(text),
         "features": value.get("features", []),
         "optional": value.get("optional", False),
         "default_features": value.get("default-features", True),

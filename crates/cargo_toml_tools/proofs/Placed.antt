@@ -1,5 +1,5 @@
 -- Members that are put into an object one after another.
-use Rattle.std.proofs.Common.{arith, ◌≡◌, ◌++◌, ◌∙◌, Bool, true, false, if◌then◌else◌, List, [], ◌∷◌, map, refl, sym, ap}
+use Rattle.std.proofs.Common.{arith, ◌≡◌, ◌++◌, ◌∙◌, Bool, Bor, true, false, if◌then◌else◌, List, [], ◌∷◌, map, refl, sym, ap}
 use Rattle.std.{proofs.lemmas.List.map-append, specs.Prelude.codes, specs.List.list_any}
 use Rattle.{cargo_toml_lint.proofs.Adding.asked_is, cargo_toml_tools.proofs.Grown.mapped_left, cargo_toml_tools.proofs.Grown.rest_next, cargo_toml_tools.proofs.Grown.rest_none}
 use Rattle.serde_json.specs.{Data.Data, Data.Members, Data.number, Data.put, Data.unsigned, View.view, declared.value.Value.Value}
@@ -16,6 +16,12 @@ pub one_entry : (old new : List Value) (v : Value) (d : Data) (lacks : Bool) →
 one_entry old new v d lacks e is h =
     ap (map view) e ∙ map-append view old (v ∷ []) ∙ ap (λ x. map view old ++ x ∷ []) is ∙ ap (λ b. map view old ++ (if b then [] else d ∷ [])) (sym h)
 
+-- one more key, or none
+pub one_key : (old new : List (Bor Text)) (k : Bor Text) (lacks : Bool) → new ≡ old ++ k ∷ [] → lacks ≡ false
+    → map (λ k. k.now) new ≡ map (λ k. k.now) old ++ (if lacks then [] else k.now ∷ [])
+one_key old new k lacks e h =
+    ap (map (λ k. k.now)) e ∙ map-append (λ k. k.now) old (k ∷ []) ∙ ap (λ b. map (λ k. k.now) old ++ (if b then [] else k.now ∷ [])) (sym h)
+
 pub put_same : (key : Text) (d e : Data) (a b : Members) → b ≡ put key d a → d ≡ e → b ≡ put key e a
 put_same key d e a b puts same = puts ∙ ap (λ x. put key x a) same
 
@@ -23,6 +29,8 @@ put_same key d e a b puts same = puts ∙ ap (λ x. put key x a) same
 pub ruleset wanted = (with_both, asked_is)
 
 pub ruleset listed = (mapped_left, rest_next, rest_none, one_entry)
+
+pub ruleset keyed = (mapped_left, rest_next, rest_none, one_key)
 
 -- the features, with those of the second version
 pub second_version : (fs : List (Text × List Text)) (a b c d : Members) (x y z : Data) → b ≡ put (codes "features") x a → x ≡ lists_object false fs

@@ -1,9 +1,9 @@
 -- What the line of an index is: what it holds of a package, the entries of its dependencies, and
 -- what it holds of its features.
 use Rattle.std.specs.Prelude.{List, [], ◌∷◌, Option, Some, None, false, codes, map, option_and_then}
-use Rattle.std.specs.Prelude.{option_map, ◌++◌, ◌||◌, Bool, true, if◌then◌else◌, unwrap_or, not}
-use Rattle.std.specs.Prelude.{filter}
-use Rattle.std.specs.{List.flat_map, List.list_any, Option.option_map_or}
+use Rattle.std.specs.Prelude.{option_map, ◌++◌, ◌||◌, Bool, true, if◌then◌else◌, unwrap_or}
+use Rattle.std.specs.Prelude.{bytes_eq, filter}
+use Rattle.std.specs.List.{flat_map, list_any}
 use Rattle.semver.specs.{Identifiers.parts_text, Parse.Held}
 use Rattle.serde_json.specs.Data.{Data, Members, array, boolean, null, put, string, no_members}
 use Rattle.serde_json.specs.Data.{object, number, unsigned}
@@ -12,13 +12,13 @@ use Rattle.toml.specs.Data.{Members as TomlMembers, as_bool}
 use Rattle.cargo_toml.specs.Dependencies.{DependencyMeaning, simple, inherited, detailed}
 use Rattle.cargo_toml.specs.Dependencies.{is_optional, package_of}
 use Rattle.cargo_toml.specs.Kind.TheVariants.{Build, Dev, Normal}
-use Rattle.cargo_toml.specs.InheritedDependencies.{Entries, entry_at}
 use Rattle.cargo_toml.specs.{Action.Text, Action.Item, Action.item_of, InheritableValues.value_of}
 use Rattle.cargo_toml.specs.{Packages.PackageMeaning, Kind.Kind, Requirements.requirement_text}
 use Rattle.cargo_toml.specs.{Action.Item.Name, Action.Item.On, Manifests.ManifestMeaning}
 use Rattle.cargo_toml_lint.specs.Findings.{asked_of}
 use Rattle.cargo_toml_tools.specs.Indexed.{DependencyTable, Wanted, elsewhere, lacks_version}
 use Rattle.cargo_toml_tools.specs.Indexed.{source_of, written_flag, dependency_tables, written}
+pub use Rattle.cargo_toml_tools.specs.Indexed.{required_version}
 
 -- an object with each of these members put in its place, in byte order of their names
 abbrev pub with_rows : List (Text × Data) → Members → Members
@@ -38,12 +38,7 @@ abbrev pub rows_if : Text → Option Text → List (Text × Data)
 rows_if key None = []
 rows_if key (Some text) = (key, string text) ∷ []
 
--- the requirement on the version, if there is one, and how it is written
-abbrev pub required_version : DependencyMeaning → Option (List Held)
-required_version (simple r) = Some r
-required_version (inherited i) = None
-required_version (detailed d) = d.version
-
+-- how the requirement on the version is written
 abbrev pub req_text : Option (List Held) → Text
 req_text None = codes "*"
 req_text (Some r) = requirement_text r
@@ -85,23 +80,26 @@ table_entries w t = flat_map (index_entries w t) t.entries
 
 -- ---- what stays of the lists
 
--- the table has a dependency of this key that isn't left out
-abbrev pub keeps : Entries → Text → Bool
-keeps es key = option_map_or (λ d. not (lacks_version d)) (entry_at key es) false
+-- the keys of the dependencies that aren't left out
+abbrev pub key_if : Text × DependencyMeaning → List Text
+key_if e = if lacks_version e.1 then [] else e.0 ∷ []
+
+abbrev pub table_keys : DependencyTable → List Text
+table_keys t = flat_map key_if t.entries
 
 abbrev pub stays : List DependencyTable → Text → Bool
-stays ts key = list_any (λ t. keeps t.entries key) ts
+stays ts key = list_any (bytes_eq key) (flat_map table_keys ts)
 
 -- a text stays, unless it acts on a dependency that the line hasn't
-abbrev pub item_stays : List DependencyTable → Item → Bool
-item_stays ts (Name x) = true
-item_stays ts (On key a) = stays ts key
+abbrev pub item_stays : (Text → Bool) → Item → Bool
+item_stays has (Name x) = true
+item_stays has (On key a) = has key
 
-abbrev pub is_kept : List DependencyTable → Text → Bool
-is_kept ts text = item_stays ts (item_of text)
+abbrev pub is_kept : (Text → Bool) → Text → Bool
+is_kept has text = item_stays has (item_of text)
 
-abbrev pub kept_lists : List DependencyTable → List (Text × List Text) → List (Text × List Text)
-kept_lists ts fs = map (λ f. (f.0, filter (is_kept ts) f.1)) fs
+abbrev pub kept_lists : (Text → Bool) → List (Text × List Text) → List (Text × List Text)
+kept_lists has fs = map (λ f. (f.0, filter (is_kept has) f.1)) fs
 
 -- ---- how they are written
 
@@ -143,7 +141,7 @@ line_data w ts features p = object (with_rows
     ∷ (codes "links", text_or_null p.links)
     ∷ (codes "rust_version", text_or_null (option_and_then value_of p.rust_version))
     ∷ (codes "deps", array (items_of (flat_map (table_entries w) ts)))
-    ∷ (feature_rows (kept_lists ts features) ++ rows_if (codes "cksum") w.checksum)) no_members)
+    ∷ (feature_rows (kept_lists (stays ts) features) ++ rows_if (codes "cksum") w.checksum)) no_members)
 
 -- that of a manifest, which was read from the document, or from the text
 abbrev pub data_in : {M : Type 0} → Wanted → TomlMembers → ManifestMeaning M → Option Data

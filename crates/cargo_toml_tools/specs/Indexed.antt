@@ -1,8 +1,10 @@
 -- Which crates an index takes, and what it refuses of others.
 use Rattle.std.specs.Prelude.{◌++◌, ◌&&◌, ◌||◌, Bool, true, false, if◌then◌else◌, not, List, []}
 use Rattle.std.specs.Prelude.{◌∷◌, Option, Some, None, is_none, is_some, map, bytes_eq, codes}
-use Rattle.std.specs.Prelude.{option_and_then, option_map, unwrap_or}
+use Rattle.std.specs.Prelude.{ℕ, ◌+◌, ◌==◌, nat_lt, option_and_then, option_map, unwrap_or}
+use Rattle.std.specs.Char.{is_ascii_digit}
 use Rattle.std.specs.{List.flat_map, List.list_any, Option.option_map_or, Option.option_or}
+use Rattle.semver.specs.Parse.{Held}
 use Rattle.toml.specs.Data.{Data, Members, as_bool, as_table, get_member, no_members}
 use Rattle.toml.specs.Parse.{parse_document}
 use Rattle.cargo_toml.specs.Dependencies.{DependencyMeaning, simple, inherited, detailed}
@@ -11,7 +13,7 @@ use Rattle.cargo_toml.specs.Settings.{Registries, among, everywhere}
 use Rattle.cargo_toml.specs.{Inheritable.TheVariants.Inherited, Inheritable.TheVariants.Set}
 use Rattle.cargo_toml.specs.{InheritedDependencies.Entries, InheritedDependencies.is_left}
 use Rattle.cargo_toml.specs.{Manifests.ManifestMeaning, Manifests.is_zero, Action.Text}
-use Rattle.cargo_toml.specs.{Inheritable.Inheritable, InheritedPackages.is_left_there, Kind.Kind}
+use Rattle.cargo_toml.specs.{Inheritable.Inheritable, Kind.Kind}
 use Rattle.cargo_toml.specs.{Packages.PackageMeaning, Targets.TargetMeaning, Versions.Parts}
 use Rattle.cargo_toml_lint.specs.declared.finding.Level.TheVariants.{Error, Hint, Warning}
 use Rattle.cargo_toml_lint.specs.{Findings.code_level, declared.finding.Finding.Finding}
@@ -152,6 +154,12 @@ abbrev pub first_refusal : {A : Type 0} → (A → Option Refusal) → List A �
 first_refusal refusal [] = None
 first_refusal refusal (x ∷ xs) = option_or (refusal x) (first_refusal refusal xs)
 
+-- the requirement on the version, if there is one
+abbrev pub required_version : DependencyMeaning → Option (List Held)
+required_version (simple r) = Some r
+required_version (inherited i) = None
+required_version (detailed d) = d.version
+
 -- it has a path or a repository, and no version
 abbrev pub lacks_version : DependencyMeaning → Bool
 lacks_version (simple r) = false
@@ -181,6 +189,7 @@ entry_refusal names t e =
     else if is_some (written_flag t.written e.0 other_flag) || keeps_other_flag e.1
     then Some (fault.OtherFlag, e.0)
     else if lacks_version e.1 then unversioned_refusal t.kind e.0
+    else if is_none (required_version e.1) then Some (fault.NoRequirement, e.0)
     else refuse_if (is_none (source_of names e.1)) fault.NoAddress e.0
 
 abbrev pub table_refusal : List (Text × Text) → DependencyTable → Option Refusal
@@ -198,6 +207,20 @@ version_refusal document Inherited = Some (fault.Incomplete, codes "version")
 version_refusal document (Set v) =
     refuse_if (is_zero (Set v) && is_none (in_package (codes "version") document))
     fault.NoVersion []
+
+-- the text goes on as one to three numbers, with dots between and no zeros in front: so many dots
+-- were there, then a digit or none, and that is a zero in front or not
+abbrev pub goes_on : ℕ → Bool → Bool → Text → Bool
+goes_on dots is_in is_zero [] = is_in
+goes_on dots is_in is_zero (b ∷ bs) =
+    if is_ascii_digit b && not is_zero then goes_on dots true ((b == 48) && not is_in) bs
+    else (b == 46) && is_in && nat_lt dots 2 && goes_on (dots + 1) false false bs
+
+-- of the version of Rust. Cargo takes one with spaces around, too, and no number above 64 bits
+abbrev pub rust_refusal : Option (Inheritable Text) → Option Refusal
+rust_refusal None = None
+rust_refusal (Some Inherited) = Some (fault.Incomplete, codes "rust-version")
+rust_refusal (Some (Set text)) = refuse_if (not (goes_on 0 false false text)) fault.OddRust text
 
 -- a name is that of the registry with this address
 abbrev pub is_named : Text → List (Text × Text) → Text → Bool
@@ -235,7 +258,7 @@ package_refusal w findings document ts p =
     option_or
     (option_or
     (option_or (version_refusal document p.version) (first_refusal (table_refusal w.names) ts))
-    (refuse_if (is_left_there p.rust_version) fault.Incomplete (codes "rust-version")))
+    (rust_refusal p.rust_version))
     (if w.force then None
     else option_or (publish_refusal w document p.publish) (first_refusal finding_refusal findings))
 

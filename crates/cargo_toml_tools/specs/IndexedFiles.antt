@@ -1,6 +1,6 @@
 -- What `index` answers of a text of a file.
 use Rattle.std.specs.Prelude.{◌≡◌, ◌⊎◌, ◌++◌, [], ◌∷◌, List, None, Option, Result, Some, ⊤, codes}
-use Rattle.std.specs.Prelude.{option_and_then}
+use Rattle.std.specs.Prelude.{option_and_then, option_map}
 use Rattle.std.specs.{BTreeMap.BTreeMap, BTreeMap.get_by, Borrow.Bor, Cmp.Lexicographic.slice_cmp}
 use Rattle.std.specs.{Option.option_copied, Option.option_or, Ordering.nat_cmp}
 use Rattle.std.specs.{declared.fmt.Error.Error as FmtError, declared.fmt.Formatter.Formatter}
@@ -35,14 +35,19 @@ sum_of sums m =
     (λ v. sums (p.name ++ codes "-" ++ parts_text v ++ codes ".crate")) (value_of p.version))
     m.«package»
 
+-- the name of the crate
+abbrev pub name_of : {M : Type 0} → ManifestMeaning M → Option Text
+name_of m = option_map (λ p. p.name) m.«package»
+
 -- what is printed is the line of such a manifest, which an index takes, and a line feed. Its
 -- checksum is the one that is asked for, or else the one that the sums have of the crate
-pub record IsLineOf (path text : Text) (w : Wanted) (sums : Text → Option Text) (printed : Text)
-    : Type 0 where
+pub record IsLineOf (path text : Text) (w : Wanted) (sums : Text → Option Text)
+    (name printed : Text) : Type 0 where
   pub manifest : Manifest Value
   pub findings : List Finding
   pub looked_at : IsLookedAt path text manifest findings
   pub taken : refusal_of w findings text (held manifest) ≡ None
+  pub named : name_of (held manifest) ≡ Some name
   pub line : Data
   pub is :
       Some line

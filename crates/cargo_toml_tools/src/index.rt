@@ -80,8 +80,9 @@ impl fmt::Display for IndexError {
             Fault::NoAddress => {
                 write!(f, "the registry of the dependency {name} has no address")
             }
+            Fault::OddRust => write!(f, "the rust-version {name} isn't a version like 1.70"),
             Fault::NotPublished => f.write_str("the package isn't published in this registry"),
-            Fault::Features => write!(f, "lint finds an error of the feature {name}"),
+            Fault::Features => write!(f, "lint finds an error of {name}"),
         }
     }
 }
@@ -91,8 +92,8 @@ impl std::error::Error for IndexError {}
 /// What a registry's index has of the crate of this manifest, which is completed. `text` is what
 /// the manifest was read from, and `findings` what lint finds of its features.
 ///
-/// - Dev-dependencies stay. A dependency with a path or a repository is refused where it has no
-///   version, and a dev-dependency of that kind is left out, with what acts on it in features.
+/// - Dev-dependencies stay. One with a path or a repository and no version is left out, with what
+///   acts on it in features. Another dependency without a version is refused.
 /// - A feature whose list has a `dep:` or a `?/` has that list under `features2`, and `v` is 2.
 pub fn index_entry<M>(
     alloc: Global,

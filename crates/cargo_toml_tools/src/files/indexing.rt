@@ -1,9 +1,10 @@
 //! The line of a registry's index.
-ghost use Rattle.std.specs.Prelude.{◌≡◌, IfErr, IfOk, IsSome, OnOk, string_bytes};
+ghost use Rattle.std.specs.Prelude.{◌≡◌, IfErr, IfOk, IfSome, IsSome, OnOk, string_bytes};
 ghost use Rattle.std.specs.{Option.option_copied, Path.path_parent};
 ghost use Rattle.cargo_toml.specs.{Error.Memory, Manifests.held};
-ghost use Rattle.cargo_toml_tools.specs.IndexedFiles.{IsIndexFault, IsLineOf, sum_at, sum_of};
-ghost use Rattle.cargo_toml_tools.specs.{IndexedFiles.WritesOwnWords, Sections.wanted_of};
+ghost use Rattle.cargo_toml_tools.specs.IndexedFiles.{IsIndexFault, IsLineOf, name_of, sum_at};
+ghost use Rattle.cargo_toml_tools.specs.IndexedFiles.{WritesOwnWords, sum_of};
+ghost use Rattle.cargo_toml_tools.specs.Sections.{wanted_of};
 ghost use Rattle.cargo_toml_tools.specs.declared.files.indexing.Fault.TheVariants as fault;
 
 use super::reading::{completed_of, findings_of};
@@ -81,7 +82,8 @@ pub fn index_of<R: Files + RandomSource + AllocGlobal>(
     sums: &BTreeMap<&str, &str>,
 ) -> Result<Indexed, Fault>
     ensures printed { IfOk result (λ indexed. IsLineOf file.now text.now
-        (wanted_of options.entry) (sum_at sums.now) (string_bytes indexed.line)) }
+        (wanted_of options.entry) (sum_at sums.now) (string_bytes indexed.name)
+        (string_bytes indexed.line)) }
     ensures named { OnOk result (IsSome (path_parent file.now)) }
     ensures refused { IfErr result (IsIndexFault file.now text.now (wanted_of options.entry)) }
 {
@@ -98,11 +100,19 @@ pub fn index_of<R: Files + RandomSource + AllocGlobal>(
     let entry = index_entry(alloc, manifest, text, findings.as_slice(), options)?;
     let mut line = entry.to_string(alloc)?;
     line.push_str("\n")?;
-    let name = match &manifest.package {
-        Some(package) => package.name.clone()?,
-        None => String::new(alloc),
-    };
+    let name = name_of(alloc, manifest)?;
     Ok(Indexed { name, line })
+}
+
+/// The name of a crate.
+fn name_of(alloc: Global, manifest: &Manifest) -> Result<String, AllocError>
+    ensures { IfOk result (λ name. IfSome (name_of (held manifest.now))
+        (λ n. n ≡ string_bytes name)) }
+{
+    match &manifest.package {
+        Some(package) => package.name.clone(),
+        None => Ok(String::new(alloc)),
+    }
 }
 
 /// The sum that these have of a crate's archive.

@@ -1,20 +1,21 @@
 //! What an index refuses.
-ghost use Rattle.std.specs.Prelude.{◌≡◌, map, option_map, string_bytes};
+ghost use Rattle.std.specs.Prelude.{◌≡◌, false, map, option_map, string_bytes};
 ghost use Rattle.std.specs.List.{list_any};
 ghost use Rattle.semver.specs.Identifiers.{parts_of};
 ghost use Rattle.toml.specs.View.{table_view, view};
 ghost use Rattle.cargo_toml.specs.{Dependencies.dependency_meaning, Inherits.inheritable_map};
-ghost use Rattle.cargo_toml.specs.{InheritedPackages.is_left_there, Packages.held_package};
-ghost use Rattle.cargo_toml.specs.{Settings.publish_meaning};
+ghost use Rattle.cargo_toml.specs.{Packages.held_package, Settings.publish_meaning};
 ghost use Rattle.cargo_toml_tools.specs.Indexed.{entry_refusal, finding_refusal, first_refusal};
-ghost use Rattle.cargo_toml_tools.specs.Indexed.{in_package, is_named, is_open, keeps_other_flag};
-ghost use Rattle.cargo_toml_tools.specs.Indexed.{lacks_version, package_refusal, publish_refusal};
-ghost use Rattle.cargo_toml_tools.specs.Indexed.{table_refusal, version_refusal};
+ghost use Rattle.cargo_toml_tools.specs.Indexed.{goes_on, in_package, is_named, is_open};
+ghost use Rattle.cargo_toml_tools.specs.Indexed.{keeps_other_flag, lacks_version, package_refusal};
+ghost use Rattle.cargo_toml_tools.specs.Indexed.{publish_refusal, rust_refusal, table_refusal};
+ghost use Rattle.cargo_toml_tools.specs.Indexed.{version_refusal};
 ghost use Rattle.cargo_toml_tools.specs.Sections.{names_of, refused, table_of, wanted_of};
 
 use super::Options;
 use super::registries::{Named, address_named, source_of};
 use super::sections::{Section, flag_in, table_in};
+use crate::requirement::required_version;
 use cargo_toml::features::Kind;
 use cargo_toml::{Dependency, Inheritable, Package, Publish, SemVer};
 use cargo_toml_lint::{Finding, Level};
@@ -34,14 +35,17 @@ pub enum Fault {
     OtherTable,
     /// The dependency of this key has `default_features`, which isn't read.
     OtherFlag,
-    /// The dependency of this key has a path or a repository, and no version.
+    /// The dependency of this key has no version.
     NoRequirement,
     /// The dependency of this key names its registry, and the address of that registry's index
     /// isn't known.
     NoAddress,
+    /// The package's `rust-version` isn't one to three numbers, with dots between and no zeros in
+    /// front.
+    OddRust,
     /// The package isn't published in the registry.
     NotPublished,
-    /// Lint finds an error of this feature.
+    /// Lint finds an error of the feature, dependency or target of this name.
     Features,
 }
 
@@ -67,8 +71,8 @@ pub(super) fn package_refusal<'a, M>(
     if let Some(refusal) = tables_refusal(options.names, sections) {
         return Some(refusal);
     }
-    if is_left_there(&package.rust_version) {
-        return Some((Fault::Incomplete, "rust-version"));
+    if let Some(refusal) = rust_refusal(&package.rust_version) {
+        return Some(refusal);
     }
     if options.force {
         return None;
@@ -100,11 +104,41 @@ fn in_package<'a>(document: &'a Table, key: &str) -> Option<&'a Value>
     member(table_in(document, "package")?, key)
 }
 
-/// What a package may leave to the workspace.
-fn is_left_there(text: &Option<Inheritable<String>>) -> bool
-    ensures { result ≡ is_left_there (option_map (inheritable_map string_bytes) text.now) }
+/// A `rust-version` may be left to the workspace, or of another form.
+fn rust_refusal(text: &Option<Inheritable<String>>) -> Option<Refusal<'_>>
+    ensures { option_map refused result
+        ≡ rust_refusal (option_map (inheritable_map string_bytes) text.now) }
 {
-    matches!(text, Some(Inheritable::Inherited))
+    match text {
+        None => None,
+        Some(Inheritable::Inherited) => Some((Fault::Incomplete, "rust-version")),
+        Some(Inheritable::Set(text)) => {
+            let text = text.as_str();
+            (!are_numbers(text.as_bytes())).then_some((Fault::OddRust, text))
+        }
+    }
+}
+
+/// Whether a text is one to three numbers, with dots between and no zeros in front.
+fn are_numbers(text: &[u8]) -> bool
+    ensures { result ≡ goes_on 0 false false text.now }
+{
+    let mut dots = 0u8;
+    let mut is_in = false;
+    let mut is_zero = false;
+    for byte in text {
+        if byte.is_ascii_digit() && !is_zero {
+            is_zero = *byte == b'0' && !is_in;
+            is_in = true;
+        } else if *byte == b'.' && is_in && dots < 2 {
+            is_in = false;
+            is_zero = false;
+            dots += 1;
+        } else {
+            return false;
+        }
+    }
+    is_in
 }
 
 /// The first refusal of these tables.
@@ -156,6 +190,8 @@ fn entry_refusal<'a>(
             Kind::Normal | Kind::Build => Some((Fault::NoRequirement, key)),
             Kind::Dev => None,
         }
+    } else if required_version(dependency).is_none() {
+        Some((Fault::NoRequirement, key))
     } else {
         let is_unknown = source_of(names, dependency).is_none();
         is_unknown.then_some((Fault::NoAddress, key))

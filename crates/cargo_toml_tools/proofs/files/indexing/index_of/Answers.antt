@@ -1,11 +1,18 @@
-use Rattle.{std.proofs.lemmas.Result.err_from_is_err_and, std.specs.Option.option_copied, std.specs.Option.option_or, serde_json.specs.View.view}
-use Rattle.std.proofs.Common.{◌∙◌, ◌≡◌, Bor, None, Option, Some, ap, refl, rules, string_bytes, subst}
-use Rattle.{cargo_toml.specs.Manifests.held, cargo_toml_tools.specs.IndexEntries.index_data, cargo_toml_tools.specs.Sections.wanted_of}
+use Rattle.{std.proofs.lemmas.Result.err_from_is_err_and, std.specs.Option.option_copied, std.specs.Option.option_map_or, std.specs.Option.option_or}
+use Rattle.std.proofs.Common.{arith, ◌∙◌, ◌≡◌, Bor, IfSome, None, Option, Some, ap, option_map, refl, rules, string_bytes, subst}
+use Rattle.{serde_json.specs.View.view, cargo_toml.specs.Action.Text, cargo_toml.specs.Manifests.held, cargo_toml_tools.specs.IndexEntries.index_data, cargo_toml_tools.specs.Sections.wanted_of}
 use Rattle.cargo_toml_tools.proofs.files.indexing.index_of.Goals as goal
 
 or_copied : {A : Type 0} (o p : Option (Bor A)) → option_copied (option_or o p) ≡ option_or (option_copied o) (option_copied p)
 or_copied None p = refl
 or_copied (Some x) p = refl
+
+-- the package of a manifest that an index takes has this name
+named_so : {P R : Type 0} (name : P → Text) (test : P → Option R) (r : R) (o : Option P) (n : Text)
+    → option_map_or test o (Some r) ≡ None → IfSome (option_map name o) (λ x. x ≡ n)
+    → option_map name o ≡ Some n
+named_so name test r None n taken is = grind arith
+named_so name test r (Some p) n taken is = ap Some is
 
 pub returns-in_err-held-clause-refused : goal.returns-in_err-held-clause-refused
 returns-in_err-held-clause-refused g c = search (rules, err_from_is_err_and)
@@ -35,6 +42,7 @@ returns-clause-printed g c = record {
     found = rw c.as_slice.ensures.value c.in_ok-findings.ensures.found;
   };
   taken = c.in_ok-entry.ensures.taken;
+  named = named_so _ _ _ _ _ c.in_ok-entry.ensures.taken c.in_ok-name.ensures;
   line = view c.in_ok-entry.entry;
   is =
       subst (λ s. Some (view c.in_ok-entry.entry) ≡ index_data (record (wanted_of c.args.options) { checksum = s }) c.args.text.now (held c.deref-manifest.result.now))

@@ -1,13 +1,13 @@
 use Rattle.{std.specs.List.flat_map, std.specs.List.list_any, serde_json.specs.View.members_view, cargo_toml.specs.Action.Text}
 use Rattle.std.proofs.Common.{◌||◌, ◌≡◌, List, false, map, true}
 use Rattle.cargo_toml_tools.specs.IndexEntries.{is_extended, kept_lists, list_rows, with_rows}
-use Rattle.{cargo_toml_tools.proofs.Told.list_of, cargo_toml_tools.specs.Sections.lists_meaning, cargo_toml_tools.specs.Sections.table_of}
+use Rattle.{cargo_toml.specs.Views.set_has, cargo_toml_tools.proofs.Told.list_of, cargo_toml_tools.specs.Sections.lists_meaning}
 use Rattle.cargo_toml_tools.proofs.index.features.put_lists.Given as goal
 
 abbrev pub invariant-loop-name : goal.invariant-loop-name
 invariant-loop-name l =
-    let all = kept_lists (map table_of l.sections) (lists_meaning l.features) in
-    let left = kept_lists (map table_of l.sections) (map list_of l.name-iterator) in
+    let all = kept_lists (set_has l.keys) (lists_meaning l.features) in
+    let left = kept_lists (set_has l.keys) (map list_of l.name-iterator) in
     record {
       first : with_rows (flat_map (list_rows false) left) (members_view l.first.entries)
           ≡ with_rows (flat_map (list_rows false) all) (members_view l.initial.first.entries);

@@ -1,0 +1,15 @@
+use Rattle.std.proofs.Common.{◌++◌, ◌≡◌, ◌∙◌, Bor, ap, bytes_eq, map, subst, sym}
+use Rattle.{std.proofs.lemmas.List.append-nil, std.proofs.lemmas.List.drop_all, std.specs.List.flat_map, std.specs.List.list_any, std.specs.Prelude.IfOk}
+use Rattle.cargo_toml.specs.{Action.Text, Views.set_has}
+use Rattle.cargo_toml_tools.specs.{IndexEntries.table_keys, Sections.table_of}
+use Rattle.cargo_toml_tools.proofs.index.features.kept_keys.Goals as goal
+
+pub returns : goal.returns
+returns c =
+    let sections = c.args.sections.now in
+    let gathered = map (λ (k : Bor Text). k.now) c.loop-section.keys.items in
+    let all : map (λ (k : Bor Text). k.now) c.as_slice.result.now ≡ flat_map table_keys (map table_of sections) =
+    ap (map (λ (k : Bor Text). k.now)) c.as_slice.ensures.value ∙ sym (append-nil gathered)
+    ∙ ap (λ ss. gathered ++ flat_map table_keys (map table_of ss)) (sym (drop_all c.loop-section.section-index sections c.loop-section-test.false))
+    ∙ c.loop-section.invariant in
+    subst (λ ks. IfOk c.set_of.result (λ keys. (x : Text) → set_has keys x ≡ list_any (bytes_eq x) ks)) all c.set_of.ensures

@@ -17,7 +17,8 @@ use Rattle.cargo_toml_lint.specs.{declared.finding.Finding.Finding, Findings.cod
 use Rattle.cargo_toml_tools.specs.FromFiles.{IsManifestIn, IsUnreadable}
 use Rattle.cargo_toml_tools.specs.{Linted.AreFindingsOf, Indexed.is_error}
 use Rattle.cargo_toml_audit.specs.Entries.{Listed, asked_in, asking_of, entries_of, inherited_in}
-use Rattle.cargo_toml_audit.specs.MemberFolders.{Disk, disk_of, is_wrong, places_if_right, repeats}
+use Rattle.cargo_toml_audit.specs.MemberFolders.{Disk, disk_of, is_wrong, places_if_right, places_once}
+use Rattle.cargo_toml_audit.specs.MemberFolders.{repeats}
 use Rattle.cargo_toml_audit.specs.Oddities.{Gain, Oddity, both, differences, found_each, found_if}
 use Rattle.cargo_toml_audit.specs.Oddities.{found_in, has_no_target, oddities_of, only_found}
 use Rattle.cargo_toml_audit.specs.Oddities.{overall_oddities, refusals}
@@ -253,7 +254,7 @@ module _ (base : Base) where
   -- ---- the report
   module _ (disk : Disk) where
     abbrev pub listed_places : List Text
-    listed_places = flat_map (places_if_right disk base.place) member_entries
+    listed_places = flat_map (places_once disk base.place) member_entries
 
     -- those that aren't excluded, and the root
     abbrev pub entered_places : List Text

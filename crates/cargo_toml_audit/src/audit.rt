@@ -13,7 +13,7 @@ mod root;
 mod summary;
 
 use crate::AllocResult;
-use crate::members::{repeats, set_of};
+use crate::members::{picked, set_of};
 use cargo_toml::{Manifest, Workspace};
 use dependencies::{add_inherited, add_uses, entries, further, inherited_keys};
 use findings::{add_differences, add_shared, find_all, names};
@@ -262,7 +262,7 @@ impl Audit {
         let alloc = *self.root.allocator();
         let inherited = set_of(alloc, self.inherited.as_slice())?;
         let names = names(alloc, self.members.as_slice())?;
-        let same = repeats(alloc, names.as_slice())?;
+        let same = picked(alloc, names.as_slice(), true)?;
         let mut further = further(alloc, self.uses.as_slice())?;
         add_shared(&workspace.dependencies, &inherited, &mut self.findings)?;
         find_all(&mut self.findings, Code::SameName, same.as_slice())?;

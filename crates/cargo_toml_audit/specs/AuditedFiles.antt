@@ -20,12 +20,13 @@ use Rattle.cargo_toml_audit.specs.Entries.{Listed, asked_in, asking_of, entries_
 use Rattle.cargo_toml_audit.specs.MemberFolders.{Disk, disk_of, is_wrong, places_if_right, places_once}
 use Rattle.cargo_toml_audit.specs.MemberFolders.{repeats}
 use Rattle.cargo_toml_audit.specs.Oddities.{Gain, Oddity, both, differences, found_each, found_if}
-use Rattle.cargo_toml_audit.specs.Oddities.{found_in, has_no_target, oddities_of, only_found}
-use Rattle.cargo_toml_audit.specs.Oddities.{overall_oddities, refusals}
+use Rattle.cargo_toml_audit.specs.Oddities.{found_in, has_no_target, is_bare, oddities_of}
+use Rattle.cargo_toml_audit.specs.Oddities.{only_found, overall_oddities, refusals}
 use Rattle.cargo_toml_audit.specs.Places.{excludes, is_in, lies_in, manifest_path, place_of}
 use Rattle.cargo_toml_audit.specs.declared.audit.Code.TheVariants.{Absent, BadPattern, Incomplete}
 use Rattle.cargo_toml_audit.specs.declared.audit.Code.TheVariants.{DefaultMember, ListedTwice}
 use Rattle.cargo_toml_audit.specs.declared.audit.Code.TheVariants.{NoTarget, Unlisted, Unseen}
+use Rattle.cargo_toml_audit.specs.declared.audit.Code.TheVariants.{Virtual}
 use Rattle.cargo_toml_audit.specs.{Entries.left_keys, MemberFolders.unseen, Audited.IsMemberOf}
 use Rattle.cargo_toml_audit.specs.{Audited.is_untold, declared.audit.Code.Code}
 use Rattle.cargo_toml_audit.specs.{declared.audit.Audit.Audit, declared.audit.Member.Member}
@@ -155,7 +156,6 @@ module _ (base : Base) where
   need_by place e = need_at place e.1.1 ++ (if is_left e.1.1 then shared_need e.1.0 else [])
 
   abbrev pub needs_of : Text → Content → List Text
-  needs_of place (rootless m) = flat_map (need_by place) (entries_of (held m))
   needs_of place (belongs own errors m made) = flat_map (need_by place) (entries_of (held m))
   needs_of place _ = []
 
@@ -183,7 +183,7 @@ module _ (base : Base) where
   abbrev pub gain_of : Text → Content → Gain
   gain_of place (unread e) = only_found (refusal place e)
   gain_of place (foreign fault) = only_found (option_map_or (refusal place) fault [])
-  gain_of place (rootless m) = only_found []
+  gain_of place (rootless m) = only_found (found_if Virtual (not (is_bare m)) place)
   gain_of place (belongs own errors m made) =
       both (record {
         members = [];

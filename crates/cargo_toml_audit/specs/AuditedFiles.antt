@@ -216,7 +216,7 @@ module _ (base : Base) where
       IsCompletedThere m new × IsMemberOf place (left_keys (held m)) (held new) member
 
   -- a manifest that some text reads as. It counts as the workspace's own where its place lies in
-  -- the folder of that. Where it doesn't, a list has to lead to it
+  -- the folder of that, and may elsewhere. Where it doesn't count so, a list has to lead to it
   pub record IsMemberAt (is_listed : Bool) (place : Text) (own errors : Bool)
       (m : Manifest Value) (made : Made) : Type 0 where
     pub written : (text : Text) × IsManifestIn text m

@@ -71,7 +71,7 @@ abbrev pub leads_elsewhere : Text → Text → Option Text → Bool
 leads_elsewhere place root named =
     option_map_or (λ path. not (bytes_eq (place_of place path) root)) named false
 
--- a dependency has `workspace = false`, or says nothing of where it comes from
+-- a dependency has `workspace = false`
 abbrev pub is_false : DependencyMeaning → Bool
 is_false (inherited i) = not i.workspace
 is_false _ = false

@@ -26,7 +26,7 @@ KEYS = ["folder", "name", "version", "edition", "license", "rust_version", "publ
 REFUSED = {
     *("absent", "bad-pattern", "default-member", "features", "incomplete", "no-lints"),
     *("no-target", "not-inherited", "optional-shared", "other-workspace", "outside", "same-name"),
-    *("two-workspaces", "unlisted", "workspace-within"),
+    *("two-workspaces", "unlisted", "virtual", "workspace-within"),
 }
 MEANT = {
     "manifest": "Cargo refuses of one manifest what `audit` isn't about, as two sources of one key",

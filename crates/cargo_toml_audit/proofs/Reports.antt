@@ -12,10 +12,10 @@ pub use Rattle.cargo_toml.{specs.InheritedPackages.field_is_left, specs.Inherite
 pub use Rattle.cargo_toml.{specs.Settings.file_meaning, specs.Settings.publish_meaning, specs.Sharing.shared_of, specs.Targets.TargetMeaning, specs.Targets.target_meaning}
 pub use Rattle.cargo_toml_audit.specs.AuditedFiles.{AreRead, Base, HasErrors, IsCompletedThere, IsReport, Reading, Reads, Takes, astray, base_of, belongs, default_entries, ended, entered_places, foreign, found_beside, found_in_lists, gain_of, gain_of_all, held_in, incomplete, is_astray, is_excluded, is_member, is_rootless, listed_places, looked, member_places, need_by, none_found, passed, places_read, refusal, refusals_at, rootless, targets_found, told, unread, untold}
 pub use Rattle.cargo_toml_audit.specs.Entries.{asked_in, asking_of, entries_of, in_target, inherited_in, left_dependency, left_keys, listed_of, named_if, with_kind}
-pub use Rattle.cargo_toml_audit.specs.MemberFolders.{OnDisks, disk_of, places_if_right, repeats, unseen}
-pub use Rattle.cargo_toml_audit.specs.Oddities.{Gain, Oddity, both, found_each, found_if, found_in, further_from, further_of, is_not_inherited, leads_elsewhere, named_by, oddities_of, oddity_of, only_found, overall_oddities, shared_oddities}
+pub use Rattle.cargo_toml_audit.specs.MemberFolders.{OnDisks, disk_of, places_once, unseen}
+pub use Rattle.cargo_toml_audit.specs.Oddities.{Gain, Oddity, both, found_each, found_if, found_in, further_from, further_of, is_bare, is_not_inherited, leads_elsewhere, named_by, oddities_of, oddity_of, only_found, overall_oddities, shared_oddities}
 pub use Rattle.cargo_toml_audit.specs.Steps.{AreListed, Visits, Walks, known_of}
-pub use Rattle.cargo_toml_audit.specs.declared.audit.Code.TheVariants.{Features, Incomplete, NoLints, NoTarget, NotInherited, OtherWorkspace, Outside, SameName, TwoWorkspaces, Unlisted, Unseen, WorkspaceWithin}
+pub use Rattle.cargo_toml_audit.specs.declared.audit.Code.TheVariants.{Features, Incomplete, NoLints, NoTarget, NotInherited, OtherWorkspace, Outside, SameName, TwoWorkspaces, Unlisted, Unseen, Virtual, WorkspaceWithin}
 pub use Rattle.cargo_toml_audit.{specs.Audited.IsMemberOf, specs.Audited.names_text, specs.Places.is_in, specs.Places.lies_in, specs.declared.audit.Audit.Audit}
 pub use Rattle.cargo_toml_audit.{specs.declared.audit.Finding.Finding, specs.declared.auditing.Known.Known, specs.declared.auditing.walk.Walk.Walk, specs.declared.members.walk.Looks.Looks}
 pub use Rattle.cargo_toml_discovery.{proofs.Faults.from_input}

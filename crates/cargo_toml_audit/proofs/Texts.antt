@@ -1,5 +1,5 @@
 -- Lists of texts: what they are joined to, and which stand in one, with one more.
-use Rattle.cargo_toml_audit.proofs.Paths.{[], ◌++◌, ◌||◌, ◌∷◌, ◌≡◌, List, Text, ap, flat_map-map, join_by, map, refl, sym, if◌then◌else◌, ℕ, ◌+◌, ◌<◌, ◌∙◌, bytes_eq, bytes_eq_sym, drop, get_or, is_in, left_next, length, list_any-append, map-append, or-false, repeats_of, take, take_more}
+use Rattle.cargo_toml_audit.proofs.Paths.{[], Bool, beq, ◌++◌, ◌||◌, ◌∷◌, ◌≡◌, List, Text, ap, flat_map-map, join_by, map, refl, sym, if◌then◌else◌, ℕ, ◌+◌, ◌<◌, ◌∙◌, bytes_eq, bytes_eq_sym, drop, get_or, is_in, left_next, length, list_any-append, map-append, or-false, picked, take, take_more}
 
 pub join_mapped : {X : Type 0} (f : X → Text) (between : Text) (xs : List X) → join_by f between xs ≡ join_by (λ t. t) between (map f xs)
 join_mapped f between [] = refl
@@ -15,8 +15,8 @@ module _ {X : Type 0} (f : X → Text) (xs : List X) (i : ℕ) (x : X) (within :
   pub in_next : (t : Text) → is_in (map f (take (i + 1) xs)) t ≡ (is_in (map f (take i xs)) t || bytes_eq (f x) t)
   in_next t = ap (λ ts. is_in ts t) next_taken ∙ one_more_in (map f (take i xs)) (f x) t
 
-  pub repeats_next : repeats_of (map f (take i xs)) (map f (drop i xs))
-      ≡ (if is_in (map f (take i xs)) (f x) then f x ∷ [] else []) ++ repeats_of (map f (take (i + 1) xs)) (map f (drop (i + 1) xs))
-  repeats_next =
-      ap (repeats_of (map f (take i xs))) (left_next f xs i x within is)
-      ∙ ap (λ ts. (if is_in (map f (take i xs)) (f x) then f x ∷ [] else []) ++ repeats_of ts (map f (drop (i + 1) xs))) (sym next_taken)
+  pub picked_next : (again : Bool) → picked again (map f (take i xs)) (map f (drop i xs))
+      ≡ (if beq (is_in (map f (take i xs)) (f x)) again then f x ∷ [] else []) ++ picked again (map f (take (i + 1) xs)) (map f (drop (i + 1) xs))
+  picked_next again =
+      ap (picked again (map f (take i xs))) (left_next f xs i x within is)
+      ∙ ap (λ ts. (if beq (is_in (map f (take i xs)) (f x)) again then f x ∷ [] else []) ++ picked again ts (map f (drop (i + 1) xs))) (sym next_taken)

@@ -17,14 +17,16 @@ use Rattle.cargo_toml_lint.specs.{declared.finding.Finding.Finding, Findings.cod
 use Rattle.cargo_toml_tools.specs.FromFiles.{IsManifestIn, IsUnreadable}
 use Rattle.cargo_toml_tools.specs.{Linted.AreFindingsOf, Indexed.is_error}
 use Rattle.cargo_toml_audit.specs.Entries.{Listed, asked_in, asking_of, entries_of, inherited_in}
-use Rattle.cargo_toml_audit.specs.MemberFolders.{Disk, disk_of, is_wrong, places_if_right, repeats}
+use Rattle.cargo_toml_audit.specs.MemberFolders.{Disk, disk_of, is_wrong, places_if_right, places_once}
+use Rattle.cargo_toml_audit.specs.MemberFolders.{repeats}
 use Rattle.cargo_toml_audit.specs.Oddities.{Gain, Oddity, both, differences, found_each, found_if}
-use Rattle.cargo_toml_audit.specs.Oddities.{found_in, has_no_target, oddities_of, only_found}
-use Rattle.cargo_toml_audit.specs.Oddities.{overall_oddities, refusals}
+use Rattle.cargo_toml_audit.specs.Oddities.{found_in, has_no_target, is_bare, oddities_of}
+use Rattle.cargo_toml_audit.specs.Oddities.{only_found, overall_oddities, refusals}
 use Rattle.cargo_toml_audit.specs.Places.{excludes, is_in, lies_in, manifest_path, place_of}
 use Rattle.cargo_toml_audit.specs.declared.audit.Code.TheVariants.{Absent, BadPattern, Incomplete}
 use Rattle.cargo_toml_audit.specs.declared.audit.Code.TheVariants.{DefaultMember, ListedTwice}
 use Rattle.cargo_toml_audit.specs.declared.audit.Code.TheVariants.{NoTarget, Unlisted, Unseen}
+use Rattle.cargo_toml_audit.specs.declared.audit.Code.TheVariants.{Virtual}
 use Rattle.cargo_toml_audit.specs.{Entries.left_keys, MemberFolders.unseen, Audited.IsMemberOf}
 use Rattle.cargo_toml_audit.specs.{Audited.is_untold, declared.audit.Code.Code}
 use Rattle.cargo_toml_audit.specs.{declared.audit.Audit.Audit, declared.audit.Member.Member}
@@ -154,7 +156,6 @@ module _ (base : Base) where
   need_by place e = need_at place e.1.1 ++ (if is_left e.1.1 then shared_need e.1.0 else [])
 
   abbrev pub needs_of : Text → Content → List Text
-  needs_of place (rootless m) = flat_map (need_by place) (entries_of (held m))
   needs_of place (belongs own errors m made) = flat_map (need_by place) (entries_of (held m))
   needs_of place _ = []
 
@@ -182,7 +183,7 @@ module _ (base : Base) where
   abbrev pub gain_of : Text → Content → Gain
   gain_of place (unread e) = only_found (refusal place e)
   gain_of place (foreign fault) = only_found (option_map_or (refusal place) fault [])
-  gain_of place (rootless m) = only_found []
+  gain_of place (rootless m) = only_found (found_if Virtual (not (is_bare m)) place)
   gain_of place (belongs own errors m made) =
       both (record {
         members = [];
@@ -215,7 +216,7 @@ module _ (base : Base) where
       IsCompletedThere m new × IsMemberOf place (left_keys (held m)) (held new) member
 
   -- a manifest that some text reads as. It counts as the workspace's own where its place lies in
-  -- the folder of that. Where it doesn't, a list has to lead to it
+  -- the folder of that, and may elsewhere. Where it doesn't count so, a list has to lead to it
   pub record IsMemberAt (is_listed : Bool) (place : Text) (own errors : Bool)
       (m : Manifest Value) (made : Made) : Type 0 where
     pub written : (text : Text) × IsManifestIn text m
@@ -253,7 +254,7 @@ module _ (base : Base) where
   -- ---- the report
   module _ (disk : Disk) where
     abbrev pub listed_places : List Text
-    listed_places = flat_map (places_if_right disk base.place) member_entries
+    listed_places = flat_map (places_once disk base.place) member_entries
 
     -- those that aren't excluded, and the root
     abbrev pub entered_places : List Text

@@ -3,7 +3,7 @@ use Rattle.std.specs.Prelude.{◌≡◌, ◌++◌, ◌&&◌, ◌||◌, ◌==◌,
 use Rattle.std.specs.Prelude.{[], Some, ◌∷◌, Err, Ok, Result, String, codes, filter, if◌then◌else◌}
 use Rattle.std.specs.Prelude.{is_none, length, map, nat_eq, not, string_bytes, unwrap_or}
 use Rattle.std.specs.declared.io.Error.{Error as IoError}
-use Rattle.std.specs.{BTreeMap.get_by_text, Fs.file_type, IoError.error_kind, List.flat_map}
+use Rattle.std.specs.{Bool.beq, BTreeMap.get_by_text, Fs.file_type, IoError.error_kind, List.flat_map}
 use Rattle.std.specs.{List.list_any, Option.option_map_or, Path.path_join, Str.chars}
 use Rattle.std.specs.{declared.alloc.Global.Global, declared.fs.attrs.Metadata.Metadata}
 use Rattle.cargo_toml.specs.{Action.Text, RealFiles.is_absent}
@@ -150,14 +150,18 @@ is_wrong entry = list_any is_wrong_name (pieces entry)
 abbrev pub places_if_right : Disk → Text → Text → List Text
 places_if_right d root entry = if is_wrong entry then [] else places_of d root entry
 
--- the texts of a list that stand in others, or before in it
-abbrev pub repeats_of : List Text → List Text → List Text
-repeats_of before [] = []
-repeats_of before (t ∷ ts) =
-    (if is_in before t then t ∷ [] else []) ++ repeats_of (before ++ t ∷ []) ts
+-- the texts of a list that stand in others, or before in it; or those that don't
+abbrev pub picked : Bool → List Text → List Text → List Text
+picked again before [] = []
+picked again before (t ∷ ts) =
+    (if beq (is_in before t) again then t ∷ [] else []) ++ picked again (before ++ t ∷ []) ts
 
 abbrev pub repeats : List Text → List Text
-repeats ts = repeats_of [] ts
+repeats ts = picked true [] ts
+
+-- the places of an entry, each once
+abbrev pub places_once : Disk → Text → Text → List Text
+places_once d root entry = picked false [] (places_if_right d root entry)
 
 -- what couldn't be looked at, or read to its end
 abbrev pub is_unseen : There → Bool

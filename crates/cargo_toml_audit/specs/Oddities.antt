@@ -1,12 +1,15 @@
 -- What a report finds odd: of a place, of a member, and of all members together.
 use Rattle.std.specs.Prelude.{◌++◌, ◌&&◌, ◌||◌, ◌==◌, Bool, true, false, List, [], ◌∷◌, Option}
-use Rattle.std.specs.Prelude.{Some, None, Vec, bytes_eq, codes, if◌then◌else◌, is_none, is_some}
+use Rattle.std.specs.Prelude.{Some, None, String, Vec, bytes_eq, codes, if◌then◌else◌, is_none, is_some}
 use Rattle.std.specs.Prelude.{length, map, not, option_and_then, option_map, string_bytes}
+use Rattle.std.specs.BTreeMap.{BTreeMap, btree_map_len}
 use Rattle.std.specs.List.{flat_map, list_any}
 use Rattle.std.specs.{declared.alloc.Global.Global, Option.option_map_or}
 use Rattle.cargo_toml.specs.Dependencies.{DependencyMeaning, inherited, is_optional}
 use Rattle.cargo_toml.specs.{InheritedDependencies.Entries, InheritedPackages.field_is_left}
 use Rattle.cargo_toml.specs.{Action.Text, Manifests.ManifestMeaning, Templates.TemplateMeaning}
+use Rattle.cargo_toml.specs.{Inheritable.Inheritable, Inheritable.TheVariants.Inherited}
+use Rattle.cargo_toml.specs.{Inheritable.TheVariants.Set, Manifest.Manifest, Manifests.held}
 use Rattle.cargo_toml.specs.{Packages.PackageMeaning, Settings.edition_text}
 use Rattle.cargo_toml_audit.specs.declared.audit.Code.TheVariants.{Features, SeveralRequirements}
 use Rattle.cargo_toml_audit.specs.declared.audit.Code.TheVariants.{OptionalShared, UnusedDependency}
@@ -68,7 +71,7 @@ abbrev pub leads_elsewhere : Text → Text → Option Text → Bool
 leads_elsewhere place root named =
     option_map_or (λ path. not (bytes_eq (place_of place path) root)) named false
 
--- a dependency has `workspace = false`, or says nothing of where it comes from
+-- a dependency has `workspace = false`
 abbrev pub is_false : DependencyMeaning → Bool
 is_false (inherited i) = not i.workspace
 is_false _ = false
@@ -93,10 +96,26 @@ refusals place root lacks_lints own errors m =
     ∷ (WorkspaceWithin, is_some m.workspace && not (bytes_eq place root)) ∷ []
 
 -- a package that is completed has nothing to build
+abbrev pub lacks_targets : {M : Type 0} → ManifestMeaning M → Bool
+lacks_targets m =
+    is_none m.lib && ((length m.bin == 0) && ((length m.example == 0)
+    && ((length m.test == 0) && (length m.bench == 0))))
+
 abbrev pub has_no_target : {M : Type 0} → ManifestMeaning M → Bool
-has_no_target m =
-    is_some m.«package» && (is_none m.lib && ((length m.bin == 0) && ((length m.example == 0)
-    && ((length m.test == 0) && (length m.bench == 0)))))
+has_no_target m = is_some m.«package» && lacks_targets m
+
+abbrev pub lacks_lints : {V : Type 0} → Inheritable (BTreeMap (String Global) V) → Bool
+lacks_lints (Set lints) = btree_map_len lints == 0
+lacks_lints Inherited = false
+
+-- a manifest has no targets, dependencies, features and lints: Cargo takes a root without a package
+-- only so
+abbrev pub is_bare : {M : Type 0} → Manifest M → Bool
+is_bare m =
+    lacks_targets (held m) && ((btree_map_len m.dependencies == 0)
+    && ((btree_map_len m.dev_dependencies == 0) && ((btree_map_len m.build_dependencies == 0)
+    && ((btree_map_len m.target == 0) && ((btree_map_len m.features == 0)
+    && lacks_lints m.lints)))))
 
 -- ---- what a report takes, behind what it had
 pub record Gain : Type 0 where

@@ -13,11 +13,11 @@ mod root;
 mod summary;
 
 use crate::AllocResult;
-use crate::members::{repeats, set_of};
+use crate::members::{picked, set_of};
 use cargo_toml::{Manifest, Workspace};
 use dependencies::{add_inherited, add_uses, entries, further, inherited_keys};
 use findings::{add_differences, add_shared, find_all, names};
-pub use findings::{has_no_target, named_by, refusal_rows};
+pub use findings::{has_no_target, is_bare, named_by, refusal_rows};
 pub use report::{json, lines};
 pub use root::{Root, needs};
 pub use summary::{summarize, untold_words};
@@ -86,9 +86,13 @@ pub enum Code {
     Unseen,
     /// No member inherits a dependency of the workspace.
     UnusedDependency,
+    /// A root without a package has tables that only packages have.
+    Virtual,
     /// A member has a workspace of its own.
     WorkspaceWithin,
 }
+
+const HAS_TABLES: &str = "a workspace without a package has tables of packages";
 
 impl Code {
     /// The word that stands for it in a report, and what it says of each subject, where it says one
@@ -127,6 +131,7 @@ impl Code {
             Code::Unlisted => ("unlisted", "it lies in the workspace, and is no member"),
             Code::Unseen => ("unseen", "it can't be looked at, or not to its end"),
             Code::UnusedDependency => ("unused-dependency", "no member inherits it"),
+            Code::Virtual => ("virtual", HAS_TABLES),
             Code::WorkspaceWithin => ("workspace-within", "it has a workspace of its own"),
         }
     }
@@ -262,7 +267,7 @@ impl Audit {
         let alloc = *self.root.allocator();
         let inherited = set_of(alloc, self.inherited.as_slice())?;
         let names = names(alloc, self.members.as_slice())?;
-        let same = repeats(alloc, names.as_slice())?;
+        let same = picked(alloc, names.as_slice(), true)?;
         let mut further = further(alloc, self.uses.as_slice())?;
         add_shared(&workspace.dependencies, &inherited, &mut self.findings)?;
         find_all(&mut self.findings, Code::SameName, same.as_slice())?;

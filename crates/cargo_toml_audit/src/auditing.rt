@@ -14,7 +14,7 @@ mod walk;
 use crate::AllocResult;
 use crate::audit::findings::{find_all, find_if};
 use crate::audit::{Audit, Code, Finding, Root, json, lines};
-use crate::members::{Looking, included, manifest_path, repeats, set_of, unseen, wrong_entries};
+use crate::members::{Looking, included, manifest_path, picked, set_of, unseen, wrong_entries};
 use above::{absolute, workspace_of};
 use cargo_toml::Error;
 use cargo_toml_tools::files::manifest_in;
@@ -147,7 +147,7 @@ fn find_in_lists(
     ensures { OnOk result (oddities_of findings.new ≡ oddities_of findings.old
         ++ found_in_lists (base_of root.entry) (map string_bytes entered.now)) }
 {
-    let twice = repeats(alloc, entered)?;
+    let twice = picked(alloc, entered, true)?;
     let wrong = wrong_entries(alloc, root.workspace.members.as_slice())?;
     let wrong_defaults = wrong_entries(alloc, root.workspace.default_members.as_slice())?;
     find_all(findings, Code::ListedTwice, twice.as_slice())?;

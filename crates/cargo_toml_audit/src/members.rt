@@ -14,7 +14,7 @@ use patterns::{is_deep, tokens_of};
 use places::pieces;
 pub use places::{excludes, lies_in, manifest_path, place_of, seen_from};
 use sets::push_if;
-pub use sets::{note, repeats, set_of};
+pub use sets::{note, picked, set_of};
 use std::alloc::Global;
 pub use walk::{Listing, Looking, Looks, There, is_absent};
 
@@ -38,7 +38,7 @@ pub fn wrong_entries(alloc: Global, entries: &[String]) -> AllocResult<Vec<Strin
 {
     let mut all = Vec::new(alloc);
     for entry in entries {
-        push_if(&mut all, entry, is_wrong(alloc, entry.as_str())?)?;
+        push_if(&mut all, entry.as_str(), is_wrong(alloc, entry.as_str())?)?;
     }
     Ok(all)
 }
@@ -57,7 +57,7 @@ pub fn included(
     let mut all = Vec::new(alloc);
     for place in places {
         let is_included = !excludes(alloc, root, workspace, place.as_str())?;
-        push_if(&mut all, place, is_included)?;
+        push_if(&mut all, place.as_str(), is_included)?;
     }
     Ok(all)
 }
@@ -68,10 +68,10 @@ pub fn unseen(alloc: Global, looks: &Looks) -> AllocResult<Vec<String>>
 {
     let mut all = Vec::new(alloc);
     for (path, there) in &looks.there {
-        push_if(&mut all, path, *there == There::Unseen)?;
+        push_if(&mut all, path.as_str(), *there == There::Unseen)?;
     }
     for (folder, listing) in &looks.names {
-        push_if(&mut all, folder, !listing.is_whole)?;
+        push_if(&mut all, folder.as_str(), !listing.is_whole)?;
     }
     Ok(all)
 }

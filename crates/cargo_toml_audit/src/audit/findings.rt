@@ -8,15 +8,15 @@ ghost use Rattle.cargo_toml.specs.{Manifests.held, Packages.held_package, Settin
 ghost use Rattle.cargo_toml_package.specs.Replacing.{entries_meaning};
 ghost use Rattle.cargo_toml_audit.specs.Oddities.{found_each, found_if, found_in, oddities_of};
 ghost use Rattle.cargo_toml_audit.specs.Oddities.{differences, has_given, has_no_target, other_of};
-ghost use Rattle.cargo_toml_audit.specs.Oddities.{is_false, is_not_inherited, shared_oddities};
-ghost use Rattle.cargo_toml_audit.specs.Oddities.{leads_elsewhere, named_by, refusals};
+ghost use Rattle.cargo_toml_audit.specs.Oddities.{is_bare, is_false, is_not_inherited, lacks_targets};
+ghost use Rattle.cargo_toml_audit.specs.Oddities.{leads_elsewhere, named_by, refusals, shared_oddities};
 ghost use Rattle.cargo_toml_audit.specs.Entries.{entries_of};
 
 use super::dependencies::entries;
 use super::{Code, Finding, Member, Root};
 use crate::AllocResult;
 use crate::members::place_of;
-use cargo_toml::{Dependency, DepsSet, Edition, Manifest, Package, Workspace};
+use cargo_toml::{Dependency, DepsSet, Edition, Inheritable, Manifest, Package, Workspace};
 use std::alloc::Global;
 use std::collections::BTreeSet;
 
@@ -235,16 +235,35 @@ fn leads_elsewhere(alloc: Global, place: &str, root: &str, named: Option<&str>) 
     Ok(named.as_str() != root)
 }
 
-/// Whether a manifest that is completed has nothing to build.
+/// Whether a manifest that is completed has a package, and nothing to build.
 pub fn has_no_target<M>(manifest: &Manifest<M>) -> bool
     ensures { result ≡ has_no_target (held manifest.now) }
 {
-    manifest.package.is_some()
-        && manifest.lib.is_none()
+    manifest.package.is_some() && lacks_targets(manifest)
+}
+
+fn lacks_targets<M>(manifest: &Manifest<M>) -> bool
+    ensures { result ≡ lacks_targets (held manifest.now) }
+{
+    manifest.lib.is_none()
         && manifest.bin.is_empty()
         && manifest.example.is_empty()
         && manifest.test.is_empty()
         && manifest.bench.is_empty()
+}
+
+/// Whether a manifest has no targets, dependencies, features and lints. Cargo takes a root without
+/// a package only so.
+pub fn is_bare<M>(manifest: &Manifest<M>) -> bool
+    ensures { result ≡ is_bare manifest.now }
+{
+    lacks_targets(manifest)
+        && manifest.dependencies.len() == 0
+        && manifest.dev_dependencies.len() == 0
+        && manifest.build_dependencies.len() == 0
+        && manifest.target.len() == 0
+        && manifest.features.len() == 0
+        && matches!(&manifest.lints, Inheritable::Set(lints) if lints.len() == 0)
 }
 
 /// Whether some dependency has `workspace = false`.

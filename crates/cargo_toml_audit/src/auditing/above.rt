@@ -38,7 +38,8 @@ pub struct Found {
     pub root: String,
 }
 
-/// Where the workspace of a place is. None where no manifest at or above it leads to one.
+/// Where the workspace of a place is. None where no manifest at or above it leads to one. As Cargo
+/// unpacks packages in `target/package`, it looks no further from what lies right there.
 pub fn workspace_of<R: Files + AllocGlobal>(rt: &R, start: &str) -> Result<Option<Found>, Error>
     ensures refused { IfErr result IsUnreadable }
 {
@@ -47,6 +48,9 @@ pub fn workspace_of<R: Files + AllocGlobal>(rt: &R, start: &str) -> Result<Optio
     let mut asked: Option<String> = None;
     for above in ancestors(start) {
         let place = above.as_str();
+        if asked.is_some() && place.ends_with("/target/package") {
+            break;
+        }
         let path = manifest_path(alloc, place)?;
         if looking.look_at(path.as_str())? == There::Nothing {
             continue;

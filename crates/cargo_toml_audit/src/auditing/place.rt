@@ -12,7 +12,8 @@ use super::above::is_of;
 use crate::AllocResult;
 use crate::audit::findings::{find, find_if, find_in};
 use crate::audit::{
-    Audit, Code, Finding, Root, has_no_target, needs, refusal_rows, summarize, untold_words,
+    Audit, Code, Finding, Root, has_no_target, is_bare, needs, refusal_rows, summarize,
+    untold_words,
 };
 use crate::members::{is_absent, manifest_path};
 use cargo_toml::{Error, Manifest};
@@ -83,10 +84,12 @@ impl<R: Files + RandomSource + AllocGlobal> At<'_, R> {
             return Ok((false, Vec::new(self.rt.alloc())));
         }
         let manifest = &*held.manifest;
-        let needs = needs(self.rt.alloc(), self.root, self.place, manifest)?;
         if is_rootless(self.root, self.place, manifest) {
-            return Ok((true, needs));
+            let has_tables = !is_bare(manifest);
+            find_if(&mut audit.findings, Code::Virtual, has_tables, self.place)?;
+            return Ok((true, Vec::new(self.rt.alloc())));
         }
+        let needs = needs(self.rt.alloc(), self.root, self.place, manifest)?;
         self.add_member(is_own, held, audit)?;
         Ok((true, needs))
     }

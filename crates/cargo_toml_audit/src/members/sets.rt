@@ -2,7 +2,7 @@
 ghost use Rattle.std.specs.Prelude.{◌≡◌, ◌++◌, ◌&&◌, ◌||◌, [], ◌∷◌, ℕ, IfOk, List, OnOk, bytes_eq};
 ghost use Rattle.std.specs.Prelude.{if◌then◌else◌, map, string_bytes};
 ghost use Rattle.std.specs.BTreeSet.{contains_text};
-ghost use Rattle.cargo_toml_audit.specs.{MemberFolders.repeats, Places.is_in};
+ghost use Rattle.cargo_toml_audit.specs.{MemberFolders.picked, Places.is_in};
 
 use crate::AllocResult;
 use std::alloc::Global;
@@ -32,27 +32,28 @@ pub fn set_of(alloc: Global, texts: &[String]) -> AllocResult<BTreeSet<String>>
     Ok(set)
 }
 
-/// The texts that stand in a list once more, each time.
-pub fn repeats(alloc: Global, texts: &[String]) -> AllocResult<Vec<String>>
+/// The texts that stand before in a list, each time, or those that don't.
+pub fn picked(alloc: Global, texts: &[String], again: bool) -> AllocResult<Vec<String>>
     ensures { IfOk result
-        (λ all. map string_bytes all.items ≡ repeats (map string_bytes texts.now)) }
+        (λ all. map string_bytes all.items ≡ picked again [] (map string_bytes texts.now)) }
 {
     let mut seen = BTreeSet::new(alloc);
     let mut all = Vec::new(alloc);
     for text in texts {
-        push_if(&mut all, text, seen.contains(text.as_str()))?;
-        note(alloc, &mut seen, text.as_str(), true)?;
+        let text = text.as_str();
+        push_if(&mut all, text, seen.contains(text) == again)?;
+        note(alloc, &mut seen, text, true)?;
     }
     Ok(all)
 }
 
 /// Adds a text, where that holds.
-pub fn push_if(all: &mut Vec<String>, text: &String, holds: bool) -> AllocResult<()>
+pub fn push_if(all: &mut Vec<String>, text: &str, holds: bool) -> AllocResult<()>
     ensures { OnOk result (map string_bytes all.new.items
-        ≡ map string_bytes all.old.items ++ (if holds then string_bytes text.now ∷ [] else [])) }
+        ≡ map string_bytes all.old.items ++ (if holds then text.now ∷ [] else [])) }
 {
     if holds {
-        all.push(text.clone()?)?;
+        all.push(String::from_str(*all.allocator(), text)?)?;
     }
     Ok(())
 }

@@ -7,13 +7,14 @@ ghost use Rattle.std.specs.{BTreeMap.IsEmpty, List.flat_map};
 ghost use Rattle.cargo_toml.specs.RealFiles.{is_absent};
 ghost use Rattle.cargo_toml_audit.specs.MemberFolders.{Tells, all_below, below, by_found, by_link};
 ghost use Rattle.cargo_toml_audit.specs.MemberFolders.{ended, further, further_in, led, matched};
-ghost use Rattle.cargo_toml_audit.specs.MemberFolders.{named_so, places_if_right, subfolders};
+ghost use Rattle.cargo_toml_audit.specs.MemberFolders.{named_so, places_if_right, places_once, subfolders};
 ghost use Rattle.cargo_toml_audit.specs.MemberFolders.{with_dots};
 ghost use Rattle.cargo_toml_audit.specs.Patterns.{begins_with_dot, part_of};
 
 use super::is_wrong;
 use super::patterns::{Token, is_deep, is_pattern, matches, tokens_of};
 use super::places::{begins_at, normalized, pieces, place_of};
+use super::sets::picked;
 use crate::AllocResult;
 use cargo_toml_parts::paths::join;
 use std::alloc::Global;
@@ -102,17 +103,18 @@ impl<'a, R: Files + AllocGlobal> Looking<'a, R> {
         Ok(names)
     }
 
-    /// The places that the entries of a list in `root` lead to, one entry after the other. One that
-    /// Cargo can't read leads nowhere.
+    /// The places that the entries of a list in `root` lead to, one entry after the other, each once
+    /// an entry. One that Cargo can't read leads nowhere.
     pub fn listed(&mut self, root: &str, entries: &[String]) -> AllocResult<Vec<String>>
         ensures { IfOk result (λ places. Tells
-            (λ d. flat_map (places_if_right d root.now) (map string_bytes entries.now))
+            (λ d. flat_map (places_once d root.now) (map string_bytes entries.now))
             self.old.looks self.new.looks (map string_bytes places.items)) }
     {
         let mut all = Vec::new(self.rt.alloc());
         for entry in entries {
-            let mut places = self.places_of_entry(root, entry.as_str())?;
-            all.append(&mut places)?;
+            let places = self.places_of_entry(root, entry.as_str())?;
+            let mut once = picked(self.rt.alloc(), places.as_slice(), false)?;
+            all.append(&mut once)?;
         }
         Ok(all)
     }

@@ -1,4 +1,4 @@
-use Rattle.cargo_toml_audit.proofs.Reports.{[], ◌++◌, ◌∙◌, ◌∷◌, ◌≡◌, ap, base_of, entered_places, filter, flat_map, found_in_lists, is_excluded, is_in, listed_places, map, map-append, not, oddities_of, places_if_right, string_bytes}
+use Rattle.cargo_toml_audit.proofs.Reports.{[], ◌++◌, ◌∙◌, ◌∷◌, ◌≡◌, ap, base_of, entered_places, filter, flat_map, found_in_lists, is_excluded, is_in, listed_places, map, map-append, not, oddities_of, places_once, string_bytes}
 use Rattle.cargo_toml_audit.proofs.auditing.read_lists.Goals as goal
 
 pub returns : goal.returns
@@ -6,7 +6,7 @@ returns g c = λ d agrees.
     let base = base_of c.args.root in
     let all = c.in_ok-all.ensures d agrees in
     let listed : map string_bytes c.in_ok-all.all.items ≡ listed_places base d =
-    all.1 ∙ ap (λ es. flat_map (places_if_right d base.place) (map string_bytes es)) c.as_slice.ensures.value in
+    all.1 ∙ ap (λ es. flat_map (places_once d base.place) (map string_bytes es)) c.as_slice.ensures.value in
     let taken = ap (map string_bytes) c.as_slice-2.ensures.value ∙ listed in
     let entered : map string_bytes c.in_ok-first.first.items ≡ entered_places base d =
     c.in_ok-first.ensures ∙ ap (filter (λ p. not (is_excluded base p))) taken in (

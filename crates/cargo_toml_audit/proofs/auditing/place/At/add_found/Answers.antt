@@ -1,5 +1,5 @@
-use Rattle.cargo_toml_audit.proofs.Reports.{[], ◌∙◌, ◌≡◌, IsManifestIn, Manifest, Value, ap, arith, base_of, belongs, entries_of, false, flat_map, foreign, held, is_rootless, map, need_by, option_map_or, refl, refusal, rootless, string_bytes, subst, sym}
-use Rattle.cargo_toml_audit.proofs.Taking.{takes_found, takes_nothing}
+use Rattle.cargo_toml_audit.proofs.Reports.{[], ◌++◌, ◌∙◌, ◌≡◌, IsManifestIn, Manifest, Value, Virtual, ap, arith, base_of, belongs, entries_of, false, flat_map, foreign, found_if, held, is_bare, is_rootless, map, need_by, not, oddities_of, option_map_or, refl, refusal, rootless, string_bytes, subst, sym}
+use Rattle.cargo_toml_audit.proofs.Taking.{takes_found}
 use Rattle.cargo_toml_audit.proofs.auditing.place.At.add_found.Goals as goal
 
 pub returns-then-not-counts-clause-added : goal.returns-then-not-counts-clause-added
@@ -35,13 +35,17 @@ returns-clause-added g c =
     }
 
 pub returns-then-is_rootless-clause-added : goal.returns-then-is_rootless-clause-added
-returns-then-is_rootless-clause-added g c = record {
-  content = rootless c.deref-manifest.result.now;
-  is = (
-    (c.requires.read.0, subst (IsManifestIn c.requires.read.0) (sym c.deref-manifest.ensures) c.requires.read.1),
-    sym c.is_rootless.ensures ∙ c.if-is_rootless.true,
-  );
-  takes = takes_nothing c.args.audit.now;
-  member = refl;
-  needs = c.in_ok-needs.ensures;
-}
+returns-then-is_rootless-clause-added g c =
+    let m = c.deref-manifest.result.now in
+    let place = c.args.self.now.place.now in
+    record {
+      content = rootless m;
+      is = (
+        (c.requires.read.0, subst (IsManifestIn c.requires.read.0) (sym c.deref-manifest.ensures) c.requires.read.1),
+        sym c.is_rootless.ensures ∙ c.if-is_rootless.true,
+      );
+      takes = takes_found (found_if Virtual (not (is_bare m)) place) c.args.audit.now c.find_if.new.findings
+          (c.in_ok-find_if.ensures ∙ ap (λ b. oddities_of c.args.audit.now.findings ++ found_if Virtual (not b) place) c.is_bare-has_tables.ensures);
+      member = refl;
+      needs = ap (map string_bytes) c.new-then-is_rootless.ensures.items;
+    }

@@ -3,10 +3,11 @@ ghost use Rattle.std.specs.Prelude.{◌≡◌, IfErr};
 ghost use Rattle.cargo_toml_tools.specs.FromFiles.{IsOfInput};
 ghost use Rattle.cargo_toml_check.specs.Judged.{counts, is_odd};
 
+use crate::alone::Step;
 use crate::check::{faults_in, push_place};
-use crate::places::{Place, places, push_item, push_key};
+use crate::places::{Paths, Place, places};
 use cargo_toml::{DepsSet, Error, Manifest, Product, Value};
-use cargo_toml_lint::{Finding, Level};
+use cargo_toml_lint::{Code, Finding, Level};
 use cargo_toml_manifest::HeldManifest;
 use cargo_toml_tools::Judging;
 use cargo_toml_tools::escape::{Escaped, Format};
@@ -14,7 +15,7 @@ use cargo_toml_tools::files::findings_of;
 use cargo_toml_tools::json::put_text;
 use serde_json::{Map, Value as Json, put};
 use std::alloc::{AllocError, Global};
-use std::collections::BTreeSet;
+use std::collections::BTreeMap;
 use std::fmt::Write;
 use std::random::RandomSource;
 
@@ -115,121 +116,185 @@ fn is_allowed(allowed: &[&str], finding: &Finding<'_>) -> bool {
     })
 }
 
-/// The places of these findings: of each the first of its keys that has one.
-fn places_of(
+/// What a finding is of.
+#[derive(Clone, Copy, PartialEq, Eq, PartialOrd, Ord)]
+enum Owner {
+    Feature,
+    Dependency,
+    /// An optional dev-dependency.
+    Dev,
+    Product,
+}
+
+/// What a finding may stand at, the likeliest first: the text, if it is of one, in the list of an
+/// owner, or an owner itself.
+fn keys_of<'m>(finding: &Finding<'m>) -> [(Owner, Option<&'m str>); 3] {
+    let text = Some(finding.text);
+    let (owner, text) = match finding.code {
+        Code::BadText | Code::NamesItself | Code::NotOptional | Code::Reserved | Code::Unknown => {
+            (Owner::Feature, text)
+        }
+        Code::BadRequest => (Owner::Dependency, text),
+        Code::BadRequired | Code::Missing => (Owner::Product, text),
+        Code::OptionalDev => (Owner::Dev, None),
+        Code::Implied => (Owner::Dependency, None),
+        // or of the feature that a dependency's key is
+        _ => (Owner::Feature, None),
+    };
+    [(owner, text), (owner, None), (Owner::Dependency, None)]
+}
+
+/// The places of these findings.
+fn places_of<'m>(
     alloc: Global,
     text: &str,
-    manifest: &Manifest,
-    findings: &[Finding<'_>],
+    manifest: &'m Manifest,
+    findings: &[Finding<'m>],
 ) -> Result<Vec<Place>, AllocError> {
-    let mut keys = Vec::new(alloc);
-    let mut wanted = BTreeSet::new(alloc);
+    let mut keys = Keys {
+        paths: Paths::new(alloc),
+        owners: BTreeMap::new(alloc),
+        wanted: BTreeMap::new(alloc),
+    };
     for finding in findings {
-        let paths = paths_of(alloc, manifest, finding)?;
-        for path in &paths {
-            wanted.insert(path.clone()?)?;
+        for (owner, text) in &keys_of(finding) {
+            keys.want((*owner, finding.feature), *text)?;
         }
-        keys.push(paths)?;
     }
-    let found = places(alloc, text, &wanted)?;
+    keys.add_all(manifest)?;
+    let found = places(alloc, text, &keys.paths)?;
     let mut all = Vec::new(alloc);
-    for paths in &keys {
-        let first = paths.iter().find_map(|path| found.get(path.as_str()));
-        all.push(first.copied().unwrap_or((1, 1)))?;
+    for finding in findings {
+        all.push(keys.place_of(&found, finding))?;
     }
     Ok(all)
 }
 
-/// The paths of the keys that a finding may be of: the text in the feature's list, the feature, the
-/// dependency of the key, the target of the name.
-fn paths_of(
-    alloc: Global,
-    manifest: &Manifest,
-    finding: &Finding<'_>,
-) -> Result<Vec<String>, AllocError> {
-    let mut paths = Paths {
-        alloc,
-        finding: *finding,
-        all: Vec::new(alloc),
-    };
-    paths.add_feature(manifest)?;
-    let (build, dev) = (&manifest.build_dependencies, &manifest.dev_dependencies);
-    paths.add_entries("", [&manifest.dependencies, build, dev])?;
-    for (name, target) in &manifest.target {
-        let above = below(alloc, "target", name.as_str())?;
-        let (build, dev) = (&target.build_dependencies, &target.dev_dependencies);
-        paths.add_entries(above.as_str(), [&target.dependencies, build, dev])?;
-    }
-    paths.add_products("bin", manifest.bin.as_slice())?;
-    paths.add_products("example", manifest.example.as_slice())?;
-    paths.add_products("test", manifest.test.as_slice())?;
-    paths.add_products("bench", manifest.bench.as_slice())?;
-    Ok(paths.all)
-}
-
+/// The keys that findings may stand at.
 #[derive(Drop)]
-struct Paths<'f> {
-    alloc: Global,
-    finding: Finding<'f>,
-    all: Vec<String>,
+struct Keys<'m> {
+    paths: Paths,
+    /// The owners that are wanted, each with a number.
+    owners: BTreeMap<(Owner, &'m str), usize>,
+    /// Of each wanted owner, or text in its list, the first path, and another one. No path is 0.
+    wanted: BTreeMap<(usize, Option<&'m str>), (usize, usize)>,
 }
 
-impl Paths<'_> {
-    fn add_feature(&mut self, manifest: &Manifest) -> Result<(), AllocError> {
-        let feature = self.finding.feature;
-        let path = below(self.alloc, "features", feature)?;
-        let listed = manifest.features.get(feature);
-        let texts: &[String] = listed.map_or(&[], |texts| texts.as_slice());
-        self.add_text(path.clone()?, texts)?;
-        self.add(path, "enables", texts)
+impl<'m> Keys<'m> {
+    fn want(&mut self, owner: (Owner, &'m str), text: Option<&'m str>) -> Result<(), AllocError> {
+        let mut number = self.owners.len();
+        if let Some(known) = self.owners.get(&owner) {
+            number = *known;
+        } else {
+            self.owners.insert(owner, number)?;
+        }
+        self.wanted.insert((number, text), (0, 0))?;
+        Ok(())
     }
 
-    fn add_entries(&mut self, above: &str, tables: [&DepsSet; 3]) -> Result<(), AllocError> {
+    fn add_all(&mut self, manifest: &'m Manifest) -> Result<(), AllocError> {
+        let path = self.paths.step(0, Step::Key("features"))?;
+        for (name, texts) in &manifest.features {
+            let (name, texts) = (name.as_str(), texts.as_slice());
+            self.add(
+                (Owner::Feature, name),
+                (path, Step::Key(name)),
+                "enables",
+                texts,
+            )?;
+        }
+        let (build, dev) = (&manifest.build_dependencies, &manifest.dev_dependencies);
+        self.add_tables(0, [&manifest.dependencies, build, dev])?;
+        let path = self.paths.step(0, Step::Key("target"))?;
+        for (name, target) in &manifest.target {
+            let path = self.paths.step(path, Step::Key(name.as_str()))?;
+            let (build, dev) = (&target.build_dependencies, &target.dev_dependencies);
+            self.add_tables(path, [&target.dependencies, build, dev])?;
+        }
+        self.add_products("bin", manifest.bin.as_slice())?;
+        self.add_products("example", manifest.example.as_slice())?;
+        self.add_products("test", manifest.test.as_slice())?;
+        self.add_products("bench", manifest.bench.as_slice())
+    }
+
+    fn add_tables(&mut self, above: usize, tables: [&'m DepsSet; 3]) -> Result<(), AllocError> {
         let kinds = ["dependencies", "build-dependencies", "dev-dependencies"];
         for (kind, table) in kinds.iter().zip(tables.iter()) {
-            if let Some(dependency) = table.get(self.finding.feature) {
-                let table = below(self.alloc, above, *kind)?;
-                let path = below(self.alloc, table.as_str(), self.finding.feature)?;
-                self.add(path, "features", dependency.req_features())?;
+            let path = self.paths.step(above, Step::Key(*kind))?;
+            for (key, dependency) in *table {
+                let key = key.as_str();
+                let at = (path, Step::Key(key));
+                let texts = dependency.req_features();
+                self.add((Owner::Dependency, key), at, "features", texts)?;
+                if *kind == "dev-dependencies" && dependency.optional() {
+                    self.add((Owner::Dev, key), at, "features", &[])?;
+                }
             }
         }
         Ok(())
     }
 
-    fn add_products(&mut self, kind: &str, products: &[Product]) -> Result<(), AllocError> {
+    fn add_products(
+        &mut self,
+        kind: &'static str,
+        products: &'m [Product],
+    ) -> Result<(), AllocError> {
+        let path = self.paths.step(0, Step::Key(kind))?;
         for (index, product) in products.iter().enumerate() {
-            if product.name.as_deref() == Some(self.finding.feature) {
-                let mut path = below(self.alloc, "", kind)?;
-                push_item(&mut path, index)?;
-                let texts = product.required_features.as_slice();
-                self.add(path, "required-features", texts)?;
+            let name = product.name.as_deref().unwrap_or("");
+            let texts = product.required_features.as_slice();
+            let at = (path, Step::Item(index));
+            self.add((Owner::Product, name), at, "required-features", texts)?;
+        }
+        Ok(())
+    }
+
+    /// Adds an owner behind a path, and the texts of its list, where these are wanted and are no
+    /// others' yet. The list is what stands there, or below this key.
+    fn add(
+        &mut self,
+        owner: (Owner, &'m str),
+        at: (usize, Step<'m>),
+        list: &'static str,
+        texts: &'m [String],
+    ) -> Result<(), AllocError> {
+        let Some(owner) = self.owners.get(&owner).copied() else {
+            return Ok(());
+        };
+        let path = self.paths.step(at.0, at.1)?;
+        let list = self.paths.step(path, Step::Key(list))?;
+        let own = (owner, None);
+        if self.lacks(&own) {
+            self.wanted.insert(own, (path, 0))?;
+        }
+        for (index, text) in texts.iter().enumerate() {
+            let key = (owner, Some(text.as_str()));
+            if self.lacks(&key) {
+                let item = Step::Item(index);
+                let paths = (self.paths.step(path, item)?, self.paths.step(list, item)?);
+                self.wanted.insert(key, paths)?;
             }
         }
         Ok(())
     }
 
-    /// Adds that of the text in the list of this key, if it is there, and the path itself.
-    fn add(&mut self, path: String, list: &str, texts: &[String]) -> Result<(), AllocError> {
-        self.add_text(below(self.alloc, path.as_str(), list)?, texts)?;
-        self.all.push(path)?;
-        Ok(())
+    fn lacks(&self, key: &(usize, Option<&'m str>)) -> bool {
+        self.wanted.get(key).copied() == Some((0, 0))
     }
 
-    fn add_text(&mut self, mut list: String, texts: &[String]) -> Result<(), AllocError> {
-        let text = self.finding.text;
-        if let Some(index) = texts.iter().position(|other| other.as_str() == text) {
-            push_item(&mut list, index)?;
-            self.all.push(list)?;
+    /// The place of a finding, where the text has these.
+    fn place_of(&self, found: &BTreeMap<usize, Place>, finding: &Finding<'m>) -> Place {
+        for (owner, text) in &keys_of(finding) {
+            if let Some(owner) = self.owners.get(&(*owner, finding.feature)) {
+                let paths = self.wanted.get(&(*owner, *text)).copied();
+                let (first, other) = paths.unwrap_or((0, 0));
+                if let Some(place) = found.get(&first).or(found.get(&other)) {
+                    return *place;
+                }
+            }
         }
-        Ok(())
+        (1, 1)
     }
-}
-
-/// The path of a key below another.
-fn below(alloc: Global, above: &str, key: &str) -> Result<String, AllocError> {
-    let mut path = String::from_str(alloc, above)?;
-    push_key(&mut path, key)?;
-    Ok(path)
 }
 
 fn unreadable(alloc: Global, file: &str, text: &str, json: bool) -> Result<String, AllocError> {

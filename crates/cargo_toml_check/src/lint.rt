@@ -22,6 +22,9 @@ use std::random::RandomSource;
 /// What a line tells behind its place: the level, the code, the feature, the text and the words.
 type Cells<'a> = (&'a str, &'a str, &'a str, &'a str, &'a str);
 
+/// The tables of dependencies that Cargo reads up to edition 2021 alone, and not the library.
+const OTHER_TABLES: [&str; 2] = ["build_dependencies", "dev_dependencies"];
+
 /// What is amiss with the features of the manifest in this text of a file, a line each, and whether
 /// something counts. A manifest that doesn't read has the finding `unreadable` for each part at
 /// fault. The manifest's own `package.metadata.cargo-toml-tools.allow` is heeded, too. Refused
@@ -51,36 +54,30 @@ fn readable<R: RandomSource + AllocGlobal>(
     ensures { IfErr result IsOfInput }
 {
     let alloc = rt.alloc();
-    let all = findings_of(rt, manifest)?;
-    let kept = kept(alloc, manifest, judging.allowed.as_slice(), all.as_slice())?;
-    let places = places_of(alloc, text, manifest, kept.as_slice())?;
+    let allowed = allowed(alloc, manifest, judging.allowed.as_slice())?;
+    let allowed = allowed.as_slice();
+    let mut kept = findings_of(rt, manifest)?;
+    kept.retain(|finding| !is_allowed(allowed, finding.code.name(), finding.feature));
+    let told = told(alloc, text, manifest, allowed, kept.as_slice())?;
     let mut lines = String::new(alloc);
-    for (found, place) in kept.iter().zip(places.iter()) {
-        let (level, code) = (found.code.level().name(), found.code.name());
-        let cells = (level, code, found.feature, found.text, found.code.words());
-        lines.push_str(line_of(alloc, file, *place, cells, judging.json)?.as_str())?;
+    for (cells, place) in &told {
+        lines.push_str(line_of(alloc, file, *place, *cells, judging.json)?.as_str())?;
     }
-    Ok((lines, is_odd(kept.as_slice(), judging.denies_hints)))
+    let is_odd = is_odd(kept.as_slice(), judging.denies_hints);
+    Ok((lines, is_odd || told.len() > kept.len()))
 }
 
-/// The findings that neither these texts nor the manifest itself pass over.
-fn kept<'m>(
+/// What is passed over: these texts, and those that the manifest itself has for it.
+fn allowed<'m>(
     alloc: Global,
-    manifest: &Manifest,
-    allowed: &[&str],
-    findings: &[Finding<'m>],
-) -> Result<Vec<Finding<'m>>, AllocError> {
-    let mut own = Vec::new(alloc);
+    manifest: &'m Manifest,
+    allowed: &[&'m str],
+) -> Result<Vec<&'m str>, AllocError> {
+    let mut all = Vec::from_slice(alloc, allowed)?;
     if let Some(Value::Array(items)) = own_allow(manifest) {
-        own.extend(items.iter().filter_map(|item| item.as_str()))?;
+        all.extend(items.iter().filter_map(|item| item.as_str()))?;
     }
-    let mut kept = Vec::new(alloc);
-    for finding in findings {
-        if !is_allowed(allowed, finding) && !is_allowed(own.as_slice(), finding) {
-            kept.push(*finding)?;
-        }
-    }
-    Ok(kept)
+    Ok(all)
 }
 
 /// Whether one of these findings is an error or a warning, or a hint where hints are denied. It is
@@ -108,11 +105,11 @@ fn own_allow(manifest: &Manifest) -> Option<&Value> {
     metadata.get("cargo-toml-tools")?.get("allow")
 }
 
-/// Whether one of the texts is the finding's code, or `CODE=FEATURE` of it.
-fn is_allowed(allowed: &[&str], finding: &Finding<'_>) -> bool {
+/// Whether one of the texts is this code, or `CODE=FEATURE` of it.
+fn is_allowed(allowed: &[&str], code: &str, feature: &str) -> bool {
     allowed.iter().any(|text| {
-        let (code, feature) = text.split_once('=').unwrap_or((*text, finding.feature));
-        code == finding.code.name() && feature == finding.feature
+        let (own, of) = text.split_once('=').unwrap_or((*text, feature));
+        own == code && of == feature
     })
 }
 
@@ -144,17 +141,19 @@ fn keys_of<'m>(finding: &Finding<'m>) -> [(Owner, Option<&'m str>); 3] {
     [(owner, text), (owner, None), (Owner::Dependency, None)]
 }
 
-/// The places of these findings.
-fn places_of<'m>(
+/// What these findings and the tables with other names tell, in order, each with its place.
+fn told<'m>(
     alloc: Global,
     text: &str,
     manifest: &'m Manifest,
+    allowed: &[&str],
     findings: &[Finding<'m>],
-) -> Result<Vec<Place>, AllocError> {
+) -> Result<Vec<(Cells<'m>, Place)>, AllocError> {
     let mut keys = Keys {
         paths: Paths::new(alloc),
         owners: BTreeMap::new(alloc),
         wanted: BTreeMap::new(alloc),
+        others: Vec::new(alloc),
     };
     for finding in findings {
         for (owner, text) in &keys_of(finding) {
@@ -163,11 +162,33 @@ fn places_of<'m>(
     }
     keys.add_all(manifest)?;
     let found = places(alloc, text, &keys.paths)?;
-    let mut all = Vec::new(alloc);
+    let mut told = Vec::new(alloc);
     for finding in findings {
-        all.push(keys.place_of(&found, finding))?;
+        told.push((cells_of(finding), keys.place_of(&found, finding)))?;
     }
-    Ok(all)
+    for (name, path) in &keys.others {
+        if let Some(place) = found.get(path) {
+            if !is_allowed(allowed, "other-name", *name) {
+                let words = "is a table that Cargo reads up to edition 2021 alone";
+                told.push((("warning", "other-name", *name, "", words), *place))?;
+            }
+        }
+    }
+    told.sort_unstable();
+    told.dedup_by_key(|line| line.0);
+    Ok(told)
+}
+
+fn cells_of<'m>(finding: &Finding<'m>) -> Cells<'m> {
+    let code = finding.code;
+    let level = code.level().name();
+    (
+        level,
+        code.name(),
+        finding.feature,
+        finding.text,
+        code.words(),
+    )
 }
 
 /// The keys that findings may stand at.
@@ -178,6 +199,8 @@ struct Keys<'m> {
     owners: BTreeMap<(Owner, &'m str), usize>,
     /// Of each wanted owner, or text in its list, the first path, and another one. No path is 0.
     wanted: BTreeMap<(usize, Option<&'m str>), (usize, usize)>,
+    /// The paths of tables with other names, which need not be there.
+    others: Vec<(&'static str, usize)>,
 }
 
 impl<'m> Keys<'m> {
@@ -218,6 +241,10 @@ impl<'m> Keys<'m> {
     }
 
     fn add_tables(&mut self, above: usize, tables: [&'m DepsSet; 3]) -> Result<(), AllocError> {
+        for name in &OTHER_TABLES {
+            let path = self.paths.step(above, Step::Key(*name))?;
+            self.others.push((*name, path))?;
+        }
         let kinds = ["dependencies", "build-dependencies", "dev-dependencies"];
         for (kind, table) in kinds.iter().zip(tables.iter()) {
             let path = self.paths.step(above, Step::Key(*kind))?;

@@ -18,7 +18,7 @@ pub fn path_text(alloc: Global, path: &[Step<'_>]) -> Result<String, AllocError>
     for step in path {
         match step {
             Step::Key(key) => push_key(&mut text, *key)?,
-            Step::Item(index) => push_item(&mut text, *index)?,
+            Step::Item(index) => write!(text, "[{index}]")?,
         }
     }
     Ok(text)
@@ -133,11 +133,6 @@ fn push_key(text: &mut String, key: &str) -> Result<(), AllocError> {
         push_escaped(text, piece, Format::Line)?;
     }
     text.push_str("\"")
-}
-
-/// Adds an item to a path.
-fn push_item(text: &mut String, index: usize) -> Result<(), AllocError> {
-    write!(text, "[{index}]")
 }
 
 /// What is behind the plain value that a text begins with.

@@ -6,8 +6,8 @@ use std::io::{ErrorKind, Write};
 use std::rt::Files;
 use std::{fs, io};
 
-/// The SHA-256 of each of these files by its name, as lines of `sha256sum` have it. Lines that begin
-/// with none, as an index writes it, are passed over.
+/// The SHA-256 of each of these files by its name, as lines of `sha256sum` have it. A line that
+/// doesn't begin with one as an index writes it is passed over.
 pub fn checksums<'t>(
     alloc: Global,
     lines: &'t str,

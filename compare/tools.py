@@ -399,6 +399,7 @@ WORDS_OF = {
     "private-default": ("hint", "only `default` enables this hidden or private feature"),
     "cycle": ("warning", "enables itself through others"),
     "missing": ("warning", "a target requires what the manifest doesn't have"),
+    "other-name": ("warning", "is a table that Cargo reads up to edition 2021 alone"),
     "over-limit": ("warning", "is beyond the limit, or some of its texts are"),
     "unreachable": ("warning", "no feature for users leads to this hidden one"),
 }
@@ -480,6 +481,9 @@ class Lint(Features):
                     yield "over-limit", key, ""
                 for text in one.get("features", []):
                     yield None if is_name(text) else "bad-request", key, text
+        for place in self.manifest, *self.manifest.get("target", {}).values():
+            for name in {"dev_dependencies", "build_dependencies"} & place.keys():
+                yield "other-name", name, ""
 
     def of_targets(self):
         for kind in PRODUCTS:

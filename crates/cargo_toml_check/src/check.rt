@@ -4,13 +4,12 @@ ghost use Rattle.toml.specs.Parse.{parse_document};
 ghost use Rattle.cargo_toml.specs.{Manifests.manifest_reads, Texts.any_tree, Texts.document_reads};
 ghost use Rattle.cargo_toml_check.specs.FromFiles.{IsChecked};
 
-use crate::places::{Place, path_text, place_in, places};
+use crate::places::{Paths, Place, path_text, place_in, places};
 use crate::search::{Fault, faults};
 use cargo_toml::Error;
 use cargo_toml_tools::escape::{Escaped, Format, fault_line};
 use cargo_toml_tools::files::completed_of;
 use std::alloc::{AllocError, Global};
-use std::collections::BTreeSet;
 use std::fmt::Write;
 use std::rt::Files;
 use toml::Value;
@@ -119,17 +118,17 @@ pub fn push_place(line: &mut String, file: &str, place: Place) -> Result<(), All
 fn placed(alloc: Global, text: &str, faults: &[Fault<'_>]) -> Result<Vec<Told>, AllocError>
     ensures { IfOk result (λ v. length v.items ≡ length faults.now) }
 {
-    let mut wanted = BTreeSet::new(alloc);
+    let mut wanted = Paths::new(alloc);
     for fault in faults {
-        wanted.insert(path_text(alloc, fault.path.as_slice())?)?;
+        wanted.of(fault.path.as_slice())?;
     }
     let found = places(alloc, text, &wanted)?;
     let mut all = Vec::new(alloc);
     for fault in faults {
-        let key = path_text(alloc, fault.path.as_slice())?;
+        let path = wanted.of(fault.path.as_slice())?;
         all.push(Told {
-            place: found.get(key.as_str()).copied().unwrap_or((1, 1)),
-            key,
+            place: found.get(&path).copied().unwrap_or((1, 1)),
+            key: path_text(alloc, fault.path.as_slice())?,
             words: format!(in alloc; "{}", fault.fault)?,
         })?;
     }

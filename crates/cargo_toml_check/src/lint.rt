@@ -3,10 +3,11 @@ ghost use Rattle.std.specs.Prelude.{◌≡◌, IfErr};
 ghost use Rattle.cargo_toml_tools.specs.FromFiles.{IsOfInput};
 ghost use Rattle.cargo_toml_check.specs.Judged.{counts, is_odd};
 
+use crate::alone::Step;
 use crate::check::{faults_in, push_place};
-use crate::places::{Place, places, push_item, push_key};
+use crate::places::{Paths, Place, places};
 use cargo_toml::{DepsSet, Error, Manifest, Product, Value};
-use cargo_toml_lint::{Finding, Level};
+use cargo_toml_lint::{Code, Finding, Level};
 use cargo_toml_manifest::HeldManifest;
 use cargo_toml_tools::Judging;
 use cargo_toml_tools::escape::{Escaped, Format};
@@ -14,12 +15,15 @@ use cargo_toml_tools::files::findings_of;
 use cargo_toml_tools::json::put_text;
 use serde_json::{Map, Value as Json, put};
 use std::alloc::{AllocError, Global};
-use std::collections::BTreeSet;
+use std::collections::BTreeMap;
 use std::fmt::Write;
 use std::random::RandomSource;
 
 /// What a line tells behind its place: the level, the code, the feature, the text and the words.
 type Cells<'a> = (&'a str, &'a str, &'a str, &'a str, &'a str);
+
+/// The tables of dependencies that Cargo reads up to edition 2021 alone, and not the library.
+const OTHER_TABLES: [&str; 2] = ["build_dependencies", "dev_dependencies"];
 
 /// What is amiss with the features of the manifest in this text of a file, a line each, and whether
 /// something counts. A manifest that doesn't read has the finding `unreadable` for each part at
@@ -50,36 +54,30 @@ fn readable<R: RandomSource + AllocGlobal>(
     ensures { IfErr result IsOfInput }
 {
     let alloc = rt.alloc();
-    let all = findings_of(rt, manifest)?;
-    let kept = kept(alloc, manifest, judging.allowed.as_slice(), all.as_slice())?;
-    let places = places_of(alloc, text, manifest, kept.as_slice())?;
+    let allowed = allowed(alloc, manifest, judging.allowed.as_slice())?;
+    let allowed = allowed.as_slice();
+    let mut kept = findings_of(rt, manifest)?;
+    kept.retain(|finding| !is_allowed(allowed, finding.code.name(), finding.feature));
+    let told = told(alloc, text, manifest, allowed, kept.as_slice())?;
     let mut lines = String::new(alloc);
-    for (found, place) in kept.iter().zip(places.iter()) {
-        let (level, code) = (found.code.level().name(), found.code.name());
-        let cells = (level, code, found.feature, found.text, found.code.words());
-        lines.push_str(line_of(alloc, file, *place, cells, judging.json)?.as_str())?;
+    for (cells, place) in &told {
+        lines.push_str(line_of(alloc, file, *place, *cells, judging.json)?.as_str())?;
     }
-    Ok((lines, is_odd(kept.as_slice(), judging.denies_hints)))
+    let is_odd = is_odd(kept.as_slice(), judging.denies_hints);
+    Ok((lines, is_odd || told.len() > kept.len()))
 }
 
-/// The findings that neither these texts nor the manifest itself pass over.
-fn kept<'m>(
+/// What is passed over: these texts, and those that the manifest itself has for it.
+fn allowed<'m>(
     alloc: Global,
-    manifest: &Manifest,
-    allowed: &[&str],
-    findings: &[Finding<'m>],
-) -> Result<Vec<Finding<'m>>, AllocError> {
-    let mut own = Vec::new(alloc);
+    manifest: &'m Manifest,
+    allowed: &[&'m str],
+) -> Result<Vec<&'m str>, AllocError> {
+    let mut all = Vec::from_slice(alloc, allowed)?;
     if let Some(Value::Array(items)) = own_allow(manifest) {
-        own.extend(items.iter().filter_map(|item| item.as_str()))?;
+        all.extend(items.iter().filter_map(|item| item.as_str()))?;
     }
-    let mut kept = Vec::new(alloc);
-    for finding in findings {
-        if !is_allowed(allowed, finding) && !is_allowed(own.as_slice(), finding) {
-            kept.push(*finding)?;
-        }
-    }
-    Ok(kept)
+    Ok(all)
 }
 
 /// Whether one of these findings is an error or a warning, or a hint where hints are denied. It is
@@ -107,129 +105,223 @@ fn own_allow(manifest: &Manifest) -> Option<&Value> {
     metadata.get("cargo-toml-tools")?.get("allow")
 }
 
-/// Whether one of the texts is the finding's code, or `CODE=FEATURE` of it.
-fn is_allowed(allowed: &[&str], finding: &Finding<'_>) -> bool {
+/// Whether one of the texts is this code, or `CODE=FEATURE` of it.
+fn is_allowed(allowed: &[&str], code: &str, feature: &str) -> bool {
     allowed.iter().any(|text| {
-        let (code, feature) = text.split_once('=').unwrap_or((*text, finding.feature));
-        code == finding.code.name() && feature == finding.feature
+        let (own, of) = text.split_once('=').unwrap_or((*text, feature));
+        own == code && of == feature
     })
 }
 
-/// The places of these findings: of each the first of its keys that has one.
-fn places_of(
+/// What a finding is of.
+#[derive(Clone, Copy, PartialEq, Eq, PartialOrd, Ord)]
+enum Owner {
+    Feature,
+    Dependency,
+    /// An optional dev-dependency.
+    Dev,
+    Product,
+}
+
+/// What a finding may stand at, the likeliest first: the text, if it is of one, in the list of an
+/// owner, or an owner itself.
+fn keys_of<'m>(finding: &Finding<'m>) -> [(Owner, Option<&'m str>); 3] {
+    let text = Some(finding.text);
+    let (owner, text) = match finding.code {
+        Code::BadText | Code::NamesItself | Code::NotOptional | Code::Reserved | Code::Unknown => {
+            (Owner::Feature, text)
+        }
+        Code::BadRequest => (Owner::Dependency, text),
+        Code::BadRequired | Code::Missing => (Owner::Product, text),
+        Code::OptionalDev => (Owner::Dev, None),
+        Code::Implied => (Owner::Dependency, None),
+        // or of the feature that a dependency's key is
+        _ => (Owner::Feature, None),
+    };
+    [(owner, text), (owner, None), (Owner::Dependency, None)]
+}
+
+/// What these findings and the tables with other names tell, in order, each with its place.
+fn told<'m>(
     alloc: Global,
     text: &str,
-    manifest: &Manifest,
-    findings: &[Finding<'_>],
-) -> Result<Vec<Place>, AllocError> {
-    let mut keys = Vec::new(alloc);
-    let mut wanted = BTreeSet::new(alloc);
-    for finding in findings {
-        let paths = paths_of(alloc, manifest, finding)?;
-        for path in &paths {
-            wanted.insert(path.clone()?)?;
-        }
-        keys.push(paths)?;
-    }
-    let found = places(alloc, text, &wanted)?;
-    let mut all = Vec::new(alloc);
-    for paths in &keys {
-        let first = paths.iter().find_map(|path| found.get(path.as_str()));
-        all.push(first.copied().unwrap_or((1, 1)))?;
-    }
-    Ok(all)
-}
-
-/// The paths of the keys that a finding may be of: the text in the feature's list, the feature, the
-/// dependency of the key, the target of the name.
-fn paths_of(
-    alloc: Global,
-    manifest: &Manifest,
-    finding: &Finding<'_>,
-) -> Result<Vec<String>, AllocError> {
-    let mut paths = Paths {
-        alloc,
-        finding: *finding,
-        all: Vec::new(alloc),
+    manifest: &'m Manifest,
+    allowed: &[&str],
+    findings: &[Finding<'m>],
+) -> Result<Vec<(Cells<'m>, Place)>, AllocError> {
+    let mut keys = Keys {
+        paths: Paths::new(alloc),
+        owners: BTreeMap::new(alloc),
+        wanted: BTreeMap::new(alloc),
+        others: Vec::new(alloc),
     };
-    paths.add_feature(manifest)?;
-    let (build, dev) = (&manifest.build_dependencies, &manifest.dev_dependencies);
-    paths.add_entries("", [&manifest.dependencies, build, dev])?;
-    for (name, target) in &manifest.target {
-        let above = below(alloc, "target", name.as_str())?;
-        let (build, dev) = (&target.build_dependencies, &target.dev_dependencies);
-        paths.add_entries(above.as_str(), [&target.dependencies, build, dev])?;
+    for finding in findings {
+        for (owner, text) in &keys_of(finding) {
+            keys.want((*owner, finding.feature), *text)?;
+        }
     }
-    paths.add_products("bin", manifest.bin.as_slice())?;
-    paths.add_products("example", manifest.example.as_slice())?;
-    paths.add_products("test", manifest.test.as_slice())?;
-    paths.add_products("bench", manifest.bench.as_slice())?;
-    Ok(paths.all)
+    keys.add_all(manifest)?;
+    let found = places(alloc, text, &keys.paths)?;
+    let mut told = Vec::new(alloc);
+    for finding in findings {
+        told.push((cells_of(finding), keys.place_of(&found, finding)))?;
+    }
+    for (name, path) in &keys.others {
+        if let Some(place) = found.get(path) {
+            if !is_allowed(allowed, "other-name", *name) {
+                let words = "is a table that Cargo reads up to edition 2021 alone";
+                told.push((("warning", "other-name", *name, "", words), *place))?;
+            }
+        }
+    }
+    told.sort_unstable();
+    told.dedup_by_key(|line| line.0);
+    Ok(told)
 }
 
+fn cells_of<'m>(finding: &Finding<'m>) -> Cells<'m> {
+    let code = finding.code;
+    let level = code.level().name();
+    (
+        level,
+        code.name(),
+        finding.feature,
+        finding.text,
+        code.words(),
+    )
+}
+
+/// The keys that findings may stand at.
 #[derive(Drop)]
-struct Paths<'f> {
-    alloc: Global,
-    finding: Finding<'f>,
-    all: Vec<String>,
+struct Keys<'m> {
+    paths: Paths,
+    /// The owners that are wanted, each with a number.
+    owners: BTreeMap<(Owner, &'m str), usize>,
+    /// Of each wanted owner, or text in its list, the first path, and another one. No path is 0.
+    wanted: BTreeMap<(usize, Option<&'m str>), (usize, usize)>,
+    /// The paths of tables with other names, which need not be there.
+    others: Vec<(&'static str, usize)>,
 }
 
-impl Paths<'_> {
-    fn add_feature(&mut self, manifest: &Manifest) -> Result<(), AllocError> {
-        let feature = self.finding.feature;
-        let path = below(self.alloc, "features", feature)?;
-        let listed = manifest.features.get(feature);
-        let texts: &[String] = listed.map_or(&[], |texts| texts.as_slice());
-        self.add_text(path.clone()?, texts)?;
-        self.add(path, "enables", texts)
+impl<'m> Keys<'m> {
+    fn want(&mut self, owner: (Owner, &'m str), text: Option<&'m str>) -> Result<(), AllocError> {
+        let mut number = self.owners.len();
+        if let Some(known) = self.owners.get(&owner) {
+            number = *known;
+        } else {
+            self.owners.insert(owner, number)?;
+        }
+        self.wanted.insert((number, text), (0, 0))?;
+        Ok(())
     }
 
-    fn add_entries(&mut self, above: &str, tables: [&DepsSet; 3]) -> Result<(), AllocError> {
+    fn add_all(&mut self, manifest: &'m Manifest) -> Result<(), AllocError> {
+        let path = self.paths.step(0, Step::Key("features"))?;
+        for (name, texts) in &manifest.features {
+            let (name, texts) = (name.as_str(), texts.as_slice());
+            self.add(
+                (Owner::Feature, name),
+                (path, Step::Key(name)),
+                "enables",
+                texts,
+            )?;
+        }
+        let (build, dev) = (&manifest.build_dependencies, &manifest.dev_dependencies);
+        self.add_tables(0, [&manifest.dependencies, build, dev])?;
+        let path = self.paths.step(0, Step::Key("target"))?;
+        for (name, target) in &manifest.target {
+            let path = self.paths.step(path, Step::Key(name.as_str()))?;
+            let (build, dev) = (&target.build_dependencies, &target.dev_dependencies);
+            self.add_tables(path, [&target.dependencies, build, dev])?;
+        }
+        self.add_products("bin", manifest.bin.as_slice())?;
+        self.add_products("example", manifest.example.as_slice())?;
+        self.add_products("test", manifest.test.as_slice())?;
+        self.add_products("bench", manifest.bench.as_slice())
+    }
+
+    fn add_tables(&mut self, above: usize, tables: [&'m DepsSet; 3]) -> Result<(), AllocError> {
+        for name in &OTHER_TABLES {
+            let path = self.paths.step(above, Step::Key(*name))?;
+            self.others.push((*name, path))?;
+        }
         let kinds = ["dependencies", "build-dependencies", "dev-dependencies"];
         for (kind, table) in kinds.iter().zip(tables.iter()) {
-            if let Some(dependency) = table.get(self.finding.feature) {
-                let table = below(self.alloc, above, *kind)?;
-                let path = below(self.alloc, table.as_str(), self.finding.feature)?;
-                self.add(path, "features", dependency.req_features())?;
+            let path = self.paths.step(above, Step::Key(*kind))?;
+            for (key, dependency) in *table {
+                let key = key.as_str();
+                let at = (path, Step::Key(key));
+                let texts = dependency.req_features();
+                self.add((Owner::Dependency, key), at, "features", texts)?;
+                if *kind == "dev-dependencies" && dependency.optional() {
+                    self.add((Owner::Dev, key), at, "features", &[])?;
+                }
             }
         }
         Ok(())
     }
 
-    fn add_products(&mut self, kind: &str, products: &[Product]) -> Result<(), AllocError> {
+    fn add_products(
+        &mut self,
+        kind: &'static str,
+        products: &'m [Product],
+    ) -> Result<(), AllocError> {
+        let path = self.paths.step(0, Step::Key(kind))?;
         for (index, product) in products.iter().enumerate() {
-            if product.name.as_deref() == Some(self.finding.feature) {
-                let mut path = below(self.alloc, "", kind)?;
-                push_item(&mut path, index)?;
-                let texts = product.required_features.as_slice();
-                self.add(path, "required-features", texts)?;
+            let name = product.name.as_deref().unwrap_or("");
+            let texts = product.required_features.as_slice();
+            let at = (path, Step::Item(index));
+            self.add((Owner::Product, name), at, "required-features", texts)?;
+        }
+        Ok(())
+    }
+
+    /// Adds an owner behind a path, and the texts of its list, where these are wanted and are no
+    /// others' yet. The list is what stands there, or below this key.
+    fn add(
+        &mut self,
+        owner: (Owner, &'m str),
+        at: (usize, Step<'m>),
+        list: &'static str,
+        texts: &'m [String],
+    ) -> Result<(), AllocError> {
+        let Some(owner) = self.owners.get(&owner).copied() else {
+            return Ok(());
+        };
+        let path = self.paths.step(at.0, at.1)?;
+        let list = self.paths.step(path, Step::Key(list))?;
+        let own = (owner, None);
+        if self.lacks(&own) {
+            self.wanted.insert(own, (path, 0))?;
+        }
+        for (index, text) in texts.iter().enumerate() {
+            let key = (owner, Some(text.as_str()));
+            if self.lacks(&key) {
+                let item = Step::Item(index);
+                let paths = (self.paths.step(path, item)?, self.paths.step(list, item)?);
+                self.wanted.insert(key, paths)?;
             }
         }
         Ok(())
     }
 
-    /// Adds that of the text in the list of this key, if it is there, and the path itself.
-    fn add(&mut self, path: String, list: &str, texts: &[String]) -> Result<(), AllocError> {
-        self.add_text(below(self.alloc, path.as_str(), list)?, texts)?;
-        self.all.push(path)?;
-        Ok(())
+    fn lacks(&self, key: &(usize, Option<&'m str>)) -> bool {
+        self.wanted.get(key).copied() == Some((0, 0))
     }
 
-    fn add_text(&mut self, mut list: String, texts: &[String]) -> Result<(), AllocError> {
-        let text = self.finding.text;
-        if let Some(index) = texts.iter().position(|other| other.as_str() == text) {
-            push_item(&mut list, index)?;
-            self.all.push(list)?;
+    /// The place of a finding, where the text has these.
+    fn place_of(&self, found: &BTreeMap<usize, Place>, finding: &Finding<'m>) -> Place {
+        for (owner, text) in &keys_of(finding) {
+            if let Some(owner) = self.owners.get(&(*owner, finding.feature)) {
+                let paths = self.wanted.get(&(*owner, *text)).copied();
+                let (first, other) = paths.unwrap_or((0, 0));
+                if let Some(place) = found.get(&first).or(found.get(&other)) {
+                    return *place;
+                }
+            }
         }
-        Ok(())
+        (1, 1)
     }
-}
-
-/// The path of a key below another.
-fn below(alloc: Global, above: &str, key: &str) -> Result<String, AllocError> {
-    let mut path = String::from_str(alloc, above)?;
-    push_key(&mut path, key)?;
-    Ok(path)
 }
 
 fn unreadable(alloc: Global, file: &str, text: &str, json: bool) -> Result<String, AllocError> {

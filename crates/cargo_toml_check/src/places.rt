@@ -2,7 +2,7 @@
 use crate::alone::Step;
 use cargo_toml_tools::escape::{Format, push_escaped};
 use std::alloc::{AllocError, Global};
-use std::collections::{BTreeMap, BTreeSet};
+use std::collections::BTreeMap;
 use std::fmt::Write;
 use toml_parser::bytes::is_bare;
 use toml_parser::text::{first, skip_blank, skip_ws};
@@ -18,50 +18,107 @@ pub fn path_text(alloc: Global, path: &[Step<'_>]) -> Result<String, AllocError>
     for step in path {
         match step {
             Step::Key(key) => push_key(&mut text, *key)?,
-            Step::Item(index) => push_item(&mut text, *index)?,
+            Step::Item(index) => write!(text, "[{index}]")?,
         }
     }
     Ok(text)
 }
 
-/// The place where each of these paths is first mentioned in the text of a document.
+/// A step that owns its key.
+#[derive(PartialEq, Eq, PartialOrd, Ord, Drop)]
+enum Held {
+    Key(String),
+    Item(usize),
+}
+
+/// Paths whose places are wanted, each with a number. In them a step leads from a path to another
+/// one, and that of no step is 0: so a key of a text is compared with steps alone.
+#[derive(Drop)]
+pub struct Paths {
+    alloc: Global,
+    next: BTreeMap<(usize, Held), usize>,
+}
+
+impl Paths {
+    /// No paths.
+    pub fn new(alloc: Global) -> Paths {
+        Paths {
+            alloc,
+            next: BTreeMap::new(alloc),
+        }
+    }
+
+    /// The path of these steps.
+    pub fn of(&mut self, steps: &[Step<'_>]) -> Result<usize, AllocError> {
+        let mut path = 0;
+        for step in steps {
+            path = self.step(path, *step)?;
+        }
+        Ok(path)
+    }
+
+    /// The path that a step leads to from another one.
+    pub fn step(&mut self, above: usize, step: Step<'_>) -> Result<usize, AllocError> {
+        let held = match step {
+            Step::Key(key) => Held::Key(String::from_str(self.alloc, key)?),
+            Step::Item(index) => Held::Item(index),
+        };
+        let key = (above, held);
+        if let Some(path) = self.next.get(&key) {
+            return Ok(*path);
+        }
+        let path = self.next.len().saturating_add(1);
+        self.next.insert(key, path)?;
+        Ok(path)
+    }
+}
+
+/// The places where these paths are first mentioned in the text of a document.
 pub fn places(
     alloc: Global,
     text: &str,
-    wanted: &BTreeSet<String>,
-) -> Result<BTreeMap<String, Place>, AllocError> {
+    wanted: &Paths,
+) -> Result<BTreeMap<usize, Place>, AllocError> {
     let mut walk = Walk {
         alloc,
         text,
         at: 0,
-        line: (1, 0),
+        counted: (0, (1, 1)),
         wanted,
         found: BTreeMap::new(alloc),
-        lengths: BTreeMap::new(alloc),
+        last: BTreeMap::new(alloc),
         open: Vec::new(alloc),
     };
-    walk.document()?;
+    if !wanted.next.is_empty() {
+        walk.document()?;
+    }
     Ok(walk.found)
 }
 
 /// The place of an index of a text.
 pub fn place_in(text: &str, at: usize) -> Place {
-    let mut line = (1, 0);
-    place_behind(text, &mut line, at)
+    let mut counted = (0, (1, 1));
+    place_behind(text, &mut counted, at)
 }
 
-/// The same of an index that isn't before the beginning of this line, which is that of its number
-/// and where it begins. The line of the index takes its place.
-fn place_behind(text: &str, line: &mut Place, at: usize) -> Place {
-    let since = text.get(line.1..at).unwrap_or("");
+/// The same of an index that isn't before this one, of which the place is known. It takes its turn.
+fn place_behind(text: &str, counted: &mut (usize, Place), at: usize) -> Place {
+    let (before, (line, column)) = *counted;
+    let since = text.get(before..at).unwrap_or("");
     let lines = since.bytes().filter(|byte| *byte == b'\n').count();
-    let last = since.rsplit_once('\n').map_or(since, |(_, last)| last);
-    *line = (line.0.saturating_add(lines), at.saturating_sub(last.len()));
-    (line.0, last.chars().count().saturating_add(1))
+    let place = match since.rsplit_once('\n') {
+        Some((_, last)) => (
+            line.saturating_add(lines),
+            last.chars().count().saturating_add(1),
+        ),
+        None => (line, column.saturating_add(since.chars().count())),
+    };
+    *counted = (at, place);
+    place
 }
 
 /// Adds a key to a path.
-pub(crate) fn push_key(text: &mut String, key: &str) -> Result<(), AllocError> {
+fn push_key(text: &mut String, key: &str) -> Result<(), AllocError> {
     if !text.is_empty() {
         text.push_str(".")?;
     }
@@ -78,11 +135,6 @@ pub(crate) fn push_key(text: &mut String, key: &str) -> Result<(), AllocError> {
     text.push_str("\"")
 }
 
-/// Adds an item to a path.
-pub(crate) fn push_item(text: &mut String, index: usize) -> Result<(), AllocError> {
-    write!(text, "[{index}]")
-}
-
 /// What is behind the plain value that a text begins with.
 fn after_plain(alloc: Global, text: &str) -> &str {
     if starts_string(text) {
@@ -93,25 +145,25 @@ fn after_plain(alloc: Global, text: &str) -> &str {
 }
 
 /// An array or an inline table that isn't closed yet.
-#[derive(Drop)]
+#[derive(Clone, Copy)]
 struct Open {
-    path: String,
+    path: Option<usize>,
     /// The number of the next item of an array.
     index: Option<usize>,
 }
 
-/// A walk over the text of a document.
+/// A walk over the text of a document, with the paths that are wanted.
 #[derive(Drop)]
 struct Walk<'t> {
     alloc: Global,
     text: &'t str,
     at: usize,
-    /// The line up to which lines are counted, and where it begins.
-    line: Place,
-    wanted: &'t BTreeSet<String>,
-    found: BTreeMap<String, Place>,
-    /// How many tables each array of tables has.
-    lengths: BTreeMap<String, usize>,
+    /// The index up to which lines and columns are counted, and its place.
+    counted: (usize, Place),
+    wanted: &'t Paths,
+    found: BTreeMap<usize, Place>,
+    /// The number of the last table of each array of tables.
+    last: BTreeMap<usize, usize>,
     open: Vec<Open>,
 }
 
@@ -136,7 +188,7 @@ impl<'t> Walk<'t> {
     }
 
     fn document(&mut self) -> Result<(), AllocError> {
-        let mut section = String::new(self.alloc);
+        let mut section = Some(0);
         if self.text.starts_with('\u{feff}') {
             self.skip(3);
         }
@@ -146,7 +198,7 @@ impl<'t> Walk<'t> {
                 0 => return Ok(()),
                 b'[' => section = self.header()?,
                 _ => {
-                    let path = self.key(section.clone()?, false)?;
+                    let path = self.key(section, false)?;
                     self.skip(1);
                     self.value(path)?;
                 }
@@ -156,32 +208,25 @@ impl<'t> Walk<'t> {
     }
 
     /// A header; what it leads to is answered.
-    fn header(&mut self) -> Result<String, AllocError> {
+    fn header(&mut self) -> Result<Option<usize>, AllocError> {
         let brackets = if self.rest().starts_with("[[") { 2 } else { 1 };
         self.skip(brackets);
-        let path = self.key(String::new(self.alloc), brackets == 2)?;
+        let path = self.key(Some(0), brackets == 2)?;
         self.skip(brackets);
         Ok(path)
     }
 
     /// A key below this path; the path that it leads to is answered. A part that stands for an
     /// array of tables leads to its last table, and to a new one at the end of a header of one.
-    fn key(&mut self, above: String, is_item: bool) -> Result<String, AllocError> {
+    fn key(&mut self, above: Option<usize>, is_item: bool) -> Result<Option<usize>, AllocError> {
         let mut path = above;
         for _ in 0..self.text.len() {
             let start = self.at;
             let part = self.key_part()?;
-            push_key(&mut path, part.as_str())?;
-            self.note(&path, start)?;
+            path = self.step(path, Held::Key(part), start)?;
             self.go_to(skip_ws(self.rest()));
             let is_last = self.byte() != b'.';
-            if is_last && is_item {
-                self.lengthen(path.as_str())?;
-            }
-            if let Some(length) = self.lengths.get(path.as_str()) {
-                push_item(&mut path, length.saturating_sub(1))?;
-                self.note(&path, start)?;
-            }
+            path = self.last_table(path, is_last && is_item, start)?;
             if is_last {
                 return Ok(path);
             }
@@ -190,12 +235,46 @@ impl<'t> Walk<'t> {
         Ok(path)
     }
 
-    /// An array of tables has one more.
-    fn lengthen(&mut self, path: &str) -> Result<(), AllocError> {
-        let length = self.lengths.get(path).copied().unwrap_or(0);
-        let key = String::from_str(self.alloc, path)?;
-        self.lengths.insert(key, length.saturating_add(1))?;
-        Ok(())
+    /// The last table of this path, which may get a new one, or the path where it has none.
+    fn last_table(
+        &mut self,
+        path: Option<usize>,
+        is_new: bool,
+        at: usize,
+    ) -> Result<Option<usize>, AllocError> {
+        let Some(array) = path else {
+            return Ok(None);
+        };
+        let mut last = self.last.get(&array).copied();
+        if is_new {
+            let next = last.map_or(0, |index| index.saturating_add(1));
+            self.last.insert(array, next)?;
+            last = Some(next);
+        }
+        match last {
+            Some(index) => self.step(path, Held::Item(index), at),
+            None => Ok(path),
+        }
+    }
+
+    /// The path that a step leads to, which is mentioned at this index. None is none of the wanted.
+    fn step(
+        &mut self,
+        above: Option<usize>,
+        step: Held,
+        at: usize,
+    ) -> Result<Option<usize>, AllocError> {
+        let Some(above) = above else {
+            return Ok(None);
+        };
+        let path = self.wanted.next.get(&(above, step)).copied();
+        if let Some(path) = path {
+            if !self.found.contains_key(&path) {
+                let place = place_behind(self.text, &mut self.counted, at);
+                self.found.insert(path, place)?;
+            }
+        }
+        Ok(path)
     }
 
     fn key_part(&mut self) -> Result<String, AllocError> {
@@ -211,7 +290,7 @@ impl<'t> Walk<'t> {
     }
 
     /// A value, and all that stands in it.
-    fn value(&mut self, path: String) -> Result<(), AllocError> {
+    fn value(&mut self, path: Option<usize>) -> Result<(), AllocError> {
         self.begin(path)?;
         for _ in 0..self.text.len() {
             let Some(open) = self.open.pop() else {
@@ -232,22 +311,20 @@ impl<'t> Walk<'t> {
 
     /// The next part of an array or an inline table.
     fn part(&mut self, open: Open) -> Result<(), AllocError> {
-        let mut path = open.path.clone()?;
         let Some(index) = open.index else {
             self.open.push(open)?;
-            path = self.key(path, false)?;
+            let path = self.key(open.path, false)?;
             self.skip(1);
             return self.begin(path);
         };
-        push_item(&mut path, index)?;
-        self.note(&path, self.at)?;
+        let path = self.step(open.path, Held::Item(index), self.at)?;
         let index = Some(index.saturating_add(1));
         self.open.push(Open { index, ..open })?;
         self.begin(path)
     }
 
     /// A whole plain value, or the beginning of an array or of an inline table.
-    fn begin(&mut self, path: String) -> Result<(), AllocError> {
+    fn begin(&mut self, path: Option<usize>) -> Result<(), AllocError> {
         let index = match self.byte() {
             b'[' => Some(0),
             b'{' => None,
@@ -258,15 +335,6 @@ impl<'t> Walk<'t> {
         };
         self.skip(1);
         self.open.push(Open { path, index })?;
-        Ok(())
-    }
-
-    /// Notes that a path is mentioned at this index.
-    fn note(&mut self, path: &String, at: usize) -> Result<(), AllocError> {
-        if self.wanted.contains(path.as_str()) && !self.found.contains_key(path.as_str()) {
-            let place = place_behind(self.text, &mut self.line, at);
-            self.found.insert(path.clone()?, place)?;
-        }
         Ok(())
     }
 }

@@ -6,19 +6,26 @@ use std::io::{ErrorKind, Write};
 use std::rt::Files;
 use std::{fs, io};
 
-/// The SHA-256 of each of these files by its name, as lines of `sha256sum` have it.
+/// The SHA-256 of each of these files by its name, as lines of `sha256sum` have it. A line that
+/// doesn't begin with one as an index writes it is passed over.
 pub fn checksums<'t>(
     alloc: Global,
     lines: &'t str,
 ) -> Result<BTreeMap<&'t str, &'t str>, AllocError> {
     let mut all = BTreeMap::new(alloc);
     for line in lines.lines() {
-        if let Some((sum, path)) = line.split_once(' ') {
+        let (sum, path) = line.split_once(' ').unwrap_or(("", ""));
+        if is_checksum(sum) {
             let path = path.trim_start_matches(' ').trim_start_matches('*');
             all.insert(path.rsplit('/').next().unwrap_or(path), sum)?;
         }
     }
     Ok(all)
+}
+
+fn is_checksum(text: &str) -> bool {
+    let is_digit = |byte: u8| matches!(byte, b'0'..=b'9' | b'a'..=b'f');
+    text.len() == 64 && text.bytes().all(is_digit)
 }
 
 /// Adds a line to the file that the index in a folder has of a crate. The file is written anew
@@ -40,6 +47,10 @@ pub fn add_to_index<R: Files + AllocGlobal>(
         Err(fault) if fault.kind() == ErrorKind::NotFound => String::new(alloc),
         Err(fault) => return Err(fault),
     };
+    // a last line without its end
+    if !text.is_empty() && !text.as_str().ends_with('\n') {
+        text.push_str("\n")?;
+    }
     text.push_str(indexed.line.as_str())?;
     // of most crates the folder is there
     let mut file = match fs::create(rt, fresh.as_str()) {

@@ -17,8 +17,8 @@ use Rattle.cargo_toml_lint.specs.{declared.finding.Finding.Finding, Findings.cod
 use Rattle.cargo_toml_tools.specs.FromFiles.{IsManifestIn, IsUnreadable}
 use Rattle.cargo_toml_tools.specs.{Linted.AreFindingsOf, Indexed.is_error}
 use Rattle.cargo_toml_audit.specs.Entries.{Listed, asked_in, asking_of, entries_of, inherited_in}
-use Rattle.cargo_toml_audit.specs.MemberFolders.{Disk, disk_of, is_wrong, places_if_right, places_once}
-use Rattle.cargo_toml_audit.specs.MemberFolders.{repeats}
+use Rattle.cargo_toml_audit.specs.MemberFolders.{Disk, disk_of, is_wrong, places_if_right}
+use Rattle.cargo_toml_audit.specs.MemberFolders.{places_once, repeats}
 use Rattle.cargo_toml_audit.specs.Oddities.{Gain, Oddity, both, differences, found_each, found_if}
 use Rattle.cargo_toml_audit.specs.Oddities.{found_in, has_no_target, is_bare, oddities_of}
 use Rattle.cargo_toml_audit.specs.Oddities.{only_found, overall_oddities, refusals}

@@ -3,8 +3,8 @@ use Rattle.std.specs.Prelude.{◌≡◌, ◌++◌, ◌&&◌, ◌||◌, ◌==◌,
 use Rattle.std.specs.Prelude.{[], Some, ◌∷◌, Err, Ok, Result, String, codes, filter, if◌then◌else◌}
 use Rattle.std.specs.Prelude.{is_none, length, map, nat_eq, not, string_bytes, unwrap_or}
 use Rattle.std.specs.declared.io.Error.{Error as IoError}
-use Rattle.std.specs.{Bool.beq, BTreeMap.get_by_text, Fs.file_type, IoError.error_kind, List.flat_map}
-use Rattle.std.specs.{List.list_any, Option.option_map_or, Path.path_join, Str.chars}
+use Rattle.std.specs.{Bool.beq, BTreeMap.get_by_text, Fs.file_type, IoError.error_kind}
+use Rattle.std.specs.{List.flat_map, List.list_any, Option.option_map_or, Path.path_join, Str.chars}
 use Rattle.std.specs.{declared.alloc.Global.Global, declared.fs.attrs.Metadata.Metadata}
 use Rattle.cargo_toml.specs.{Action.Text, RealFiles.is_absent}
 use Rattle.cargo_toml_audit.specs.Places.{begins_at, is_in, normalized, pieces, place_of}

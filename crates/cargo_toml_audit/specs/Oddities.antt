@@ -1,7 +1,7 @@
 -- What a report finds odd: of a place, of a member, and of all members together.
 use Rattle.std.specs.Prelude.{◌++◌, ◌&&◌, ◌||◌, ◌==◌, Bool, true, false, List, [], ◌∷◌, Option}
-use Rattle.std.specs.Prelude.{Some, None, String, Vec, bytes_eq, codes, if◌then◌else◌, is_none, is_some}
-use Rattle.std.specs.Prelude.{length, map, not, option_and_then, option_map, string_bytes}
+use Rattle.std.specs.Prelude.{Some, None, String, Vec, bytes_eq, codes, if◌then◌else◌, is_none}
+use Rattle.std.specs.Prelude.{is_some, length, map, not, option_and_then, option_map, string_bytes}
 use Rattle.std.specs.BTreeMap.{BTreeMap, btree_map_len}
 use Rattle.std.specs.List.{flat_map, list_any}
 use Rattle.std.specs.{declared.alloc.Global.Global, Option.option_map_or}

@@ -141,7 +141,8 @@ line_data w ts features p = object (with_rows
     ∷ (codes "links", text_or_null p.links)
     ∷ (codes "rust_version", text_or_null (option_and_then value_of p.rust_version))
     ∷ (codes "deps", array (items_of (flat_map (table_entries w) ts)))
-    ∷ (feature_rows (kept_lists (stays ts) features) ++ rows_if (codes "cksum") w.checksum)) no_members)
+    ∷ (feature_rows (kept_lists (stays ts) features)
+    ++ rows_if (codes "cksum") w.checksum)) no_members)
 
 -- that of a manifest, which was read from the document, or from the text
 abbrev pub data_in : {M : Type 0} → Wanted → TomlMembers → ManifestMeaning M → Option Data

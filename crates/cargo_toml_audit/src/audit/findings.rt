@@ -8,9 +8,9 @@ ghost use Rattle.cargo_toml.specs.{Manifests.held, Packages.held_package, Settin
 ghost use Rattle.cargo_toml_package.specs.Replacing.{entries_meaning};
 ghost use Rattle.cargo_toml_audit.specs.Oddities.{found_each, found_if, found_in, oddities_of};
 ghost use Rattle.cargo_toml_audit.specs.Oddities.{differences, has_given, has_no_target, other_of};
-ghost use Rattle.cargo_toml_audit.specs.Oddities.{is_bare, is_false, is_not_inherited, lacks_targets};
-ghost use Rattle.cargo_toml_audit.specs.Oddities.{leads_elsewhere, named_by, refusals, shared_oddities};
-ghost use Rattle.cargo_toml_audit.specs.Entries.{entries_of};
+ghost use Rattle.cargo_toml_audit.specs.Oddities.{is_bare, is_false, is_not_inherited, refusals};
+ghost use Rattle.cargo_toml_audit.specs.Oddities.{leads_elsewhere, named_by, shared_oddities};
+ghost use Rattle.cargo_toml_audit.specs.{Entries.entries_of, Oddities.lacks_targets};
 
 use super::dependencies::entries;
 use super::{Code, Finding, Member, Root};

@@ -7,8 +7,8 @@ ghost use Rattle.std.specs.{BTreeMap.IsEmpty, List.flat_map};
 ghost use Rattle.cargo_toml.specs.RealFiles.{is_absent};
 ghost use Rattle.cargo_toml_audit.specs.MemberFolders.{Tells, all_below, below, by_found, by_link};
 ghost use Rattle.cargo_toml_audit.specs.MemberFolders.{ended, further, further_in, led, matched};
-ghost use Rattle.cargo_toml_audit.specs.MemberFolders.{named_so, places_if_right, places_once, subfolders};
-ghost use Rattle.cargo_toml_audit.specs.MemberFolders.{with_dots};
+ghost use Rattle.cargo_toml_audit.specs.MemberFolders.{named_so, places_if_right, places_once};
+ghost use Rattle.cargo_toml_audit.specs.MemberFolders.{subfolders, with_dots};
 ghost use Rattle.cargo_toml_audit.specs.Patterns.{begins_with_dot, part_of};
 
 use super::is_wrong;
@@ -103,8 +103,8 @@ impl<'a, R: Files + AllocGlobal> Looking<'a, R> {
         Ok(names)
     }
 
-    /// The places that the entries of a list in `root` lead to, one entry after the other, each once
-    /// an entry. One that Cargo can't read leads nowhere.
+    /// The places that the entries of a list in `root` lead to, one entry after the other, each
+    /// once an entry. One that Cargo can't read leads nowhere.
     pub fn listed(&mut self, root: &str, entries: &[String]) -> AllocResult<Vec<String>>
         ensures { IfOk result (λ places. Tells
             (λ d. flat_map (places_once d root.now) (map string_bytes entries.now))

@@ -1,7 +1,5 @@
 -- Lists that grow by a piece for each element.
-use Rattle.std.proofs.Common.{arith, ◌≡◌, ◌+◌, ◌++◌, ◌∙◌, ◌<◌, ℕ, List, [], ◌∷◌, None, Option, Some, add-one, drop, drop-cons, get_or, length, map, refl, sym, ap, append_assoc}
-use Rattle.std.proofs.lemmas.{List.map-append, List.Concat.flat_map-append, Map.Iter.rest_all, Map.Iter.rest_more}
-use Rattle.std.specs.{List.flat_map, Map.Iter.TakesFirst}
+use Rattle.cargo_toml_tools.proofs.Cited.{[], ◌++◌, ◌+◌, ◌<◌, ◌∙◌, ◌∷◌, ◌≡◌, add-one, ap, append_assoc, arith, drop, drop-cons, flat_map, flat_map-append, get_or, length, List, map, map-append, None, Option, refl, rest_all, rest_more, Some, sym, TakesFirst, ℕ}
 
 -- what is left begins with the next
 pub drop_next : {A : Type 0} (xs : List A) (i : ℕ) (d : A) → i < length xs → drop i xs ≡ get_or xs i d ∷ drop (i + 1) xs

@@ -1,3 +1,4 @@
+pub mod Cited
 pub mod Placed
 pub mod Grown
 pub mod Told

@@ -1,10 +1,6 @@
 -- Members that are put into an object one after another.
-use Rattle.std.proofs.Common.{arith, ◌≡◌, ◌++◌, ◌∙◌, Bool, Bor, true, false, if◌then◌else◌, List, [], ◌∷◌, map, refl, sym, ap}
-use Rattle.std.{proofs.lemmas.List.map-append, specs.Prelude.codes, specs.List.list_any}
-use Rattle.{cargo_toml_lint.proofs.Adding.asked_is, cargo_toml_tools.proofs.Grown.mapped_left, cargo_toml_tools.proofs.Grown.rest_next, cargo_toml_tools.proofs.Grown.rest_none}
-use Rattle.serde_json.specs.{Data.Data, Data.Members, Data.number, Data.put, Data.unsigned, View.view, declared.value.Value.Value}
-use Rattle.cargo_toml.specs.Action.{Text}
-use Rattle.cargo_toml_tools.specs.{IndexEntries.with_rows, IndexEntries.feature_rows, IndexEntries.is_extended, IndexEntries.lists_object}
+use Rattle.cargo_toml_tools.proofs.Cited.{[], ◌++◌, ◌∙◌, ◌∷◌, ◌≡◌, ap, arith, asked_is, Bool, Bor, codes, Data, false, feature_rows, if◌then◌else◌, is_extended, List, list_any, lists_object, map, map-append, Members, number, put, refl, sym, Text, true, unsigned, Value, view, with_rows}
+use Rattle.cargo_toml_tools.proofs.Grown.{mapped_left, rest_next, rest_none}
 
 pub with_both : (xs ys : List (Text × Data)) (ms : Members) → with_rows (xs ++ ys) ms ≡ with_rows ys (with_rows xs ms)
 with_both [] ys ms = refl

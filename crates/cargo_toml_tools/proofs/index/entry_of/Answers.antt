@@ -1,7 +1,4 @@
-use Rattle.std.proofs.Common.{[], ◌∙◌, Some, ap, map, option_map, sym}
-use Rattle.{std.specs.Option.option_map_or, toml.specs.View.table_view, cargo_toml.specs.Manifests.manifest_meaning, cargo_toml.specs.Packages.package_meaning}
-use Rattle.cargo_toml_tools.specs.{Indexed.dependency_tables, Indexed.package_refusal, declared.index.refusals.Fault.TheVariants.NoPackage}
-use Rattle.cargo_toml_tools.specs.{IndexEntries.line_data, Sections.refused, Sections.table_of, Sections.wanted_of}
+use Rattle.cargo_toml_tools.proofs.Cited.{[], ◌∙◌, ap, dependency_tables, line_data, manifest_meaning, map, NoPackage, option_map, option_map_or, package_meaning, package_refusal, refused, Some, sym, table_of, table_view, wanted_of}
 use Rattle.cargo_toml_tools.proofs.index.entry_of.Goals as goal
 
 pub returns-clause-taken : goal.returns-clause-taken

@@ -1,7 +1,4 @@
-use Rattle.std.proofs.Common.{◌≡◌, ◌⊎◌, None, Some, subst}
-use Rattle.std.specs.Prelude.{IfErr, IfOk, OnOk}
-use Rattle.{serde_json.specs.View.view, cargo_toml.specs.Manifests.held}
-use Rattle.cargo_toml_tools.specs.{IndexEntries.data_in, Indexed.refusal_in, Sections.told, Sections.wanted_of, declared.index.IndexError.TheVariants.Memory}
+use Rattle.cargo_toml_tools.proofs.Cited.{◌≡◌, ◌⊎◌, data_in, held, IfErr, IfOk, Memory, None, OnOk, refusal_in, Some, subst, told, view, wanted_of}
 use Rattle.cargo_toml_tools.proofs.index.index_entry.Goals as goal
 
 pub returns-clause-taken : goal.returns-clause-taken

@@ -1,4 +1,4 @@
-use Rattle.{std.proofs.Common.◌≡◌, std.proofs.Common.drop, std.proofs.Common.false, cargo_toml_tools.specs.Indexed.goes_on}
+use Rattle.cargo_toml_tools.proofs.Cited.{◌≡◌, drop, false, goes_on}
 use Rattle.cargo_toml_tools.proofs.index.refusals.are_numbers.Given as goal
 
 abbrev pub invariant-loop-byte : goal.invariant-loop-byte

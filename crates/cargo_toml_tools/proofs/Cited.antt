@@ -10,13 +10,13 @@ pub use Rattle.cargo_toml_graph.proofs.{JoinLaws.join_option_none, Joins.join_al
 pub use Rattle.cargo_toml_lint.proofs.Gathered.{any_map, at_head, has_in, list_of, listed_in}
 pub use Rattle.cargo_toml_lint.{proofs.Adding.asked_is, proofs.Adding.entry_of, proofs.Adding.target_of, proofs.Resolving.parsed_at, proofs.Resolving.tells_of, specs.Turning.turning}
 pub use Rattle.cargo_toml_tools.specs.Documented.{ActsOf, AreRows, IsRowOf, is_beside, lists_default, told_at}
-pub use Rattle.cargo_toml_tools.specs.IndexEntries.{data_in, feature_rows, index_data, index_entries, is_extended, is_kept, is_newer, kept_lists, key_if, line_data, list_rows, lists_object, table_entries, table_keys, with_rows}
-pub use Rattle.cargo_toml_tools.specs.Indexed.{address_named, dependency_tables, entry_refusal, finding_refusal, first_refusal, goes_on, is_named, package_refusal, refusal_in, table_refusal, target_tables}
-pub use Rattle.cargo_toml_tools.specs.Sections.{lists_meaning, names_of, refused, table_of, told, wanted_of}
-pub use Rattle.cargo_toml_tools.specs.declared.{document.listing.Row.Row, index.IndexError.TheVariants.Memory, index.refusals.Fault.TheVariants.NoPackage}
+pub use Rattle.cargo_toml_tools.specs.IndexEntries.{feature_rows, index_data, index_entries, is_extended, is_kept, is_newer, kept_lists, key_if, line_data, list_rows, lists_object, table_entries, table_keys, with_rows}
+pub use Rattle.cargo_toml_tools.specs.Indexed.{address_named, dependency_tables, entry_refusal, finding_refusal, first_refusal, goes_on, is_named, package_refusal, table_refusal, target_tables}
+pub use Rattle.cargo_toml_tools.specs.Sections.{lists_meaning, names_of, refused, table_of, wanted_of}
+pub use Rattle.cargo_toml_tools.specs.declared.{document.listing.Row.Row, index.refusals.Fault.TheVariants.NoPackage}
 pub use Rattle.serde_json.specs.Data.{Data, Members, number, put, string, unsigned}
 pub use Rattle.serde_json.specs.{View.members_view, View.view, declared.value.Value.Value}
-pub use Rattle.std.proofs.Common.{Bool, Bor, IfErr, IfOk, IfSome, IsTrue, List, None, OnOk, Option, Some, [], add-one, ap, append_assoc, arith, bytes_eq, codes, drop, drop-cons, false, filter, fold, get_or, if◌then◌else◌, inl, inr, is_some, length, map, option_map, refl, rules, string_bytes, subst, sym, take, tests, true, ℕ, ◌&&◌, ◌++◌, ◌+◌, ◌<◌, ◌||◌, ◌↔◌, ◌∙◌, ◌∷◌, ◌≡◌, ◌⊎◌}
+pub use Rattle.std.proofs.Common.{Bool, Bor, IfOk, IfSome, IsTrue, List, None, Option, Some, [], add-one, ap, append_assoc, ap₂, arith, bytes_eq, codes, drop, drop-cons, false, filter, fold, get_or, if◌then◌else◌, inl, inr, is_some, length, map, option_map, refl, rules, string_bytes, subst, sym, take, tests, true, ℕ, ◌&&◌, ◌++◌, ◌+◌, ◌<◌, ◌||◌, ◌↔◌, ◌∙◌, ◌∷◌, ◌≡◌, ◌⊎◌}
 pub use Rattle.std.proofs.lemmas.Bool.{and_from, and_parts, false≢true, or_left, or_right}
 pub use Rattle.std.proofs.lemmas.Result.{IfErr-weaker, IfOk-weaker, err_from_is_err_and, on_ok_weaker}
 pub use Rattle.std.proofs.lemmas.{Fn.filter_same, Iterator.YieldsList-from_slice, Iterator.Search.any_from_yields_List, List.append-nil, List.drop_all, List.map-append}

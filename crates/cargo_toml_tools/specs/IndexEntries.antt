@@ -144,10 +144,7 @@ line_data w ts features p = object (with_rows
     ∷ (feature_rows (kept_lists (stays ts) features)
     ++ rows_if (codes "cksum") w.checksum)) no_members)
 
--- that of a manifest, which was read from the document, or from the text
-abbrev pub data_in : {M : Type 0} → Wanted → TomlMembers → ManifestMeaning M → Option Data
-data_in w document m =
-    option_map (line_data w (dependency_tables document m) m.features) m.«package»
-
+-- that of a manifest, which was read from the text
 abbrev pub index_data : {M : Type 0} → Wanted → Text → ManifestMeaning M → Option Data
-index_data w text m = data_in w (written text) m
+index_data w text m =
+    option_map (line_data w (dependency_tables (written text) m) m.features) m.«package»

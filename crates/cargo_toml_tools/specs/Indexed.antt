@@ -36,7 +36,7 @@ all_by_kind m =
     with_kinds m.dependencies m.dev_dependencies m.build_dependencies
     ++ flat_map (λ t. target_by_kind t.1) m.target
 
--- the document that a text is
+-- the document that a text is, and an empty one where it is none
 abbrev pub written : Text → Members
 written text = unwrap_or (parse_document text) no_members
 
@@ -262,15 +262,10 @@ package_refusal w findings document ts p =
     (if w.force then None
     else option_or (publish_refusal w document p.publish) (first_refusal finding_refusal findings))
 
--- why an index doesn't take the crate of a manifest, which was read from the document, where lint
--- finds this of it; `None` where it takes it
-abbrev pub refusal_in : {M : Type 0} → Wanted → List Finding → Members → ManifestMeaning M
-    → Option Refusal
-refusal_in w findings document m = option_map_or
-    (package_refusal w findings document (dependency_tables document m))
-    m.«package» (Some (fault.NoPackage, []))
-
--- the same of one that was read from the text
+-- why an index doesn't take the crate of a manifest, which was read from the text, where lint finds
+-- this of it; `None` where it takes it
 abbrev pub refusal_of : {M : Type 0} → Wanted → List Finding → Text → ManifestMeaning M
     → Option Refusal
-refusal_of w findings text m = refusal_in w findings (written text) m
+refusal_of w findings text m = option_map_or
+    (package_refusal w findings (written text) (dependency_tables (written text) m))
+    m.«package» (Some (fault.NoPackage, []))

@@ -6,17 +6,16 @@ pub with_both : (xs ys : List (Text × Data)) (ms : Members) → with_rows (xs +
 with_both [] ys ms = refl
 with_both (x ∷ xs) ys ms = with_both xs ys (put x.0 x.1 ms)
 
--- one more entry, or none
-pub one_entry : (old new : List Value) (v : Value) (d : Data) (lacks : Bool) → new ≡ old ++ v ∷ [] → view v ≡ d → lacks ≡ false
-    → map view new ≡ map view old ++ (if lacks then [] else d ∷ [])
-one_entry old new v d lacks e is h =
-    ap (map view) e ∙ map-append view old (v ∷ []) ∙ ap (λ x. map view old ++ x ∷ []) is ∙ ap (λ b. map view old ++ (if b then [] else d ∷ [])) (sym h)
+-- one more entry
+pub one_entry : (old new : List Value) (v : Value) (d : Data) → new ≡ old ++ v ∷ [] → view v ≡ d
+    → map view new ≡ map view old ++ d ∷ []
+one_entry old new v d e is = ap (map view) e ∙ map-append view old (v ∷ []) ∙ ap (λ x. map view old ++ x ∷ []) is
 
 -- one more key, or none
-pub one_key : (old new : List (Bor Text)) (k : Bor Text) (lacks : Bool) → new ≡ old ++ k ∷ [] → lacks ≡ false
-    → map (λ k. k.now) new ≡ map (λ k. k.now) old ++ (if lacks then [] else k.now ∷ [])
-one_key old new k lacks e h =
-    ap (map (λ k. k.now)) e ∙ map-append (λ k. k.now) old (k ∷ []) ∙ ap (λ b. map (λ k. k.now) old ++ (if b then [] else k.now ∷ [])) (sym h)
+pub one_key : (old new : List (Bor Text)) (k : Bor Text) (has : Bool) → new ≡ old ++ k ∷ [] → has ≡ true
+    → map (λ k. k.now) new ≡ map (λ k. k.now) old ++ (if has then k.now ∷ [] else [])
+one_key old new k has e h =
+    ap (map (λ k. k.now)) e ∙ map-append (λ k. k.now) old (k ∷ []) ∙ ap (λ b. map (λ k. k.now) old ++ (if b then k.now ∷ [] else [])) (sym h)
 
 pub put_same : (key : Text) (d e : Data) (a b : Members) → b ≡ put key d a → d ≡ e → b ≡ put key e a
 put_same key d e a b puts same = puts ∙ ap (λ x. put key x a) same

@@ -209,7 +209,7 @@ fn keeps_other_flag(dependency: &Dependency) -> bool
 }
 
 /// Whether a dependency has a path or a repository, and no version.
-pub(super) fn lacks_version(dependency: &Dependency) -> bool
+fn lacks_version(dependency: &Dependency) -> bool
     ensures { result ≡ lacks_version (dependency_meaning dependency.now) }
 {
     match dependency {

@@ -1,9 +1,9 @@
 -- Which crates an index takes, and what it refuses of others.
 use Rattle.std.specs.Prelude.{◌++◌, ◌&&◌, ◌||◌, Bool, true, false, if◌then◌else◌, not, List, []}
 use Rattle.std.specs.Prelude.{◌∷◌, Option, Some, None, is_none, is_some, map, bytes_eq, codes}
-use Rattle.std.specs.Prelude.{ℕ, ◌+◌, ◌==◌, nat_lt, option_and_then, option_map, unwrap_or}
-use Rattle.std.specs.Char.{is_ascii_digit}
-use Rattle.std.specs.{List.flat_map, List.list_any, Option.option_map_or, Option.option_or}
+use Rattle.std.specs.Prelude.{◌==◌, length, option_and_then, option_map, slice_get, unwrap_or}
+use Rattle.std.specs.List.{flat_map, list_all, list_any, slice_split}
+use Rattle.std.specs.{Char.is_ascii_digit, Option.option_map_or, Option.option_or}
 use Rattle.semver.specs.Parse.{Held}
 use Rattle.toml.specs.Data.{Data, Members, as_bool, as_table, get_member, no_members}
 use Rattle.toml.specs.Parse.{parse_document}
@@ -208,19 +208,22 @@ version_refusal document (Set v) =
     refuse_if (is_zero (Set v) && is_none (in_package (codes "version") document))
     fault.NoVersion []
 
--- the text goes on as one to three numbers, with dots between and no zeros in front: so many dots
--- were there, then a digit or none, and that is a zero in front or not
-abbrev pub goes_on : ℕ → Bool → Bool → Text → Bool
-goes_on dots is_in is_zero [] = is_in
-goes_on dots is_in is_zero (b ∷ bs) =
-    if is_ascii_digit b && not is_zero then goes_on dots true ((b == 48) && not is_in) bs
-    else (b == 46) && is_in && nat_lt dots 2 && goes_on (dots + 1) false false bs
+-- a number: decimal digits, with no zero in front of another
+abbrev pub is_number : Text → Bool
+is_number [] = false
+is_number (b ∷ bs) = (length bs == 0 || not (b == 48)) && list_all is_ascii_digit (b ∷ bs)
+
+-- one to three numbers, with dots between: there is no fourth part
+abbrev pub are_numbers : Text → Bool
+are_numbers text =
+    let parts = slice_split (λ b. b == 46) text in
+    is_none (slice_get parts 3) && list_all is_number parts
 
 -- of the version of Rust. Cargo takes one with spaces around, too, and no number above 64 bits
 abbrev pub rust_refusal : Option (Inheritable Text) → Option Refusal
 rust_refusal None = None
 rust_refusal (Some Inherited) = Some (fault.Incomplete, codes "rust-version")
-rust_refusal (Some (Set text)) = refuse_if (not (goes_on 0 false false text)) fault.OddRust text
+rust_refusal (Some (Set text)) = refuse_if (not (are_numbers text)) fault.OddRust text
 
 -- a name is that of the registry with this address
 abbrev pub is_named : Text → List (Text × Text) → Text → Bool

@@ -181,7 +181,7 @@ unversioned_refusal Normal key = Some (fault.NoRequirement, key)
 unversioned_refusal Build key = Some (fault.NoRequirement, key)
 unversioned_refusal Dev key = None
 
--- of a dependency, which stands under its key
+-- the refusal of a dependency, which stands under its key
 abbrev pub entry_refusal : List (Text × Text) → DependencyTable → Text × DependencyMeaning
     → Option Refusal
 entry_refusal names t e =
@@ -201,7 +201,7 @@ table_refusal names t =
 abbrev pub in_package : Text → Members → Option Data
 in_package key ms = option_and_then (get_member key) (table_in (codes "package") ms)
 
--- of the version. One that isn't written reads as 0.0.0
+-- the refusal of the version. One that isn't written reads as 0.0.0
 abbrev pub version_refusal : Members → Inheritable Parts → Option Refusal
 version_refusal document Inherited = Some (fault.Incomplete, codes "version")
 version_refusal document (Set v) =
@@ -219,7 +219,8 @@ are_numbers text =
     let parts = slice_split (λ b. b == 46) text in
     is_none (slice_get parts 3) && list_all is_number parts
 
--- of the version of Rust. Cargo takes one with spaces around, too, and no number above 64 bits
+-- the refusal of the version of Rust. Cargo takes one with spaces around, too, and no number above
+-- 64 bits
 abbrev pub rust_refusal : Option (Inheritable Text) → Option Refusal
 rust_refusal None = None
 rust_refusal (Some Inherited) = Some (fault.Incomplete, codes "rust-version")
@@ -250,11 +251,12 @@ is_error Error = true
 is_error Hint = false
 is_error Warning = false
 
--- of what lint finds
+-- the refusal of what lint finds
 abbrev pub finding_refusal : Finding → Option Refusal
 finding_refusal x = refuse_if (is_error (code_level x.code)) fault.Features x.feature.now
 
--- what isn't published in the registry, or has features at fault, may be wanted so
+-- the first refusal of a package. What isn't published in the registry, or has features at fault,
+-- may be forced
 abbrev pub package_refusal : {M : Type 0} → Wanted → List Finding → Members
     → List DependencyTable → PackageMeaning M → Option Refusal
 package_refusal w findings document ts p =

@@ -1,4 +1,4 @@
-//! The line of JSON that a registry's index has of a crate, by the rules of Cargo's.
+//! The line of JSON that a registry's index has of a crate, by Cargo's rules.
 ghost use Rattle.std.specs.Prelude.{◌≡◌, ◌⊎◌, IfErr, IfOk, None, OnOk, Some, map, IsErrAnd};
 ghost use Rattle.std.specs.Prelude.{option_and_then, option_map, string_bytes};
 ghost use Rattle.std.specs.Option.{option_copied};

@@ -16,11 +16,11 @@ pub use Rattle.cargo_toml_tools.specs.Sections.{lists_meaning, names_of, refused
 pub use Rattle.cargo_toml_tools.specs.declared.{document.listing.Row.Row, index.refusals.Fault.TheVariants.NoPackage}
 pub use Rattle.serde_json.specs.Data.{Data, Members, number, put, string, unsigned}
 pub use Rattle.serde_json.specs.{View.members_view, View.view, declared.value.Value.Value}
-pub use Rattle.std.proofs.Common.{Bool, Bor, IfOk, IfSome, IsTrue, List, None, Option, Some, [], add-one, ap, append_assoc, ap₂, arith, bytes_eq, codes, drop, drop-cons, false, filter, fold, get_or, if◌then◌else◌, inl, inr, is_some, length, lit<, map, option_map, refl, rules, string_bytes, subst, sym, take, tests, true, ℕ, ◌&&◌, ◌++◌, ◌+◌, ◌<◌, ◌||◌, ◌↔◌, ◌∙◌, ◌∷◌, ◌≡◌, ◌⊎◌}
+pub use Rattle.std.proofs.Common.{Bool, Bor, IfOk, IfSome, IsTrue, List, None, Option, Some, [], add-one, ap, ap₂, arith, bytes_eq, codes, drop, drop-cons, false, filter, fold, get_or, if◌then◌else◌, inl, inr, is_some, length, lit<, map, option_map, refl, rules, string_bytes, subst, sym, take, tests, true, ℕ, ◌&&◌, ◌++◌, ◌+◌, ◌<◌, ◌||◌, ◌↔◌, ◌∙◌, ◌∷◌, ◌≡◌, ◌⊎◌}
 pub use Rattle.std.proofs.lemmas.Bool.{and_from, and_parts, false≢true, or_left, or_right}
 pub use Rattle.std.proofs.lemmas.Result.{IfErr-weaker, IfOk-weaker, err_from_is_err_and, on_ok_weaker}
 pub use Rattle.std.proofs.lemmas.{Fn.filter_same, Iterator.YieldsList-from_slice, Iterator.Consumers.nth_from_yields_List, Iterator.Search.all_from_yields_List, Iterator.Search.any_from_yields_List, Iterator.Splits.YieldsList-from_str_split}
 pub use Rattle.std.proofs.lemmas.{List.append-nil, List.drop_all, List.map-append, List.Concat.flat_map-append, Map.Iter.rest_all, Map.Iter.rest_more, Map.Text.is_eq-slice_cmp}
 pub use Rattle.std.specs.List.{AllByRecursion, flat_map, list_any}
-pub use Rattle.std.specs.{HashMap.HashMap, Map.Iter.TakesFirst, Map.Iter.deref, Option.option_copied, Option.option_map_or, Option.option_or}
+pub use Rattle.std.specs.{HashMap.HashMap, Map.Iter.deref, Option.option_copied, Option.option_map_or, Option.option_or}
 pub use Rattle.toml.specs.View.{table_view}

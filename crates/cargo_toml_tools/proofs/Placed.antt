@@ -1,6 +1,6 @@
 -- Members that are put into an object one after another.
 use Rattle.cargo_toml_tools.proofs.Cited.{[], ◌++◌, ◌∙◌, ◌∷◌, ◌≡◌, ap, arith, asked_is, Bool, Bor, codes, Data, false, feature_rows, if◌then◌else◌, is_extended, List, list_any, lists_object, map, map-append, Members, number, put, refl, sym, Text, true, unsigned, Value, view, with_rows}
-use Rattle.cargo_toml_tools.proofs.Grown.{mapped_left, rest_next, rest_none}
+use Rattle.cargo_toml_tools.proofs.Grown.{nested}
 
 pub with_both : (xs ys : List (Text × Data)) (ms : Members) → with_rows (xs ++ ys) ms ≡ with_rows ys (with_rows xs ms)
 with_both [] ys ms = refl
@@ -23,9 +23,9 @@ put_same key d e a b puts same = puts ∙ ap (λ x. put key x a) same
 -- of an entry, and of all
 pub ruleset wanted = (with_both, asked_is)
 
-pub ruleset listed = (mapped_left, rest_next, rest_none, one_entry)
+pub ruleset listed = (nested, one_entry)
 
-pub ruleset keyed = (mapped_left, rest_next, rest_none, one_key)
+pub ruleset keyed = (nested, one_key)
 
 -- the features, with those of the second version
 pub second_version : (fs : List (Text × List Text)) (a b c d : Members) (x y z : Data) → b ≡ put (codes "features") x a → x ≡ lists_object false fs

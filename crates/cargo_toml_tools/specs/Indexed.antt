@@ -160,11 +160,10 @@ required_version (simple r) = Some r
 required_version (inherited i) = None
 required_version (detailed d) = d.version
 
--- it has a path or a repository, and no version
-abbrev pub lacks_version : DependencyMeaning → Bool
-lacks_version (simple r) = false
-lacks_version (inherited i) = false
-lacks_version (detailed d) = is_none d.version && (is_some d.path || is_some d.git)
+-- a dependency for tests that has a path or a repository, and no version, is left out
+abbrev pub is_left_out : Kind → DependencyMeaning → Bool
+is_left_out Dev (detailed d) = is_none d.version && (is_some d.path || is_some d.git)
+is_left_out kind other = false
 
 -- `default_features`, which Cargo reads as `default-features`, and the library doesn't
 abbrev pub other_flag : Text
@@ -175,12 +174,6 @@ keeps_other_flag (simple r) = false
 keeps_other_flag (inherited i) = false
 keeps_other_flag (detailed d) = list_any (λ e. bytes_eq other_flag e.0) d.unstable
 
--- a dependency that lacks its version is left out, if it is for tests
-abbrev pub unversioned_refusal : Kind → Text → Option Refusal
-unversioned_refusal Normal key = Some (fault.NoRequirement, key)
-unversioned_refusal Build key = Some (fault.NoRequirement, key)
-unversioned_refusal Dev key = None
-
 -- the refusal of a dependency, which stands under its key
 abbrev pub entry_refusal : List (Text × Text) → DependencyTable → Text × DependencyMeaning
     → Option Refusal
@@ -188,7 +181,7 @@ entry_refusal names t e =
     if is_left e.1 then Some (fault.Incomplete, e.0)
     else if is_some (written_flag t.written e.0 other_flag) || keeps_other_flag e.1
     then Some (fault.OtherFlag, e.0)
-    else if lacks_version e.1 then unversioned_refusal t.kind e.0
+    else if is_left_out t.kind e.1 then None
     else if is_none (required_version e.1) then Some (fault.NoRequirement, e.0)
     else refuse_if (is_none (source_of names e.1)) fault.NoAddress e.0
 

@@ -7,7 +7,7 @@ ghost use Rattle.cargo_toml.specs.{Dependencies.dependency_meaning, Inherits.inh
 ghost use Rattle.cargo_toml.specs.{Packages.held_package, Settings.publish_meaning};
 ghost use Rattle.cargo_toml_tools.specs.Indexed.{are_numbers, entry_refusal, finding_refusal};
 ghost use Rattle.cargo_toml_tools.specs.Indexed.{first_refusal, in_package, is_named, is_number};
-ghost use Rattle.cargo_toml_tools.specs.Indexed.{is_open, keeps_other_flag, lacks_version};
+ghost use Rattle.cargo_toml_tools.specs.Indexed.{is_left_out, is_open, keeps_other_flag};
 ghost use Rattle.cargo_toml_tools.specs.Indexed.{package_refusal, publish_refusal, rust_refusal};
 ghost use Rattle.cargo_toml_tools.specs.Indexed.{table_refusal, version_refusal};
 ghost use Rattle.cargo_toml_tools.specs.Sections.{names_of, refused, table_of, wanted_of};
@@ -187,12 +187,8 @@ fn entry_refusal<'a>(
         Some((Fault::Incomplete, key))
     } else if flag_in(section, key, "default_features").is_some() || keeps_other_flag(dependency) {
         Some((Fault::OtherFlag, key))
-    } else if lacks_version(dependency) {
-        // a dev-dependency is left out
-        match section.kind {
-            Kind::Normal | Kind::Build => Some((Fault::NoRequirement, key)),
-            Kind::Dev => None,
-        }
+    } else if is_left_out(section.kind, dependency) {
+        None
     } else if required_version(dependency).is_none() {
         Some((Fault::NoRequirement, key))
     } else {
@@ -211,12 +207,12 @@ fn keeps_other_flag(dependency: &Dependency) -> bool
     }
 }
 
-/// Whether a dependency has a path or a repository, and no version.
-fn lacks_version(dependency: &Dependency) -> bool
-    ensures { result ≡ lacks_version (dependency_meaning dependency.now) }
+/// Whether a dependency is for tests and has a path or a repository, and no version.
+fn is_left_out(kind: Kind, dependency: &Dependency) -> bool
+    ensures { result ≡ is_left_out kind (dependency_meaning dependency.now) }
 {
-    match dependency {
-        Dependency::Detailed(detail) => {
+    match (kind, dependency) {
+        (Kind::Dev, Dependency::Detailed(detail)) => {
             detail.version.is_none() && (detail.path.is_some() || detail.git.is_some())
         }
         _ => false,

@@ -9,8 +9,7 @@ use Rattle.serde_json.specs.Data.{Data, Members, array, boolean, null, put, stri
 use Rattle.serde_json.specs.Data.{object, number, unsigned}
 use Rattle.serde_json.specs.View.{items_of}
 use Rattle.toml.specs.Data.{Members as TomlMembers, as_bool}
-use Rattle.cargo_toml.specs.Dependencies.{DependencyMeaning, simple, inherited, detailed}
-use Rattle.cargo_toml.specs.Dependencies.{is_optional, package_of}
+use Rattle.cargo_toml.specs.Dependencies.{DependencyMeaning, detailed, is_optional, package_of}
 use Rattle.cargo_toml.specs.Kind.TheVariants.{Build, Dev, Normal}
 use Rattle.cargo_toml.specs.{Action.Text, Action.Item, Action.item_of, InheritableValues.value_of}
 use Rattle.cargo_toml.specs.{Packages.PackageMeaning, Kind.Kind, Requirements.requirement_text}
@@ -41,11 +40,10 @@ rows_if key (Some text) = (key, string text) ∷ []
 -- whether the default features are asked for: where the rest is left to a workspace that says
 -- otherwise, what is written of it counts
 abbrev pub has_default : Option TomlMembers → Text → DependencyMeaning → Bool
-has_default table key (simple r) = true
-has_default table key (inherited i) = true
 has_default table key (detailed d) =
     d.default_features
     || unwrap_or (option_and_then as_bool (written_flag table key (codes "default-features"))) false
+has_default table key other = true
 
 abbrev pub kind_text : Kind → Text
 kind_text Normal = codes "normal"

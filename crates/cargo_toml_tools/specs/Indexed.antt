@@ -15,9 +15,8 @@ use Rattle.cargo_toml.specs.{InheritedDependencies.Entries, InheritedDependencie
 use Rattle.cargo_toml.specs.{Manifests.ManifestMeaning, Manifests.is_zero, Action.Text}
 use Rattle.cargo_toml.specs.{Inheritable.Inheritable, Kind.Kind}
 use Rattle.cargo_toml.specs.{Packages.PackageMeaning, Targets.TargetMeaning, Versions.Parts}
-use Rattle.cargo_toml_lint.specs.declared.finding.Level.TheVariants.{Error, Hint, Warning}
 use Rattle.cargo_toml_lint.specs.{Findings.code_level, declared.finding.Finding.Finding}
-use Rattle.cargo_toml_lint.specs.{declared.finding.Level.Level}
+use Rattle.cargo_toml_lint.specs.declared.finding.Level.{Level, TheVariants.Error}
 use Rattle.cargo_toml_tools.specs.declared.index.refusals.Fault.{Fault}
 use Rattle.cargo_toml_tools.specs.declared.index.refusals.Fault.TheVariants as fault
 
@@ -124,9 +123,8 @@ address_of names None None = Some crates_io
 
 -- the address of the index that a dependency is looked for in, where that is known
 abbrev pub source_of : List (Text × Text) → DependencyMeaning → Option Text
-source_of names (simple r) = Some crates_io
-source_of names (inherited i) = Some crates_io
 source_of names (detailed d) = address_of names d.registry_index d.registry
+source_of names other = Some crates_io
 
 -- an address, unless it is the registry's own
 abbrev pub elsewhere : Text → Option Text → Option Text
@@ -170,9 +168,8 @@ abbrev pub other_flag : Text
 other_flag = codes "default_features"
 
 abbrev pub keeps_other_flag : DependencyMeaning → Bool
-keeps_other_flag (simple r) = false
-keeps_other_flag (inherited i) = false
 keeps_other_flag (detailed d) = list_any (λ e. bytes_eq other_flag e.0) d.unstable
+keeps_other_flag other = false
 
 -- the refusal of a dependency, which stands under its key
 abbrev pub entry_refusal : List (Text × Text) → DependencyTable → Text × DependencyMeaning
@@ -241,8 +238,7 @@ publish_refusal w document (Set r) =
 
 abbrev pub is_error : Level → Bool
 is_error Error = true
-is_error Hint = false
-is_error Warning = false
+is_error other = false
 
 -- the refusal of what lint finds
 abbrev pub finding_refusal : Finding → Option Refusal

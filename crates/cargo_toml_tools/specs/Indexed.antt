@@ -52,9 +52,6 @@ table_name Normal = codes "dependencies"
 table_name Dev = codes "dev-dependencies"
 table_name Build = codes "build-dependencies"
 
-abbrev pub section_in : Option Members → Kind → Option Members
-section_in place kind = option_and_then (table_in (table_name kind)) place
-
 -- a name, where something is written under it
 abbrev pub name_in : Text → Members → Option Text
 name_in name ms = option_map (λ d. name) (get_member name ms)
@@ -78,7 +75,7 @@ abbrev pub table_at : Option Text → Option Members → Kind → Entries → De
 table_at target place kind entries = record {
   kind = kind;
   target = target;
-  written = section_in place kind;
+  written = option_and_then (table_in (table_name kind)) place;
   other_name = other_name place kind;
   entries = entries;
 }

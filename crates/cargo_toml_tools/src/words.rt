@@ -218,8 +218,8 @@ fn strings<'a>(
     Vec::from_slice(alloc, matches.get_strs(name).unwrap_or(&[]))
 }
 
-/// Whether the text is a SHA-256 as an index writes it.
-fn is_checksum(text: &str) -> bool {
+/// Whether the text is a SHA-256 as an index writes it: 64 hex digits in lower case.
+pub fn is_checksum(text: &str) -> bool {
     let is_digit = |byte: u8| matches!(byte, b'0'..=b'9' | b'a'..=b'f');
     text.len() == 64 && text.bytes().all(is_digit)
 }

@@ -1,5 +1,5 @@
+pub mod Cited
 pub mod Placed
 pub mod Grown
-pub mod Told
 pub mod Reaching
 pub mod Rowed

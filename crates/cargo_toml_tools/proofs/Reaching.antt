@@ -1,10 +1,5 @@
 -- What all features of some names do to dependencies.
-use Rattle.{std.proofs.lemmas.Bool.false≢true, std.proofs.lemmas.Bool.or_left, std.proofs.lemmas.Bool.or_right, std.proofs.lemmas.Map.Text.is_eq-slice_cmp}
-use Rattle.{std.specs.HashMap.HashMap, cargo_toml.specs.Feature.Feature, cargo_toml.specs.Views.table_in, cargo_toml_graph.proofs.Texts.bytes_eq_refl}
-use Rattle.std.proofs.Common.{[], ◌∙◌, ◌∷◌, ◌≡◌, ◌⊎◌, Bor, IsTrue, List, None, Option, Some, ap, fold, inl, inr, subst, sym}
-use Rattle.cargo_toml.specs.Action.{Action, IsJoin, Text, join_option}
-use Rattle.cargo_toml_graph.proofs.Joins.{join_alike, join_halves, join_one}
-use Rattle.{cargo_toml_lint.proofs.Gathered.at_head, cargo_toml_lint.proofs.Gathered.has_in, cargo_toml_tools.specs.Documented.ActsOf}
+use Rattle.cargo_toml_tools.proofs.Cited.{[], ◌∙◌, ◌∷◌, ◌≡◌, ◌⊎◌, Action, ActsOf, ap, at_head, Bor, bytes_eq_refl, false≢true, Feature, fold, has_in, HashMap, inl, inr, is_eq-slice_cmp, IsJoin, IsTrue, join_alike, join_halves, join_one, join_option, List, None, Option, or_left, or_right, Some, subst, sym, table_in, Text}
 
 module _ {S : Type 0} (m : HashMap (Bor Text) Feature S) (k : Text) where
   -- what the features of these names do to the dependency, joined to more

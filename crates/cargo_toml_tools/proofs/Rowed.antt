@@ -1,10 +1,5 @@
 -- The rows of the features that are told of, with the names that are left.
-use Rattle.std.proofs.Common.{arith, ◌≡◌, ◌↔◌, ◌++◌, ◌∙◌, Bool, Bor, IfSome, IsTrue, List, [], ◌∷◌, None, Some, ap, is_some, map, subst, sym}
-use Rattle.std.proofs.lemmas.List.{append-nil, map-append}
-use Rattle.std.specs.{HashMap.HashMap, List.AllByRecursion, Prelude.filter}
-use Rattle.cargo_toml.specs.{Action.Text, Ascending.Ascend, Feature.Feature, Graph.Table, Reach.Among, Views.table_in, Views.value_at}
-use Rattle.cargo_toml_graph.proofs.Filtered.{filter_next, filter_past, those_among, those_ascend}
-use Rattle.cargo_toml_tools.specs.{Documented.AreRows, Documented.IsRowOf, Documented.told_at, declared.document.listing.Row.Row}
+use Rattle.cargo_toml_tools.proofs.Cited.{[], ◌++◌, ◌↔◌, ◌∙◌, ◌∷◌, ◌≡◌, AllByRecursion, Among, ap, append-nil, AreRows, arith, Ascend, Bool, Bor, Feature, filter, filter_next, filter_past, HashMap, IfSome, is_some, IsRowOf, IsTrue, List, map, map-append, None, Row, Some, subst, sym, Table, table_in, Text, those_among, those_ascend, told_at, value_at}
 
 module _ {S : Type 0} (t : Table) (m : HashMap (Bor Text) Feature S) (has_default : Bool) where
   abbrev told : Text → Bool

@@ -26,7 +26,7 @@ told_at m has_default f = option_and_then
     (λ v. if not (is_internal v) && (has_default || not (bytes_eq v.key.now (codes "default")))
     then Some v else None) (value_at m f)
 
--- some feature of these acts so on the dependency k
+-- some feature g, for which `Of g` holds, does a to the dependency k
 abbrev pub ActsOf : {S : Type 0} → HashMap (Bor Text) Feature S → (Text → Type 0) → Text → Action
     → Type 0
 ActsOf m Of k a = (g : Text) × Of g × ((table_in m).action g k ≡ Some a)

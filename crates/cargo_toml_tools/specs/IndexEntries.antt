@@ -2,22 +2,21 @@
 -- what it holds of its features.
 use Rattle.std.specs.Prelude.{List, [], ◌∷◌, Option, Some, None, false, codes, map, option_and_then}
 use Rattle.std.specs.Prelude.{option_map, ◌++◌, ◌||◌, Bool, true, if◌then◌else◌, unwrap_or}
-use Rattle.std.specs.Prelude.{bytes_eq, filter}
-use Rattle.std.specs.List.{flat_map, list_any}
+use Rattle.std.specs.Prelude.{bytes_eq, filter, is_some}
+use Rattle.std.specs.{List.flat_map, List.list_any, Option.option_map_or}
 use Rattle.semver.specs.{Identifiers.parts_text, Parse.Held}
 use Rattle.serde_json.specs.Data.{Data, Members, array, boolean, null, put, string, no_members}
 use Rattle.serde_json.specs.Data.{object, number, unsigned}
 use Rattle.serde_json.specs.View.{items_of}
 use Rattle.toml.specs.Data.{Members as TomlMembers, as_bool}
-use Rattle.cargo_toml.specs.Dependencies.{DependencyMeaning, simple, inherited, detailed}
-use Rattle.cargo_toml.specs.Dependencies.{is_optional, package_of}
+use Rattle.cargo_toml.specs.Dependencies.{DependencyMeaning, detailed, is_optional, package_of}
 use Rattle.cargo_toml.specs.Kind.TheVariants.{Build, Dev, Normal}
 use Rattle.cargo_toml.specs.{Action.Text, Action.Item, Action.item_of, InheritableValues.value_of}
 use Rattle.cargo_toml.specs.{Packages.PackageMeaning, Kind.Kind, Requirements.requirement_text}
 use Rattle.cargo_toml.specs.{Action.Item.Name, Action.Item.On, Manifests.ManifestMeaning}
 use Rattle.cargo_toml_lint.specs.Findings.{asked_of}
-use Rattle.cargo_toml_tools.specs.Indexed.{DependencyTable, Wanted, elsewhere, lacks_version}
-use Rattle.cargo_toml_tools.specs.Indexed.{source_of, written_flag, dependency_tables, written}
+use Rattle.cargo_toml_tools.specs.Indexed.{DependencyTable, Wanted, dependency_tables, elsewhere}
+use Rattle.cargo_toml_tools.specs.Indexed.{source_of, written, written_flag}
 pub use Rattle.cargo_toml_tools.specs.Indexed.{required_version}
 
 -- an object with each of these members put in its place, in byte order of their names
@@ -38,31 +37,27 @@ abbrev pub rows_if : Text → Option Text → List (Text × Data)
 rows_if key None = []
 rows_if key (Some text) = (key, string text) ∷ []
 
--- how the requirement on the version is written
-abbrev pub req_text : Option (List Held) → Text
-req_text None = codes "*"
-req_text (Some r) = requirement_text r
-
 -- whether the default features are asked for: where the rest is left to a workspace that says
 -- otherwise, what is written of it counts
 abbrev pub has_default : Option TomlMembers → Text → DependencyMeaning → Bool
-has_default table key (simple r) = true
-has_default table key (inherited i) = true
 has_default table key (detailed d) =
     d.default_features
     || unwrap_or (option_and_then as_bool (written_flag table key (codes "default-features"))) false
+has_default table key other = true
 
 abbrev pub kind_text : Kind → Text
 kind_text Normal = codes "normal"
 kind_text Build = codes "build"
 kind_text Dev = codes "dev"
 
--- all members of the entry of a dependency, under its key: `package` where it states the name of
--- the crate. `registry` is there where the dependency is of another one
-abbrev pub index_rows : Wanted → DependencyTable → Text × DependencyMeaning → List (Text × Data)
-index_rows w t e =
+-- all members of the entry of a dependency with this requirement on the version, under its key:
+-- `package` where it states the name of the crate. `registry` is there where the dependency is of
+-- another one
+abbrev pub index_rows : Wanted → DependencyTable → Text × DependencyMeaning → List Held
+    → List (Text × Data)
+index_rows w t e r =
     (codes "name", string e.0)
-    ∷ (codes "req", string (req_text (required_version e.1)))
+    ∷ (codes "req", string (requirement_text r))
     ∷ (codes "features", text_array (asked_of e.1))
     ∷ (codes "optional", boolean (is_optional e.1))
     ∷ (codes "default_features", boolean (has_default t.written e.0 e.1))
@@ -70,19 +65,20 @@ index_rows w t e =
     ++ ((codes "target", text_or_null t.target) ∷ (codes "kind", string (kind_text t.kind))
     ∷ (codes "registry", text_or_null (elsewhere w.registry (source_of w.names e.1))) ∷ []))
 
--- the entry, unless the dependency has a path or a repository and no version: it is for tests then
+-- the entry of a dependency with a requirement on the version. One without, which an index takes
+-- only where it is for tests, is left out
 abbrev pub index_entries : Wanted → DependencyTable → Text × DependencyMeaning → List Data
-index_entries w t e =
-    if lacks_version e.1 then [] else object (with_rows (index_rows w t e) no_members) ∷ []
+index_entries w t e = option_map_or
+    (λ r. object (with_rows (index_rows w t e r) no_members) ∷ []) (required_version e.1) []
 
 abbrev pub table_entries : Wanted → DependencyTable → List Data
 table_entries w t = flat_map (index_entries w t) t.entries
 
 -- ---- what stays of the lists
 
--- the keys of the dependencies that aren't left out
+-- the keys of the dependencies that have an entry
 abbrev pub key_if : Text × DependencyMeaning → List Text
-key_if e = if lacks_version e.1 then [] else e.0 ∷ []
+key_if e = if is_some (required_version e.1) then e.0 ∷ [] else []
 
 abbrev pub table_keys : DependencyTable → List Text
 table_keys t = flat_map key_if t.entries
@@ -144,10 +140,7 @@ line_data w ts features p = object (with_rows
     ∷ (feature_rows (kept_lists (stays ts) features)
     ++ rows_if (codes "cksum") w.checksum)) no_members)
 
--- that of a manifest, which was read from the document, or from the text
-abbrev pub data_in : {M : Type 0} → Wanted → TomlMembers → ManifestMeaning M → Option Data
-data_in w document m =
-    option_map (line_data w (dependency_tables document m) m.features) m.«package»
-
+-- that of a manifest, which was read from the text
 abbrev pub index_data : {M : Type 0} → Wanted → Text → ManifestMeaning M → Option Data
-index_data w text m = data_in w (written text) m
+index_data w text m =
+    option_map (line_data w (dependency_tables (written text) m) m.features) m.«package»

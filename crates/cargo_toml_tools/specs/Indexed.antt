@@ -1,9 +1,9 @@
 -- Which crates an index takes, and what it refuses of others.
 use Rattle.std.specs.Prelude.{◌++◌, ◌&&◌, ◌||◌, Bool, true, false, if◌then◌else◌, not, List, []}
 use Rattle.std.specs.Prelude.{◌∷◌, Option, Some, None, is_none, is_some, map, bytes_eq, codes}
-use Rattle.std.specs.Prelude.{ℕ, ◌+◌, ◌==◌, nat_lt, option_and_then, option_map, unwrap_or}
-use Rattle.std.specs.Char.{is_ascii_digit}
-use Rattle.std.specs.{List.flat_map, List.list_any, Option.option_map_or, Option.option_or}
+use Rattle.std.specs.Prelude.{◌==◌, length, option_and_then, option_map, slice_get, unwrap_or}
+use Rattle.std.specs.List.{flat_map, list_all, list_any, slice_split}
+use Rattle.std.specs.{Char.is_ascii_digit, Option.option_map_or, Option.option_or}
 use Rattle.semver.specs.Parse.{Held}
 use Rattle.toml.specs.Data.{Data, Members, as_bool, as_table, get_member, no_members}
 use Rattle.toml.specs.Parse.{parse_document}
@@ -15,9 +15,8 @@ use Rattle.cargo_toml.specs.{InheritedDependencies.Entries, InheritedDependencie
 use Rattle.cargo_toml.specs.{Manifests.ManifestMeaning, Manifests.is_zero, Action.Text}
 use Rattle.cargo_toml.specs.{Inheritable.Inheritable, Kind.Kind}
 use Rattle.cargo_toml.specs.{Packages.PackageMeaning, Targets.TargetMeaning, Versions.Parts}
-use Rattle.cargo_toml_lint.specs.declared.finding.Level.TheVariants.{Error, Hint, Warning}
 use Rattle.cargo_toml_lint.specs.{Findings.code_level, declared.finding.Finding.Finding}
-use Rattle.cargo_toml_lint.specs.{declared.finding.Level.Level}
+use Rattle.cargo_toml_lint.specs.declared.finding.Level.{Level, TheVariants.Error}
 use Rattle.cargo_toml_tools.specs.declared.index.refusals.Fault.{Fault}
 use Rattle.cargo_toml_tools.specs.declared.index.refusals.Fault.TheVariants as fault
 
@@ -36,7 +35,7 @@ all_by_kind m =
     with_kinds m.dependencies m.dev_dependencies m.build_dependencies
     ++ flat_map (λ t. target_by_kind t.1) m.target
 
--- the document that a text is
+-- the document that a text is, and an empty one where it is none
 abbrev pub written : Text → Members
 written text = unwrap_or (parse_document text) no_members
 
@@ -52,9 +51,6 @@ abbrev pub table_name : Kind → Text
 table_name Normal = codes "dependencies"
 table_name Dev = codes "dev-dependencies"
 table_name Build = codes "build-dependencies"
-
-abbrev pub section_in : Option Members → Kind → Option Members
-section_in place kind = option_and_then (table_in (table_name kind)) place
 
 -- a name, where something is written under it
 abbrev pub name_in : Text → Members → Option Text
@@ -79,7 +75,7 @@ abbrev pub table_at : Option Text → Option Members → Kind → Entries → De
 table_at target place kind entries = record {
   kind = kind;
   target = target;
-  written = section_in place kind;
+  written = option_and_then (table_in (table_name kind)) place;
   other_name = other_name place kind;
   entries = entries;
 }
@@ -124,9 +120,8 @@ address_of names None None = Some crates_io
 
 -- the address of the index that a dependency is looked for in, where that is known
 abbrev pub source_of : List (Text × Text) → DependencyMeaning → Option Text
-source_of names (simple r) = Some crates_io
-source_of names (inherited i) = Some crates_io
 source_of names (detailed d) = address_of names d.registry_index d.registry
+source_of names other = Some crates_io
 
 -- an address, unless it is the registry's own
 abbrev pub elsewhere : Text → Option Text → Option Text
@@ -160,35 +155,27 @@ required_version (simple r) = Some r
 required_version (inherited i) = None
 required_version (detailed d) = d.version
 
--- it has a path or a repository, and no version
-abbrev pub lacks_version : DependencyMeaning → Bool
-lacks_version (simple r) = false
-lacks_version (inherited i) = false
-lacks_version (detailed d) = is_none d.version && (is_some d.path || is_some d.git)
+-- a dependency for tests that has a path or a repository, and no version, is left out
+abbrev pub is_left_out : Kind → DependencyMeaning → Bool
+is_left_out Dev (detailed d) = is_none d.version && (is_some d.path || is_some d.git)
+is_left_out kind other = false
 
 -- `default_features`, which Cargo reads as `default-features`, and the library doesn't
 abbrev pub other_flag : Text
 other_flag = codes "default_features"
 
 abbrev pub keeps_other_flag : DependencyMeaning → Bool
-keeps_other_flag (simple r) = false
-keeps_other_flag (inherited i) = false
 keeps_other_flag (detailed d) = list_any (λ e. bytes_eq other_flag e.0) d.unstable
+keeps_other_flag other = false
 
--- a dependency that lacks its version is left out, if it is for tests
-abbrev pub unversioned_refusal : Kind → Text → Option Refusal
-unversioned_refusal Normal key = Some (fault.NoRequirement, key)
-unversioned_refusal Build key = Some (fault.NoRequirement, key)
-unversioned_refusal Dev key = None
-
--- of a dependency, which stands under its key
+-- the refusal of a dependency, which stands under its key
 abbrev pub entry_refusal : List (Text × Text) → DependencyTable → Text × DependencyMeaning
     → Option Refusal
 entry_refusal names t e =
     if is_left e.1 then Some (fault.Incomplete, e.0)
     else if is_some (written_flag t.written e.0 other_flag) || keeps_other_flag e.1
     then Some (fault.OtherFlag, e.0)
-    else if lacks_version e.1 then unversioned_refusal t.kind e.0
+    else if is_left_out t.kind e.1 then None
     else if is_none (required_version e.1) then Some (fault.NoRequirement, e.0)
     else refuse_if (is_none (source_of names e.1)) fault.NoAddress e.0
 
@@ -201,26 +188,30 @@ table_refusal names t =
 abbrev pub in_package : Text → Members → Option Data
 in_package key ms = option_and_then (get_member key) (table_in (codes "package") ms)
 
--- of the version. One that isn't written reads as 0.0.0
+-- the refusal of the version. One that isn't written reads as 0.0.0
 abbrev pub version_refusal : Members → Inheritable Parts → Option Refusal
 version_refusal document Inherited = Some (fault.Incomplete, codes "version")
 version_refusal document (Set v) =
     refuse_if (is_zero (Set v) && is_none (in_package (codes "version") document))
     fault.NoVersion []
 
--- the text goes on as one to three numbers, with dots between and no zeros in front: so many dots
--- were there, then a digit or none, and that is a zero in front or not
-abbrev pub goes_on : ℕ → Bool → Bool → Text → Bool
-goes_on dots is_in is_zero [] = is_in
-goes_on dots is_in is_zero (b ∷ bs) =
-    if is_ascii_digit b && not is_zero then goes_on dots true ((b == 48) && not is_in) bs
-    else (b == 46) && is_in && nat_lt dots 2 && goes_on (dots + 1) false false bs
+-- a number: decimal digits, with no zero in front of another
+abbrev pub is_number : Text → Bool
+is_number [] = false
+is_number (b ∷ bs) = (length bs == 0 || not (b == 48)) && list_all is_ascii_digit (b ∷ bs)
 
--- of the version of Rust. Cargo takes one with spaces around, too, and no number above 64 bits
+-- one to three numbers, with dots between: there is no fourth part
+abbrev pub are_numbers : Text → Bool
+are_numbers text =
+    let parts = slice_split (λ b. b == 46) text in
+    is_none (slice_get parts 3) && list_all is_number parts
+
+-- the refusal of the version of Rust. Cargo takes one with spaces around, too, and no number above
+-- 64 bits
 abbrev pub rust_refusal : Option (Inheritable Text) → Option Refusal
 rust_refusal None = None
 rust_refusal (Some Inherited) = Some (fault.Incomplete, codes "rust-version")
-rust_refusal (Some (Set text)) = refuse_if (not (goes_on 0 false false text)) fault.OddRust text
+rust_refusal (Some (Set text)) = refuse_if (not (are_numbers text)) fault.OddRust text
 
 -- a name is that of the registry with this address
 abbrev pub is_named : Text → List (Text × Text) → Text → Bool
@@ -244,14 +235,14 @@ publish_refusal w document (Set r) =
 
 abbrev pub is_error : Level → Bool
 is_error Error = true
-is_error Hint = false
-is_error Warning = false
+is_error other = false
 
--- of what lint finds
+-- the refusal of what lint finds
 abbrev pub finding_refusal : Finding → Option Refusal
 finding_refusal x = refuse_if (is_error (code_level x.code)) fault.Features x.feature.now
 
--- what isn't published in the registry, or has features at fault, may be wanted so
+-- the first refusal of a package. What isn't published in the registry, or has features at fault,
+-- may be forced
 abbrev pub package_refusal : {M : Type 0} → Wanted → List Finding → Members
     → List DependencyTable → PackageMeaning M → Option Refusal
 package_refusal w findings document ts p =
@@ -262,15 +253,10 @@ package_refusal w findings document ts p =
     (if w.force then None
     else option_or (publish_refusal w document p.publish) (first_refusal finding_refusal findings))
 
--- why an index doesn't take the crate of a manifest, which was read from the document, where lint
--- finds this of it; `None` where it takes it
-abbrev pub refusal_in : {M : Type 0} → Wanted → List Finding → Members → ManifestMeaning M
-    → Option Refusal
-refusal_in w findings document m = option_map_or
-    (package_refusal w findings document (dependency_tables document m))
-    m.«package» (Some (fault.NoPackage, []))
-
--- the same of one that was read from the text
+-- why an index doesn't take the crate of a manifest, which was read from the text, where lint finds
+-- this of it; `None` where it takes it
 abbrev pub refusal_of : {M : Type 0} → Wanted → List Finding → Text → ManifestMeaning M
     → Option Refusal
-refusal_of w findings text m = refusal_in w findings (written text) m
+refusal_of w findings text m = option_map_or
+    (package_refusal w findings (written text) (dependency_tables (written text) m))
+    m.«package» (Some (fault.NoPackage, []))

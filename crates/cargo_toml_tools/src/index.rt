@@ -1,4 +1,4 @@
-//! The line of JSON that a registry's index has of a crate, by the rules of Cargo's.
+//! The line of JSON that a registry's index has of a crate, by Cargo's rules.
 ghost use Rattle.std.specs.Prelude.{◌≡◌, ◌⊎◌, IfErr, IfOk, None, OnOk, Some, map, IsErrAnd};
 ghost use Rattle.std.specs.Prelude.{option_and_then, option_map, string_bytes};
 ghost use Rattle.std.specs.Option.{option_copied};
@@ -8,8 +8,8 @@ ghost use Rattle.toml.specs.View.{table_view};
 ghost use Rattle.cargo_toml.specs.{InheritableValues.value_of, Inherits.inheritable_map};
 ghost use Rattle.cargo_toml.specs.{Manifests.held, Packages.held_package};
 ghost use Rattle.cargo_toml_tools.specs.declared.index.IndexError.TheVariants.{Memory};
-ghost use Rattle.cargo_toml_tools.specs.Indexed.{refusal_in, refusal_of, written};
-ghost use Rattle.cargo_toml_tools.specs.IndexEntries.{data_in, index_data, line_data};
+ghost use Rattle.cargo_toml_tools.specs.Indexed.{refusal_of, written};
+ghost use Rattle.cargo_toml_tools.specs.IndexEntries.{index_data, line_data};
 ghost use Rattle.cargo_toml_tools.specs.Sections.{lists_meaning, refused, table_of, told};
 ghost use Rattle.cargo_toml_tools.specs.Sections.{wanted_of};
 
@@ -109,37 +109,19 @@ pub fn index_entry<M>(
     ensures entry { IfOk result (λ value. Some (view value)
         ≡ index_data (wanted_of options.entry) text.now (held manifest.now)) }
 {
-    let document = document_of(alloc, text)?;
-    entry_of(alloc, manifest, &document, findings, options)
-}
-
-/// The same of the document that the manifest was read from.
-pub(crate) fn entry_of<M>(
-    alloc: Global,
-    manifest: &Manifest<M>,
-    document: &Table,
-    findings: &[Finding<'_>],
-    options: Options<'_>,
-) -> Result<Value, IndexError>
-    ensures taken { OnOk result (refusal_in (wanted_of options.entry) findings.now
-        (table_view document.now) (held manifest.now) ≡ None) }
-    ensures refused { IfErr result (λ e. (e ≡ Memory) ⊎ (told e ≡ refusal_in
-        (wanted_of options.entry) findings.now (table_view document.now) (held manifest.now))) }
-    ensures entry { IfOk result (λ value. Some (view value)
-        ≡ data_in (wanted_of options.entry) (table_view document.now) (held manifest.now)) }
-{
     let Some(package) = &manifest.package else {
         return refuse(alloc, (Fault::NoPackage, ""));
     };
-    let sections = sections(alloc, manifest, document)?;
+    let document = document_of(alloc, text)?;
+    let sections = sections(alloc, manifest, &document)?;
     let sections = sections.as_slice();
-    if let Some(refusal) = package_refusal(package, document, sections, findings, options) {
+    if let Some(refusal) = package_refusal(package, &document, sections, findings, options) {
         return refuse(alloc, refusal);
     }
     Ok(line_of(alloc, package, sections, &manifest.features, options)?)
 }
 
-/// The document that the manifest was read from.
+/// The document that a text is, and an empty one where it is none.
 fn document_of(alloc: Global, text: &str) -> Result<Table, AllocError>
     ensures { IfOk result (λ table. table_view table ≡ written text.now) }
 {

@@ -15,4 +15,4 @@ pub mod json;
 pub mod requirement;
 mod words;
 
-pub use words::{Inputs, Judging, Outcome, Request, Wanted, read_request};
+pub use words::{Inputs, Judging, Outcome, Request, Wanted, is_checksum, read_request};

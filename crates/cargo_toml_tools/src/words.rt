@@ -13,7 +13,7 @@ use std::alloc::{AllocError, Global};
 pub enum Request<'a> {
     /// What keeps these manifests from being read and completed.
     Check(Inputs<'a>),
-    /// These manifests once they are completed, as JSON or as TOML.
+    /// These manifests once they are completed: as JSON where that is set, else as TOML.
     Show(Inputs<'a>, bool),
     /// The features of these manifests.
     Features(Inputs<'a>),
@@ -21,9 +21,9 @@ pub enum Request<'a> {
     Index(Inputs<'a>, Wanted<'a>),
     /// What is amiss with these crates' features.
     Lint(Inputs<'a>, Judging<'a>),
-    /// The report on the workspace in this folder, as JSON or as lines.
+    /// The report on the workspace in this folder: as JSON where that is set, else as lines.
     Audit(&'a str, bool),
-    /// What is documented of these crates' features, as a graph or as a page.
+    /// What is documented of these crates' features: as a graph where that is set, else as a page.
     Document(Inputs<'a>, bool),
     /// A text that is asked for, as the help.
     Text(String),
@@ -45,12 +45,17 @@ pub struct Inputs<'a> {
 /// Which lines of an index are asked for, and where to.
 #[derive(Debug, Drop)]
 pub struct Wanted<'a> {
+    /// The address of the index of the registry that the lines are for.
     pub registry: &'a str,
+    /// What registries are called, each with the address of its index.
     pub names: Vec<Named<'a>>,
+    /// The checksum of the only crate.
     pub checksum: Option<&'a str>,
     /// The file of checksums.
     pub checksums: Option<&'a str>,
+    /// Whether what isn't published, or has errors by lint, has a line too.
     pub force: bool,
+    /// Whether its file and a tab stand before each line.
     pub with_names: bool,
     /// The folder of the index.
     pub layout: Option<&'a str>,
@@ -213,8 +218,8 @@ fn strings<'a>(
     Vec::from_slice(alloc, matches.get_strs(name).unwrap_or(&[]))
 }
 
-/// Whether the text is a SHA-256 as an index writes it.
-fn is_checksum(text: &str) -> bool {
+/// Whether the text is a SHA-256 as an index writes it: 64 hex digits in lower case.
+pub fn is_checksum(text: &str) -> bool {
     let is_digit = |byte: u8| matches!(byte, b'0'..=b'9' | b'a'..=b'f');
     text.len() == 64 && text.bytes().all(is_digit)
 }

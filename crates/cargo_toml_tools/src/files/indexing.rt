@@ -21,7 +21,7 @@ use std::rt::Files;
 pub enum Fault {
     /// Its manifest doesn't read or complete.
     Manifest(Error),
-    /// Its manifest has what no index takes.
+    /// The index doesn't take the crate.
     Index(IndexError),
 }
 
@@ -72,8 +72,8 @@ pub struct Indexed {
 
 /// The line that an index has of the crate in this text of a file, which is completed first: an
 /// object of JSON. Its checksum is the one that is asked for, or else that of `NAME-VERSION.crate`
-/// among these. Refused where the text doesn't read or complete as a manifest, or has what no index
-/// takes.
+/// among these. Refused where the text doesn't read or complete as a manifest, or the index doesn't
+/// take the crate.
 pub fn index_of<R: Files + RandomSource + AllocGlobal>(
     rt: &R,
     file: &str,

@@ -1,14 +1,13 @@
 //! The entries that an index has of a crate's dependencies.
-ghost use Rattle.std.specs.Prelude.{◌≡◌, [], IfOk, map, string_bytes};
+ghost use Rattle.std.specs.Prelude.{◌≡◌, [], IfOk, map};
 ghost use Rattle.std.specs.List.{flat_map};
 ghost use Rattle.serde_json.specs.View.{members_view, view};
-ghost use Rattle.cargo_toml.specs.Dependencies.{dependency_meaning};
-ghost use Rattle.cargo_toml_tools.specs.IndexEntries.{has_default, index_rows, kind_text, req_text};
-ghost use Rattle.cargo_toml_tools.specs.IndexEntries.{required_version, table_entries, with_rows};
+ghost use Rattle.cargo_toml.specs.{Dependencies.dependency_meaning, Versions.requirement_meaning};
+ghost use Rattle.cargo_toml_tools.specs.IndexEntries.{has_default, index_rows, kind_text};
+ghost use Rattle.cargo_toml_tools.specs.IndexEntries.{table_entries, with_rows};
 ghost use Rattle.cargo_toml_tools.specs.Sections.{table_of, wanted_of};
 
 use super::Options;
-use super::refusals::lacks_version;
 use super::registries::{elsewhere, source_of};
 use super::sections::{Section, flag_in};
 use crate::json::{put_text, put_text_if, put_texts};
@@ -16,12 +15,13 @@ use crate::requirement::required_version;
 use cargo_toml::Dependency;
 use cargo_toml::features::Kind;
 use cargo_toml_write::write::requirement::requirement_text;
+use semver::VersionReq;
 use serde_json::{Map, Value, push, put};
 use std::alloc::{AllocError, Global};
 use toml::Value as Written;
 
-/// The entries of all dependencies. One with a path or a repository and no version has none: it is
-/// for tests.
+/// The entries of all dependencies with a requirement on the version. One without, which an index
+/// takes only where it is for tests, is left out.
 #[tactic(auto, using(crate::proofs::Placed::listed))]
 pub(super) fn entries(
     alloc: Global,
@@ -34,17 +34,17 @@ pub(super) fn entries(
     let mut entries = Vec::new(alloc);
     for section in sections {
         for (key, dependency) in section.entries {
-            if lacks_version(dependency) {
+            let Some(version) = required_version(dependency) else {
                 continue;
-            }
-            let entry = entry(alloc, options, section, key.as_str(), dependency)?;
+            };
+            let entry = entry(alloc, options, section, key.as_str(), dependency, version)?;
             push(&mut entries, Value::from(entry))?;
         }
     }
     Ok(entries)
 }
 
-/// The entry of a dependency.
+/// The entry of a dependency with this requirement on the version.
 #[tactic(auto, using(crate::proofs::Placed::wanted))]
 fn entry(
     alloc: Global,
@@ -52,12 +52,14 @@ fn entry(
     section: &Section<'_>,
     key: &str,
     dependency: &Dependency,
+    version: &VersionReq,
 ) -> Result<Map<String, Value>, AllocError>
     ensures { IfOk result (λ entry. members_view entry.entries
         ≡ with_rows (index_rows (wanted_of options.entry) (table_of section.now)
-        (key.now, dependency_meaning dependency.now)) (members_view [])) }
+        (key.now, dependency_meaning dependency.now) (requirement_meaning version.now))
+        (members_view [])) }
 {
-    let requirement = requirement(alloc, dependency)?;
+    let requirement = requirement_text(alloc, version)?;
     let optional = Value::from(dependency.optional());
     let has_default = Value::from(has_default(section, key, dependency));
     let mut entry = Map::new(alloc);
@@ -72,17 +74,6 @@ fn entry(
     let registry = elsewhere(options.registry, source_of(options.names, dependency));
     put_text(alloc, &mut entry, "registry", registry)?;
     Ok(entry)
-}
-
-/// The requirement on the version, as the index has it: `*` is any.
-fn requirement(alloc: Global, dependency: &Dependency) -> Result<String, AllocError>
-    ensures { IfOk result (λ text. string_bytes text
-        ≡ req_text (required_version (dependency_meaning dependency.now))) }
-{
-    match required_version(dependency) {
-        Some(requirement) => requirement_text(alloc, requirement),
-        None => String::from_str(alloc, "*"),
-    }
 }
 
 /// Whether a dependency's default features are on: an entry may say so where it leaves the rest to

@@ -7,9 +7,9 @@ ghost use Rattle.cargo_toml_tools.specs.IndexEntries.{feature_rows, is_extended,
 ghost use Rattle.cargo_toml_tools.specs.IndexEntries.{kept_lists, list_rows, stays, with_rows};
 ghost use Rattle.cargo_toml_tools.specs.Sections.{lists_meaning, table_of};
 
-use super::refusals::lacks_version;
 use super::sections::Section;
 use crate::json::array;
+use crate::requirement::required_version;
 use cargo_toml::FeatureSet;
 use cargo_toml_features::action::read_action;
 use cargo_toml_features::sets::set_of;
@@ -111,7 +111,7 @@ fn kept_keys<'a>(
     let mut keys = Vec::new(alloc);
     for section in sections {
         for (key, dependency) in section.entries {
-            if !lacks_version(dependency) {
+            if required_version(dependency).is_some() {
                 keys.push(key.as_str())?;
             }
         }

@@ -1,15 +1,15 @@
 //! What an index refuses.
-ghost use Rattle.std.specs.Prelude.{◌≡◌, false, map, option_map, string_bytes};
-ghost use Rattle.std.specs.List.{list_any};
+ghost use Rattle.std.specs.Prelude.{◌≡◌, map, option_map, string_bytes};
+ghost use Rattle.std.specs.{Char.is_ascii_digit, List.list_all, List.list_any};
 ghost use Rattle.semver.specs.Identifiers.{parts_of};
 ghost use Rattle.toml.specs.View.{table_view, view};
 ghost use Rattle.cargo_toml.specs.{Dependencies.dependency_meaning, Inherits.inheritable_map};
 ghost use Rattle.cargo_toml.specs.{Packages.held_package, Settings.publish_meaning};
-ghost use Rattle.cargo_toml_tools.specs.Indexed.{entry_refusal, finding_refusal, first_refusal};
-ghost use Rattle.cargo_toml_tools.specs.Indexed.{goes_on, in_package, is_named, is_open};
-ghost use Rattle.cargo_toml_tools.specs.Indexed.{keeps_other_flag, lacks_version, package_refusal};
-ghost use Rattle.cargo_toml_tools.specs.Indexed.{publish_refusal, rust_refusal, table_refusal};
-ghost use Rattle.cargo_toml_tools.specs.Indexed.{version_refusal};
+ghost use Rattle.cargo_toml_tools.specs.Indexed.{are_numbers, entry_refusal, finding_refusal};
+ghost use Rattle.cargo_toml_tools.specs.Indexed.{first_refusal, in_package, is_named, is_number};
+ghost use Rattle.cargo_toml_tools.specs.Indexed.{is_left_out, is_open, keeps_other_flag};
+ghost use Rattle.cargo_toml_tools.specs.Indexed.{package_refusal, publish_refusal, rust_refusal};
+ghost use Rattle.cargo_toml_tools.specs.Indexed.{table_refusal, version_refusal};
 ghost use Rattle.cargo_toml_tools.specs.Sections.{names_of, refused, table_of, wanted_of};
 
 use super::Options;
@@ -114,31 +114,34 @@ fn rust_refusal(text: &Option<Inheritable<String>>) -> Option<Refusal<'_>>
         Some(Inheritable::Inherited) => Some((Fault::Incomplete, "rust-version")),
         Some(Inheritable::Set(text)) => {
             let text = text.as_str();
-            (!are_numbers(text.as_bytes())).then_some((Fault::OddRust, text))
+            (!are_numbers(text)).then_some((Fault::OddRust, text))
         }
     }
 }
 
-/// Whether a text is one to three numbers, with dots between and no zeros in front.
-fn are_numbers(text: &[u8]) -> bool
-    ensures { result ≡ goes_on 0 false false text.now }
+/// Whether a text is one to three numbers, with dots between.
+fn are_numbers(text: &str) -> bool
+    ensures { result ≡ are_numbers text.now }
 {
-    let mut dots = 0u8;
-    let mut is_in = false;
-    let mut is_zero = false;
-    for byte in text {
-        if byte.is_ascii_digit() && !is_zero {
-            is_zero = *byte == b'0' && !is_in;
-            is_in = true;
-        } else if *byte == b'.' && is_in && dots < 2 {
-            is_in = false;
-            is_zero = false;
-            dots += 1;
-        } else {
-            return false;
-        }
+    let are_few = text.split('.').nth(3).is_none();
+    are_few & text.split('.').all(is_number)
+}
+
+/// Whether a text is a number: decimal digits, with no zero in front of another.
+fn is_number(text: &str) -> bool
+    ensures { result ≡ is_number text.now }
+{
+    let digits = text.as_bytes();
+    if digits.len() > 1 && digits[0] == b'0' {
+        return false;
     }
-    is_in
+    !digits.is_empty() && are_digits(digits)
+}
+
+fn are_digits(bytes: &[u8]) -> bool
+    ensures { result ≡ list_all is_ascii_digit bytes.now }
+{
+    bytes.iter().all(|byte| byte.is_ascii_digit())
 }
 
 /// The first refusal of these tables.
@@ -184,12 +187,8 @@ fn entry_refusal<'a>(
         Some((Fault::Incomplete, key))
     } else if flag_in(section, key, "default_features").is_some() || keeps_other_flag(dependency) {
         Some((Fault::OtherFlag, key))
-    } else if lacks_version(dependency) {
-        // a dev-dependency is left out
-        match section.kind {
-            Kind::Normal | Kind::Build => Some((Fault::NoRequirement, key)),
-            Kind::Dev => None,
-        }
+    } else if is_left_out(section.kind, dependency) {
+        None
     } else if required_version(dependency).is_none() {
         Some((Fault::NoRequirement, key))
     } else {
@@ -208,12 +207,12 @@ fn keeps_other_flag(dependency: &Dependency) -> bool
     }
 }
 
-/// Whether a dependency has a path or a repository, and no version.
-pub(super) fn lacks_version(dependency: &Dependency) -> bool
-    ensures { result ≡ lacks_version (dependency_meaning dependency.now) }
+/// Whether a dependency is for tests and has a path or a repository, and no version.
+fn is_left_out(kind: Kind, dependency: &Dependency) -> bool
+    ensures { result ≡ is_left_out kind (dependency_meaning dependency.now) }
 {
-    match dependency {
-        Dependency::Detailed(detail) => {
+    match (kind, dependency) {
+        (Kind::Dev, Dependency::Detailed(detail)) => {
             detail.version.is_none() && (detail.path.is_some() || detail.git.is_some())
         }
         _ => false,

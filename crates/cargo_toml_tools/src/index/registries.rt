@@ -12,8 +12,8 @@ pub const CRATES_IO: &str = "https://github.com/rust-lang/crates.io-index";
 /// A name of a registry, and the address of its index.
 pub type Named<'a> = (&'a str, &'a str);
 
-/// The address of the index that a dependency is looked for in: the one that is told, or that of
-/// the registry of its name.
+/// The address of the index that a dependency is looked for in: the one that it states, that of the
+/// registry that it names, or else that of crates.io. `None` where the name isn't known.
 pub(super) fn source_of<'a>(names: &'a [Named<'a>], dependency: &'a Dependency) -> Option<&'a str>
     ensures { option_copied result
         ≡ source_of (names_of names.now) (dependency_meaning dependency.now) }
@@ -28,7 +28,7 @@ pub(super) fn source_of<'a>(names: &'a [Named<'a>], dependency: &'a Dependency) 
     }
 }
 
-/// The address of the registry of a name.
+/// The address of the index of the registry with this name, where it is known.
 pub(super) fn address_named<'a>(names: &'a [Named<'a>], name: &str) -> Option<&'a str>
     ensures { option_copied result ≡ address_named (names_of names.now) name.now }
 {

@@ -6,9 +6,8 @@ ghost use Rattle.std.specs.Option.{option_copied};
 ghost use Rattle.toml.specs.View.{table_view, view};
 ghost use Rattle.cargo_toml.specs.{Manifests.held, Targets.target_meaning};
 ghost use Rattle.cargo_toml_package.specs.Replacing.{entries_meaning};
-ghost use Rattle.cargo_toml_tools.specs.Indexed.{dependency_tables, other_name, section_in};
-ghost use Rattle.cargo_toml_tools.specs.Indexed.{table_at, table_in, table_name, target_tables};
-ghost use Rattle.cargo_toml_tools.specs.Indexed.{written_flag};
+ghost use Rattle.cargo_toml_tools.specs.Indexed.{dependency_tables, other_name, table_at};
+ghost use Rattle.cargo_toml_tools.specs.Indexed.{table_in, table_name, target_tables, written_flag};
 ghost use Rattle.cargo_toml_tools.specs.Sections.{table_of};
 
 use cargo_toml::features::Kind;
@@ -81,18 +80,10 @@ fn section_at<'a>(
     Section {
         kind,
         target,
-        written: section_in(place, kind),
+        written: place.and_then(|table| table_in(table, table_name(kind))),
         other_name: other_name(place, kind),
         entries,
     }
-}
-
-/// The table of dependencies of a kind, as it is written.
-fn section_in(place: Option<&Table>, kind: Kind) -> Option<&Table>
-    ensures { option_map (λ t. table_view t.now) result
-        ≡ section_in (option_map (λ t. table_view t.now) place.entry) kind }
-{
-    table_in(place?, table_name(kind))
 }
 
 /// The table of this key in another.

@@ -1,20 +1,22 @@
-use Rattle.std.proofs.Common.{◌≡◌, ◌⊎◌, None, Some, subst}
-use Rattle.std.specs.Prelude.{IfErr, IfOk, OnOk}
-use Rattle.{serde_json.specs.View.view, cargo_toml.specs.Manifests.held}
-use Rattle.cargo_toml_tools.specs.{IndexEntries.data_in, Indexed.refusal_in, Sections.told, Sections.wanted_of, declared.index.IndexError.TheVariants.Memory}
+use Rattle.cargo_toml_tools.proofs.Cited.{[], ◌∙◌, ap, ap₂, dependency_tables, line_data, manifest_meaning, map, NoPackage, option_map, option_map_or, package_meaning, package_refusal, refused, Some, sym, table_of, table_view, wanted_of}
 use Rattle.cargo_toml_tools.proofs.index.index_entry.Goals as goal
 
-pub returns-clause-taken : goal.returns-clause-taken
-returns-clause-taken g c =
-    subst (λ d. OnOk c.entry_of.result (refusal_in (wanted_of c.args.options) c.args.findings.now d (held c.args.manifest.now) ≡ None))
-    c.in_ok-document.ensures c.entry_of.ensures.taken
-
-pub returns-clause-refused : goal.returns-clause-refused
-returns-clause-refused g c =
-    subst (λ d. IfErr c.entry_of.result (λ e. (e ≡ Memory) ⊎ (told e ≡ refusal_in (wanted_of c.args.options) c.args.findings.now d (held c.args.manifest.now))))
-    c.in_ok-document.ensures c.entry_of.ensures.refused
-
-pub returns-clause-entry : goal.returns-clause-entry
-returns-clause-entry g c =
-    subst (λ d. IfOk c.entry_of.result (λ value. Some (view value) ≡ data_in (wanted_of c.args.options) d (held c.args.manifest.now)))
-    c.in_ok-document.ensures c.entry_of.ensures.entry
+pub returns : goal.returns
+returns g c =
+    let m = manifest_meaning (λ m. m) c.args.manifest.now in
+    let p = package_meaning (λ m. m) c.in-Some.package in
+    let w = wanted_of c.args.options in
+    let findings = c.args.findings.now in
+    let document = sym c.in_ok-document.ensures in
+    let there = ap (option_map (package_meaning (λ m. m))) c.in-Some.is in
+    let tables = ap (map table_of) c.as_slice-sections.ensures.value ∙ c.in_ok-sections.ensures in
+    record {
+      taken =
+          ap₂ (λ d o. option_map_or (package_refusal w findings d (dependency_tables d m)) o (Some (NoPackage, []))) document there
+          ∙ sym (ap (λ ts. package_refusal w findings (table_view c.in_ok-document.document) ts p) tables)
+          ∙ sym c.package_refusal.ensures ∙ ap (option_map refused) c.in_default-package_refusal.is;
+      refused = tt;
+      entry =
+          ap Some (c.in_ok-line_of.ensures ∙ ap (λ ts. line_data w ts m.features p) tables)
+          ∙ sym (ap₂ (λ d o. option_map (line_data w (dependency_tables d m) m.features) o) document there);
+    }

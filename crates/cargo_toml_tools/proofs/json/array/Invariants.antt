@@ -1,5 +1,4 @@
-use Rattle.std.proofs.Common.{◌≡◌, map, take}
-use Rattle.serde_json.specs.{Data.string, View.view}
+use Rattle.cargo_toml_tools.proofs.Cited.{◌≡◌, map, string, take, view}
 use Rattle.cargo_toml_tools.proofs.json.array.Given as goal
 
 abbrev pub invariant-loop-text : goal.invariant-loop-text

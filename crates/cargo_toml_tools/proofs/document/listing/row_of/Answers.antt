@@ -1,4 +1,4 @@
-use Rattle.std.proofs.Common.{refl, sym, ◌∙◌}
+use Rattle.cargo_toml_tools.proofs.Cited.{◌∙◌, refl, sym}
 use Rattle.cargo_toml_tools.proofs.document.listing.row_of.Goals as goal
 
 pub returns : goal.returns

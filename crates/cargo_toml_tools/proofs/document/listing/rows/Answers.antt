@@ -1,11 +1,7 @@
-use Rattle.std.proofs.Common.{◌≡◌, ◌↔◌, ◌∙◌, Bor, IsTrue, [], ap, get_or, map, string_bytes, subst, sym}
-use Rattle.std.{proofs.lemmas.List.drop_all, specs.Option.option_copied, specs.Prelude.codes}
-use Rattle.cargo_toml.specs.{Action.Text, Ascending.Ascend, Graph.Table, Manifests.manifest_meaning, Reach.Among, Views.table_in}
-use Rattle.cargo_toml_features.proofs.Pending.{key_of}
-use Rattle.cargo_toml_lint.{proofs.Gathered.listed_in, specs.Turning.turning}
-use Rattle.cargo_toml_tools.specs.Documented.{lists_default, told_at}
+use Rattle.cargo_toml_tools.proofs.Cited.{[], ◌↔◌, ◌∙◌, ◌≡◌, Among, ap, Ascend, Bor, codes, drop_all, get_or, IsTrue, key_of, listed_in, lists_default, manifest_meaning, map, option_copied, string_bytes, subst, sym, Table, table_in, Text, told_at, turning}
+use Rattle.cargo_toml_tools.proofs.Grown.{drop_next}
 use Rattle.cargo_toml_tools.proofs.Rowed.{is_there, rowed_all, rowed_none, rowed_one}
-use Rattle.cargo_toml_tools.proofs.{Grown.drop_next, document.listing.rows.Goals.in-Some+in_ok-row_of+in_ok-push, document.listing.rows.Goals.in_default}
+use Rattle.cargo_toml_tools.proofs.document.listing.rows.Goals.{in-Some+in_ok-row_of+in_ok-push, in_default}
 use Rattle.cargo_toml_tools.proofs.document.listing.rows.Goals as goal
 
 pub loop-name-preserved : goal.loop-name-preserved

@@ -1,6 +1,5 @@
-use Rattle.std.proofs.Common.{drop, map}
-use Rattle.{cargo_toml.specs.Manifests.manifest_meaning, cargo_toml.specs.Reached.IsKeyed, cargo_toml.specs.Views.table_in}
-use Rattle.{cargo_toml_lint.specs.Turning.turning, cargo_toml_tools.proofs.Rowed.Rowed, cargo_toml_tools.specs.Documented.lists_default}
+use Rattle.cargo_toml_tools.proofs.Cited.{drop, IsKeyed, lists_default, manifest_meaning, map, table_in, turning}
+use Rattle.cargo_toml_tools.proofs.Rowed.{Rowed}
 use Rattle.cargo_toml_tools.proofs.document.listing.rows.Given as goal
 
 abbrev pub invariant-loop-name : goal.invariant-loop-name

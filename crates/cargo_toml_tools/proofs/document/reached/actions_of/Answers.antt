@@ -1,8 +1,5 @@
-use Rattle.{std.proofs.lemmas.Map.Iter.rest_all, std.proofs.lemmas.Map.Iter.rest_more, std.specs.Map.Iter.deref, std.specs.Option.option_copied}
-use Rattle.{std.specs.Option.option_map_or, cargo_toml.specs.Action.IsJoin, cargo_toml.specs.Action.join_option, cargo_toml.specs.Feature.Feature}
-use Rattle.std.proofs.Common.{◌∙◌, None, ap, subst, sym}
+use Rattle.cargo_toml_tools.proofs.Cited.{◌∙◌, action_at, ap, deref, Feature, IsJoin, join_option, join_option_none, None, option_copied, option_map_or, rest_all, rest_more, subst, sym}
 use Rattle.cargo_toml_tools.proofs.Reaching.{joined, joined_is, joined_next}
-use Rattle.{cargo_toml.specs.Views.action_at, cargo_toml_graph.proofs.JoinLaws.join_option_none}
 use Rattle.cargo_toml_tools.proofs.document.reached.actions_of.Goals as goal
 
 pub loop-name-preserved-in-Continue-1 : goal.loop-name-preserved-in-Continue-1

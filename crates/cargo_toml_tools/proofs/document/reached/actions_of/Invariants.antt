@@ -1,5 +1,5 @@
-use Rattle.std.proofs.Common.{◌≡◌, None}
-use Rattle.{cargo_toml.specs.Action.Text, cargo_toml.specs.Views.action_at, cargo_toml_tools.proofs.Reaching.joined}
+use Rattle.cargo_toml_tools.proofs.Cited.{◌≡◌, action_at, None, Text}
+use Rattle.cargo_toml_tools.proofs.Reaching.{joined}
 use Rattle.cargo_toml_tools.proofs.document.reached.actions_of.Given as goal
 
 abbrev pub invariant-loop-name : goal.invariant-loop-name

@@ -1,7 +1,4 @@
-use Rattle.{std.proofs.lemmas.Fn.filter_same, cargo_toml.specs.Action.Text, cargo_toml.specs.Views.set_has, cargo_toml_features.proofs.Thinning.has_filtered}
-use Rattle.std.proofs.Common.{◌&&◌, ◌∙◌, ◌≡◌, rules, sym}
-use Rattle.std.proofs.lemmas.Bool.{and_from, and_parts}
-use Rattle.{cargo_toml_graph.proofs.Joins.join_alike, cargo_toml_tools.specs.Documented.is_beside}
+use Rattle.cargo_toml_tools.proofs.Cited.{◌&&◌, ◌∙◌, ◌≡◌, and_from, and_parts, filter_same, has_filtered, is_beside, join_alike, rules, set_has, sym, Text}
 use Rattle.cargo_toml_tools.proofs.document.reached.reach.Goals as goal
 
 pub returns : goal.returns

@@ -1,7 +1,4 @@
-use Rattle.{std.proofs.Common.Bool, std.proofs.Common.inl, std.proofs.Common.true, cargo_toml.specs.Action.Text, cargo_toml.specs.Limits.MAX_ITEMS}
-use Rattle.std.proofs.lemmas.Result.{IfErr-weaker, IfOk-weaker, err_from_is_err_and}
-use Rattle.{cargo_toml.specs.Manifests.manifest_meaning, cargo_toml.specs.Parsed.IsParsed, cargo_toml.specs.Views.answer_of}
-use Rattle.{cargo_toml_discovery.proofs.Faults.from_input, cargo_toml_lint.proofs.Resolving.parsed_at, cargo_toml_lint.proofs.Resolving.tells_of}
+use Rattle.cargo_toml_tools.proofs.Cited.{answer_of, Bool, err_from_is_err_and, from_input, IfErr-weaker, IfOk-weaker, inl, IsParsed, manifest_meaning, MAX_ITEMS, parsed_at, tells_of, Text, true}
 use Rattle.cargo_toml_tools.proofs.files.documenting.resolved.Goals as goal
 
 pub returns-in_err-state-clause-refused : goal.returns-in_err-state-clause-refused

@@ -1,6 +1,4 @@
-use Rattle.{std.proofs.lemmas.Result.err_from_is_err_and, std.specs.Option.option_copied, std.specs.Option.option_map_or, std.specs.Option.option_or}
-use Rattle.std.proofs.Common.{arith, ◌∙◌, ◌≡◌, Bor, IfSome, None, Option, Some, ap, option_map, refl, rules, string_bytes, subst}
-use Rattle.{serde_json.specs.View.view, cargo_toml.specs.Action.Text, cargo_toml.specs.Manifests.held, cargo_toml_tools.specs.IndexEntries.index_data, cargo_toml_tools.specs.Sections.wanted_of}
+use Rattle.cargo_toml_tools.proofs.Cited.{◌∙◌, ◌≡◌, ap, arith, Bor, err_from_is_err_and, held, IfSome, index_data, None, Option, option_copied, option_map, option_map_or, option_or, refl, rules, Some, string_bytes, subst, Text, view, wanted_of}
 use Rattle.cargo_toml_tools.proofs.files.indexing.index_of.Goals as goal
 
 or_copied : {A : Type 0} (o p : Option (Bor A)) → option_copied (option_or o p) ≡ option_or (option_copied o) (option_copied p)

@@ -1,4 +1,4 @@
-use Rattle.std.proofs.{Common.inr, lemmas.Result.err_from_is_err_and}
+use Rattle.cargo_toml_tools.proofs.Cited.{err_from_is_err_and, inr}
 use Rattle.cargo_toml_tools.proofs.files.reading.completed_of.Goals as goal
 
 pub returns-clause-completed : goal.returns-clause-completed

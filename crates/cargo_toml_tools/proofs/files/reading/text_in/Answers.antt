@@ -1,4 +1,4 @@
-use Rattle.{std.proofs.lemmas.Result.err_from_is_err_and, cargo_toml_discovery.proofs.Faults.from_input}
+use Rattle.cargo_toml_tools.proofs.Cited.{err_from_is_err_and, from_input}
 use Rattle.cargo_toml_tools.proofs.files.reading.text_in.Goals as goal
 
 pub returns-in_err-read_to_string : goal.returns-in_err-read_to_string

@@ -1,6 +1,4 @@
-use Rattle.{std.proofs.Common.◌++◌, std.proofs.Common.◌≡◌, std.proofs.Common.drop, std.proofs.Common.map, std.specs.List.flat_map, serde_json.specs.View.view}
-use Rattle.cargo_toml_tools.specs.IndexEntries.{index_entries, table_entries}
-use Rattle.{cargo_toml_tools.proofs.Told.entry_of, cargo_toml_tools.specs.Sections.table_of, cargo_toml_tools.specs.Sections.wanted_of}
+use Rattle.cargo_toml_tools.proofs.Cited.{◌++◌, ◌≡◌, drop, entry_of, flat_map, index_entries, map, table_entries, table_of, view, wanted_of}
 use Rattle.cargo_toml_tools.proofs.index.entry.entries.Given as goal
 
 abbrev pub invariant-loop-section : goal.invariant-loop-section

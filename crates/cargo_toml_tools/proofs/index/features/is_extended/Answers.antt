@@ -1,6 +1,4 @@
-use Rattle.{std.proofs.lemmas.Iterator.YieldsList-from_slice, std.proofs.lemmas.Iterator.Search.any_from_yields_List, cargo_toml.specs.Action.Text}
-use Rattle.std.proofs.Common.{◌∙◌, Bor, rules, sym, tests}
-use Rattle.{cargo_toml.specs.Action.item_of, cargo_toml_lint.proofs.Gathered.any_map, cargo_toml_tools.specs.IndexEntries.is_newer}
+use Rattle.cargo_toml_tools.proofs.Cited.{◌∙◌, any_from_yields_List, any_map, Bor, is_newer, item_of, rules, sym, tests, Text, YieldsList-from_slice}
 use Rattle.cargo_toml_tools.proofs.index.features.is_extended.Goals as goal
 
 pub returns : goal.returns

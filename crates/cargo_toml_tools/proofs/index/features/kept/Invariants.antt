@@ -1,5 +1,4 @@
-use Rattle.{std.specs.Prelude.filter, cargo_toml.specs.Views.set_has, cargo_toml_tools.specs.IndexEntries.is_kept}
-use Rattle.std.proofs.Common.{◌≡◌, map, string_bytes, take}
+use Rattle.cargo_toml_tools.proofs.Cited.{◌≡◌, filter, is_kept, map, set_has, string_bytes, take}
 use Rattle.cargo_toml_tools.proofs.index.features.kept.Given as goal
 
 abbrev pub invariant-loop-text : goal.invariant-loop-text

@@ -1,7 +1,4 @@
-use Rattle.std.proofs.Common.{◌++◌, ◌≡◌, ◌∙◌, Bor, ap, bytes_eq, map, subst, sym}
-use Rattle.{std.proofs.lemmas.List.append-nil, std.proofs.lemmas.List.drop_all, std.specs.List.flat_map, std.specs.List.list_any, std.specs.Prelude.IfOk}
-use Rattle.cargo_toml.specs.{Action.Text, Views.set_has}
-use Rattle.cargo_toml_tools.specs.{IndexEntries.table_keys, Sections.table_of}
+use Rattle.cargo_toml_tools.proofs.Cited.{◌++◌, ◌∙◌, ◌≡◌, ap, append-nil, Bor, bytes_eq, drop_all, flat_map, IfOk, list_any, map, set_has, subst, sym, table_keys, table_of, Text}
 use Rattle.cargo_toml_tools.proofs.index.features.kept_keys.Goals as goal
 
 pub returns : goal.returns

@@ -1,6 +1,4 @@
-use Rattle.std.proofs.Common.{◌++◌, ◌≡◌, drop, map}
-use Rattle.{std.specs.List.flat_map, cargo_toml_tools.proofs.Told.entry_of, cargo_toml_tools.specs.Sections.table_of}
-use Rattle.cargo_toml_tools.specs.IndexEntries.{key_if, table_keys}
+use Rattle.cargo_toml_tools.proofs.Cited.{◌++◌, ◌≡◌, drop, entry_of, flat_map, key_if, map, table_keys, table_of}
 use Rattle.cargo_toml_tools.proofs.index.features.kept_keys.Given as goal
 
 abbrev pub invariant-loop-section : goal.invariant-loop-section

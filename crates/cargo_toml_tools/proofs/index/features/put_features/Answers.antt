@@ -1,7 +1,5 @@
-use Rattle.{std.proofs.lemmas.Result.on_ok_weaker, serde_json.specs.View.members_view, cargo_toml_tools.proofs.Placed.second_version}
-use Rattle.std.proofs.Common.{◌≡◌, ◌∙◌, ap, rules, subst, sym}
-use Rattle.{cargo_toml.specs.Views.set_has, cargo_toml_tools.specs.Sections.lists_meaning}
-use Rattle.cargo_toml_tools.specs.IndexEntries.{feature_rows, kept_lists, with_rows}
+use Rattle.cargo_toml_tools.proofs.Cited.{◌∙◌, ◌≡◌, ap, feature_rows, kept_lists, lists_meaning, members_view, on_ok_weaker, rules, set_has, subst, sym, with_rows}
+use Rattle.cargo_toml_tools.proofs.Placed.{second_version}
 use Rattle.cargo_toml_tools.proofs.index.features.put_features.Goals as goal
 
 pub returns-then-not-has_second : goal.returns-then-not-has_second

@@ -1,7 +1,4 @@
-use Rattle.{std.specs.List.flat_map, std.specs.List.list_any, serde_json.specs.View.members_view, cargo_toml.specs.Action.Text}
-use Rattle.std.proofs.Common.{◌||◌, ◌≡◌, List, false, map, true}
-use Rattle.cargo_toml_tools.specs.IndexEntries.{is_extended, kept_lists, list_rows, with_rows}
-use Rattle.{cargo_toml.specs.Views.set_has, cargo_toml_tools.proofs.Told.list_of, cargo_toml_tools.specs.Sections.lists_meaning}
+use Rattle.cargo_toml_tools.proofs.Cited.{◌||◌, ◌≡◌, false, flat_map, is_extended, kept_lists, List, list_any, list_of, list_rows, lists_meaning, map, members_view, set_has, Text, true, with_rows}
 use Rattle.cargo_toml_tools.proofs.index.features.put_lists.Given as goal
 
 abbrev pub invariant-loop-name : goal.invariant-loop-name

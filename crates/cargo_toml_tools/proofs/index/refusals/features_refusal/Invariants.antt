@@ -1,4 +1,4 @@
-use Rattle.{std.proofs.Common.◌≡◌, std.proofs.Common.drop, cargo_toml_tools.specs.Indexed.finding_refusal, cargo_toml_tools.specs.Indexed.first_refusal}
+use Rattle.cargo_toml_tools.proofs.Cited.{◌≡◌, drop, finding_refusal, first_refusal}
 use Rattle.cargo_toml_tools.proofs.index.refusals.features_refusal.Given as goal
 
 abbrev pub invariant-loop-finding : goal.invariant-loop-finding

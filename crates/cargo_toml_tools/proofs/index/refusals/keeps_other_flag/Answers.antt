@@ -1,4 +1,5 @@
-use Rattle.{std.proofs.Common.◌∙◌, std.proofs.Common.codes, std.proofs.Common.rules, toml.specs.View.view, cargo_toml_lint.proofs.Gathered.listed_in}
+use Rattle.cargo_toml_tools.proofs.Cited.{◌∙◌, codes, listed_in, rules}
+use Rattle.toml.specs.View.{view}
 use Rattle.cargo_toml_tools.proofs.index.refusals.keeps_other_flag.Goals as goal
 
 pub returns-in-Detailed : goal.returns-in-Detailed

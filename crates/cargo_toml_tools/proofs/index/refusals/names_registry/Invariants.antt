@@ -1,5 +1,4 @@
-use Rattle.{std.specs.List.list_any, cargo_toml_tools.specs.Indexed.is_named, cargo_toml_tools.specs.Sections.names_of}
-use Rattle.std.proofs.Common.{◌≡◌, drop, map, string_bytes}
+use Rattle.cargo_toml_tools.proofs.Cited.{◌≡◌, drop, is_named, list_any, map, names_of, string_bytes}
 use Rattle.cargo_toml_tools.proofs.index.refusals.names_registry.Given as goal
 
 abbrev pub invariant-loop-name : goal.invariant-loop-name

@@ -1,6 +1,4 @@
-use Rattle.std.proofs.Common.{◌≡◌, map}
-use Rattle.cargo_toml_tools.specs.{Indexed.entry_refusal, Indexed.first_refusal, Indexed.table_refusal, Sections.names_of, Sections.table_of}
-use Rattle.cargo_toml_tools.proofs.Told.{entry_of}
+use Rattle.cargo_toml_tools.proofs.Cited.{◌≡◌, entry_of, entry_refusal, first_refusal, map, names_of, table_of, table_refusal}
 use Rattle.cargo_toml_tools.proofs.index.refusals.table_refusal.Given as goal
 
 abbrev pub invariant-loop-key : goal.invariant-loop-key

@@ -1,5 +1,4 @@
-use Rattle.std.proofs.Common.{◌≡◌, drop, map}
-use Rattle.cargo_toml_tools.specs.{Indexed.first_refusal, Indexed.table_refusal, Sections.names_of, Sections.table_of}
+use Rattle.cargo_toml_tools.proofs.Cited.{◌≡◌, drop, first_refusal, map, names_of, table_of, table_refusal}
 use Rattle.cargo_toml_tools.proofs.index.refusals.tables_refusal.Given as goal
 
 abbrev pub invariant-loop-section : goal.invariant-loop-section

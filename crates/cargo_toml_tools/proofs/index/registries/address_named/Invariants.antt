@@ -1,4 +1,4 @@
-use Rattle.{std.proofs.Common.◌≡◌, std.proofs.Common.drop, cargo_toml_tools.specs.Indexed.address_named, cargo_toml_tools.specs.Sections.names_of}
+use Rattle.cargo_toml_tools.proofs.Cited.{◌≡◌, address_named, drop, names_of}
 use Rattle.cargo_toml_tools.proofs.index.registries.address_named.Given as goal
 
 abbrev pub invariant-loop-known : goal.invariant-loop-known

@@ -1,6 +1,4 @@
-use Rattle.{std.specs.List.flat_map, toml.specs.View.table_view, cargo_toml.specs.Reads.map_meaning, cargo_toml.specs.Targets.target_meaning}
-use Rattle.std.proofs.Common.{◌++◌, ◌≡◌, map}
-use Rattle.{cargo_toml_tools.proofs.Told.target_of, cargo_toml_tools.specs.Indexed.target_tables, cargo_toml_tools.specs.Sections.table_of}
+use Rattle.cargo_toml_tools.proofs.Cited.{◌++◌, ◌≡◌, flat_map, map, map_meaning, table_of, table_view, target_meaning, target_of, target_tables}
 use Rattle.cargo_toml_tools.proofs.index.sections.sections.Given as goal
 
 abbrev pub invariant-loop-name : goal.invariant-loop-name

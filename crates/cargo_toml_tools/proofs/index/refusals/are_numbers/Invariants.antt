@@ -1,5 +1,0 @@
-use Rattle.{std.proofs.Common.◌≡◌, std.proofs.Common.drop, std.proofs.Common.false, cargo_toml_tools.specs.Indexed.goes_on}
-use Rattle.cargo_toml_tools.proofs.index.refusals.are_numbers.Given as goal
-
-abbrev pub invariant-loop-byte : goal.invariant-loop-byte
-invariant-loop-byte l = goes_on l.dots l.is_in l.is_zero (drop l.byte-index l.text) ≡ goes_on 0 false false l.text

@@ -1,12 +1,5 @@
 -- A row of tests with one more character of the pattern.
-use Rattle.std.proofs.Common.{◌≡◌, ◌-◌, ◌+◌, arith, map, ◌&&◌, ◌||◌, ◌∙◌, ℕ, Bool, List, [], ◌∷◌, true, false, refl, ap, ◌<◌, drop, length, get_or, replicate, reverse, nat_le, take, ◌≢◌}
-use Rattle.std.specs.List.{scan, zip}
-use Rattle.std.proofs.lemmas.List.{take_rest}
-use borrow.Author.Tests.{ne_eqb}
-use Rattle.std.proofs.Math.Bool.{and_comm, or_comm}
-use Rattle.cargo_toml_audit.specs.Patterns.{Part, accepts, after_any, after_one, begins, is_among, is_empty, matches, next}
-use Rattle.cargo_toml_tools.proofs.Grown.{left_next}
-use mathlib.Core.List.{reverse_aux}
+use Rattle.cargo_toml_audit.proofs.Cited.{Bool, List, Part, [], accepts, after_any, after_one, and_comm, ap, arith, begins, drop, false, get_or, is_among, is_empty, left_next, length, map, matches, nat_le, ne_eqb, next, or_comm, refl, replicate, reverse, reverse_aux, scan, take, take_rest, true, zip, ℕ, ◌&&◌, ◌+◌, ◌-◌, ◌<◌, ◌||◌, ◌∙◌, ◌∷◌, ◌≡◌, ◌≢◌}
 
 -- a test at the end that was taken, and at those with each further character, as a pattern is matched from its end on
 abbrev pub row : (List ℕ → Bool) → List ℕ → List ℕ → List Bool

@@ -1,5 +1,5 @@
 -- The places that are looked at, while some are waiting.
-use Rattle.cargo_toml_audit.proofs.Reports.{[], ℕ, ◌&&◌, ◌++◌, ◌+◌, ◌-◌, ◌||◌, ◌∙◌, ◌∷◌, ◌≡◌, Audit, Base, Bool, Gain, Global, List, MatchOption, None, Option, Reading, Reads, Some, String, Takes, Text, Vec, Visits, Walk, Walks, ap, append-nil, bytes_eq, cond, contains_text, ended, false, filter, filter-append, gain_of_all, inl, inr, is_excluded, is_in, is_member, looked, map, map-append, member_places, option_to_list, or-false, passed, places_read, refl, string_bytes, subst, sym, take, true}
+use Rattle.cargo_toml_audit.proofs.Cited.{Audit, Base, Bool, Gain, Global, List, MatchOption, None, Option, Reading, Reads, Some, String, Takes, Text, Vec, Visits, Walk, Walks, [], ap, append-nil, bytes_eq, cond, contains_text, ended, false, filter, filter-append, gain_of_all, inl, inr, is_excluded, is_in, is_member, looked, map, map-append, member_places, option_to_list, or-false, passed, places_read, refl, string_bytes, subst, sym, take, true, ℕ, ◌&&◌, ◌++◌, ◌+◌, ◌-◌, ◌||◌, ◌∙◌, ◌∷◌, ◌≡◌}
 use Rattle.cargo_toml_audit.proofs.Texts.{one_more_in}
 use Rattle.cargo_toml_audit.proofs.Taking.{one_more_gain, takes_both, takes_nothing}
 

@@ -1,4 +1,4 @@
-use Rattle.cargo_toml_audit.proofs.Reports.{◌++◌, Incomplete, MatchOption-at_some, append_assoc, arith, base_of, found_if, on_ok_weaker, targets_found, told, true, untold}
+use Rattle.cargo_toml_audit.proofs.Cited.{Incomplete, MatchOption-at_some, append_assoc, arith, base_of, found_if, on_ok_weaker, targets_found, told, true, untold, ◌++◌}
 use Rattle.cargo_toml_audit.proofs.Taking.{takes_both, takes_found}
 use Rattle.cargo_toml_audit.proofs.auditing.place.add_completed.Goals as goal
 

@@ -1,4 +1,4 @@
-use Rattle.cargo_toml_audit.proofs.Reports.{◌++◌, ◌∙◌, Global, List, Option, String, ap, base_of, contains_text, err_from_is_err_and, from_input, inl, inr, is_at, is_in, list_any, map, nat_cmp, option_to_list, refl, slice_cmp, string_bytes}
+use Rattle.cargo_toml_audit.proofs.Cited.{Global, List, Option, String, ap, base_of, contains_text, err_from_is_err_and, from_input, inl, inr, is_at, is_in, list_any, map, nat_cmp, option_to_list, refl, slice_cmp, string_bytes, ◌++◌, ◌∙◌}
 use Rattle.cargo_toml_audit.proofs.Walking.{none_left, walking_begun, walking_ends, walking_on}
 use Rattle.cargo_toml_audit.proofs.auditing.walk.add_members.Goals as goal
 

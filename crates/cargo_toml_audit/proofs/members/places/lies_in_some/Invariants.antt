@@ -1,4 +1,4 @@
-use Rattle.cargo_toml_audit.proofs.Paths.{◌≡◌, drop, lies_in_some, map, string_bytes}
+use Rattle.cargo_toml_audit.proofs.Cited.{drop, lies_in_some, map, string_bytes, ◌≡◌}
 use Rattle.cargo_toml_audit.proofs.members.places.lies_in_some.Given as goal
 
 abbrev pub invariant-loop-entry : goal.invariant-loop-entry

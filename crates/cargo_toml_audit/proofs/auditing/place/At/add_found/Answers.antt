@@ -1,4 +1,4 @@
-use Rattle.cargo_toml_audit.proofs.Reports.{[], ◌++◌, ◌∙◌, ◌≡◌, IsManifestIn, Manifest, Value, Virtual, ap, arith, base_of, belongs, entries_of, false, flat_map, foreign, found_if, held, is_bare, is_rootless, map, need_by, not, oddities_of, option_map_or, refl, refusal, rootless, string_bytes, subst, sym}
+use Rattle.cargo_toml_audit.proofs.Cited.{IsManifestIn, Manifest, Value, Virtual, [], ap, arith, base_of, belongs, entries_of, false, flat_map, foreign, found_if, held, is_bare, is_rootless, map, need_by, not, oddities_of, option_map_or, refl, refusal, rootless, string_bytes, subst, sym, ◌++◌, ◌∙◌, ◌≡◌}
 use Rattle.cargo_toml_audit.proofs.Taking.{takes_found}
 use Rattle.cargo_toml_audit.proofs.auditing.place.At.add_found.Goals as goal
 

@@ -1,4 +1,4 @@
-use Rattle.cargo_toml_audit.proofs.Reports.{◌∙◌, IsCompletedThere, Manifest, Value, any_root, base_of, completed_handed, incomplete, none_found, real_folders, real_roots, shared_of, subst, sym}
+use Rattle.cargo_toml_audit.proofs.Cited.{IsCompletedThere, Manifest, Value, any_root, base_of, completed_handed, incomplete, none_found, real_folders, real_roots, shared_of, subst, sym, ◌∙◌}
 use Rattle.cargo_toml_audit.proofs.Taking.{takes_found}
 use Rattle.cargo_toml_audit.proofs.auditing.place.At.add_made.Goals as goal
 

@@ -1,4 +1,4 @@
-use Rattle.cargo_toml_audit.proofs.Reports.{◌++◌, ◌∙◌, HasErrors, Manifest, Takes, Value, ap, base_of, belongs, found_in, gain_of, held, left_keys, oddities_of, on_ok_weaker, refusals_at, subst}
+use Rattle.cargo_toml_audit.proofs.Cited.{HasErrors, Manifest, Takes, Value, ap, base_of, belongs, found_in, gain_of, held, left_keys, oddities_of, on_ok_weaker, refusals_at, subst, ◌++◌, ◌∙◌}
 use Rattle.cargo_toml_audit.proofs.Taking.{takes_both, takes_found}
 use Rattle.cargo_toml_audit.proofs.auditing.place.At.add_member.Goals as goal
 

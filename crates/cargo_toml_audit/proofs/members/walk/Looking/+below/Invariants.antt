@@ -1,4 +1,4 @@
-use Rattle.cargo_toml_audit.proofs.Paths.{◌++◌, ◌-◌, ◌≡◌, OnDisks, below, drop, flat_map, map, string_bytes}
+use Rattle.cargo_toml_audit.proofs.Cited.{OnDisks, below, drop, flat_map, map, string_bytes, ◌++◌, ◌-◌, ◌≡◌}
 use Rattle.cargo_toml_audit.proofs.members.walk.Looking.+below.Given as goal
 
 abbrev pub decreases-below : goal.decreases-below

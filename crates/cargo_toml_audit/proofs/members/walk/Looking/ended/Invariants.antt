@@ -1,4 +1,5 @@
-use Rattle.cargo_toml_audit.proofs.Paths.{◌++◌, ◌≡◌, OnDisks, all_below, drop, ended, flat_map, map, string_bytes}
+use Rattle.cargo_toml_audit.proofs.Cited.{OnDisks, all_below, drop, flat_map, map, string_bytes, ◌++◌, ◌≡◌}
+use Rattle.cargo_toml_audit.specs.MemberFolders.{ended}
 use Rattle.cargo_toml_audit.proofs.members.walk.Looking.ended.Given as goal
 
 abbrev pub invariant-loop-folder : goal.invariant-loop-folder

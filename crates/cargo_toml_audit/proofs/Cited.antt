@@ -22,10 +22,11 @@ pub use Rattle.cargo_toml_audit.{specs.declared.audit.Audit.Audit, specs.declare
 pub use Rattle.cargo_toml_audit.{specs.declared.members.walk.There.TheVariants.Nothing, specs.declared.members.walk.There.There}
 pub use Rattle.cargo_toml_discovery.{proofs.Faults.from_input}
 pub use Rattle.cargo_toml_graph.{proofs.Texts.bytes_eq_sym}
+pub use Rattle.cargo_toml_lint.{proofs.Adding.entry_of, proofs.Adding.target_of}
 pub use Rattle.cargo_toml_manifest.{proofs.Meeting.completed_handed}
 pub use Rattle.cargo_toml_package.{specs.Replacing.entries_meaning}
 pub use Rattle.cargo_toml_parts.{proofs.SameCopies.zip_same}
-pub use Rattle.cargo_toml_tools.{proofs.Grown.flat_flat, proofs.Grown.left_next, proofs.Told.entry_of, proofs.Told.target_of, specs.FromFiles.IsManifestIn, specs.Indexed.target_by_kind}
+pub use Rattle.cargo_toml_tools.{proofs.Grown.flat_flat, proofs.Grown.left_next, specs.FromFiles.IsManifestIn, specs.Indexed.target_by_kind}
 pub use Rattle.std.{proofs.lemmas.Bool.or_left, proofs.lemmas.Bool.or_right, proofs.lemmas.Grind.common_steps, proofs.lemmas.Iterator.Splits.YieldsList-from_str_split, proofs.lemmas.List.Elements.filter-append, proofs.lemmas.List.Folds.flat_map-map, proofs.lemmas.List.Folds.list_any-append}
 pub use Rattle.std.{proofs.lemmas.Map.Text.btree_map_updates_text, proofs.lemmas.Map.Text.btree_set_updates_text, proofs.lemmas.Option.MatchOption-at_some, proofs.lemmas.Slice.Eq.bytes_eq-Decides, specs.BTreeSet.contains_text, specs.Bool.beq, specs.Cmp.Lexicographic.slice_cmp, specs.Option.option_map_or}
 pub use Rattle.std.{specs.Ordering.nat_cmp, specs.Path.path_join, specs.Str.chars, specs.String.string_cmp}

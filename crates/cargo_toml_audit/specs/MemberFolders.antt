@@ -150,7 +150,7 @@ is_wrong entry = list_any is_wrong_name (pieces entry)
 abbrev pub places_if_right : Disk → Text → Text → List Text
 places_if_right d root entry = if is_wrong entry then [] else places_of d root entry
 
--- the texts of a list that stand in others, or before in it; or those that don't
+-- where `again` is set, the texts of a list that stand in others or before in it; else the rest
 abbrev pub picked : Bool → List Text → List Text → List Text
 picked again before [] = []
 picked again before (t ∷ ts) =

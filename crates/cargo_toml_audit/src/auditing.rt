@@ -1,4 +1,4 @@
-//! The report on a workspace.
+//! Makes the report on a workspace: follows its lists and its members, and reads what lies there.
 ghost use Rattle.std.specs.Prelude.{◌≡◌, ◌++◌, IfErr, IfOk, OnOk, map, string_bytes};
 ghost use Rattle.std.specs.List.{flat_map, list_any};
 ghost use Rattle.cargo_toml_audit.specs.Steps.{AreListed, known_of};

@@ -1,4 +1,4 @@
-//! The members of a workspace, as Cargo finds them by its lists and by paths of dependencies.
+//! The places that the lists of a workspace lead to, and that it excludes, as Cargo finds them.
 ghost use Rattle.std.specs.Prelude.{◌≡◌, IfOk, filter, map, string_bytes};
 ghost use Rattle.cargo_toml_audit.specs.MemberFolders.{is_wrong, unseen};
 ghost use Rattle.cargo_toml_audit.specs.Places.{included};

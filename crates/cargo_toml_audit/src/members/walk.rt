@@ -35,10 +35,12 @@ pub enum There {
     Unseen,
 }
 
-/// The names of what lies in a folder, and whether it could be read to its end.
+/// What lies in a folder, as far as it could be read.
 #[derive(Debug, Drop)]
 pub struct Listing {
+    /// The names.
     pub names: Vec<String>,
+    /// Whether it could be read to its end.
     pub is_whole: bool,
 }
 
@@ -144,8 +146,8 @@ impl<'a, R: Files + AllocGlobal> Looking<'a, R> {
         Ok(places)
     }
 
-    /// What names lead to from a path, at times right behind `**`. That name leads no further, nor
-    /// does the empty one right behind it.
+    /// What names lead to from a path, right behind `**` where that is set. `**` leads no further,
+    /// nor does the empty name right behind it.
     fn led(&mut self, from: (&str, bool), names: &[&str]) -> AllocResult<Vec<String>>
         ensures { IfOk result (λ paths. Tells
             (λ d. led d from.entry.1 (map (λ t. t.now) names.now) from.entry.0.now)
@@ -202,8 +204,8 @@ impl<'a, R: Files + AllocGlobal> Looking<'a, R> {
         Ok(all)
     }
 
-    /// What a name leads to in a folder, at times right behind `**`. One that is no pattern stands
-    /// for itself.
+    /// What a name leads to in a folder. One that is no pattern stands for itself, except right
+    /// behind `**`, where it is compared with the names there.
     fn further_in(&mut self, from: (&str, bool), name: &str) -> AllocResult<Vec<String>>
         ensures { IfOk result (λ all. Tells
             (λ d. further_in d from.entry.1 name.now from.entry.0.now)

@@ -50,13 +50,10 @@ back_next f xs i k x within is at =
 -- what stands in brackets, behind a range or a character that comes first
 pub among_range : (xs : List ℕ) (c x z : ℕ) → 2 < length xs → get_or xs 1 0 ≡ 45 → x ≡ get_or xs 0 x → z ≡ get_or xs 2 z → (nat_le x c && nat_le c z) ≡ false
     → is_among (take (length xs - 3) (drop 3 xs)) c ≡ is_among xs c
-among_range [] c x z long range first last out = absurd (omega arith)
-among_range (a ∷ []) c x z long range first last out = absurd (omega arith)
-among_range (a ∷ b ∷ []) c x z long range first last out = absurd (omega arith)
 among_range (a ∷ b ∷ e ∷ rest) c x z long range first last out = let rest = take_rest (a ∷ b ∷ e ∷ rest) 3 in grind (arith, rest)
+among_range xs c x z long range first last out = absurd (omega arith)
 
 pub among_one : (xs : List ℕ) (c x : ℕ) → 0 < length xs → (2 < length xs → get_or xs 1 0 ≢ 45) → x ≡ get_or xs 0 x → x ≢ c → is_among (take (length xs - 1) (drop 1 xs)) c ≡ is_among xs c
 among_one [] c x some single first other = absurd (omega arith)
-among_one (a ∷ []) c x some single first other = let no = ne_eqb x c other in grind arith
-among_one (a ∷ b ∷ []) c x some single first other = let no = ne_eqb x c other in grind arith
 among_one (a ∷ b ∷ e ∷ rest) c x some single first other = let no = ne_eqb x c other in let rest = take_rest (a ∷ b ∷ e ∷ rest) 1 in let this = single (omega arith) in grind arith
+among_one xs c x some single first other = let no = ne_eqb x c other in grind arith

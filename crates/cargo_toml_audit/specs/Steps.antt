@@ -5,7 +5,7 @@ use Rattle.std.specs.Prelude.{◌||◌, bytes_eq, false, true}
 use Rattle.std.specs.{BTreeSet.contains_text, declared.alloc.Global.Global}
 use Rattle.toml.specs.declared.value.Value.{Value}
 use Rattle.cargo_toml.specs.{Action.Text, Manifest.Manifest, Manifests.held}
-use Rattle.cargo_toml_audit.specs.AuditedFiles.{IsCompletedThere, entered_places, found_in_lists}
+use Rattle.cargo_toml_audit.specs.AuditedFiles.{entered_places, found_in_lists}
 use Rattle.cargo_toml_audit.specs.AuditedFiles.{Content, first_places, listed_places, member_places}
 use Rattle.cargo_toml_audit.specs.AuditedFiles.{HasErrors, IsContent, gain_of_all, is_excluded}
 use Rattle.cargo_toml_audit.specs.AuditedFiles.{belongs, gain_made, gain_of, is_member, needs_of}
@@ -23,15 +23,6 @@ known_of k = record {
 }
 
 module _ (base : Base) where
-  -- what is told of a completed manifest is added, or that nothing can be: by the keys that the
-  -- member inherits
-  pub record AddsCompleted (place : Text) (new : Manifest Value) (keys : List Text)
-      (before after : Audit) : Type 0 where
-    pub made : Made
-    pub is_made : (m : Manifest Value) → IsCompletedThere base m new → keys ≡ left_keys (held m)
-        → IsMade base place m made
-    pub takes : Takes (gain_made base place made) before after
-
   -- what completion made of a member's manifest is added; the keys that it inherits are known
   pub record AddsMade (place : Text) (m : Manifest Value) (inherits : Vec (String Global) Global)
       (old new : Audit) : Type 0 where

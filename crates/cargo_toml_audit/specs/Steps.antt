@@ -5,11 +5,11 @@ use Rattle.std.specs.Prelude.{◌||◌, bytes_eq, false, true}
 use Rattle.std.specs.{BTreeSet.contains_text, declared.alloc.Global.Global}
 use Rattle.toml.specs.declared.value.Value.{Value}
 use Rattle.cargo_toml.specs.{Action.Text, Manifest.Manifest, Manifests.held}
-use Rattle.cargo_toml_audit.specs.AuditedFiles.{entered_places, found_in_lists}
-use Rattle.cargo_toml_audit.specs.AuditedFiles.{Content, first_places, listed_places, member_places}
-use Rattle.cargo_toml_audit.specs.AuditedFiles.{HasErrors, IsContent, gain_of_all, is_excluded}
-use Rattle.cargo_toml_audit.specs.AuditedFiles.{belongs, gain_made, gain_of, is_member, needs_of}
-use Rattle.cargo_toml_audit.specs.AuditedFiles.{AreRead, Base, IsMade, Knows, Made, Reading, Takes}
+use Rattle.cargo_toml_audit.specs.AuditedFiles.{AreRead, Base, Content, IsContent, IsMade, Knows}
+use Rattle.cargo_toml_audit.specs.AuditedFiles.{Made, Reading, Takes, entered_places, first_places}
+use Rattle.cargo_toml_audit.specs.AuditedFiles.{found_in_lists, gain_made, gain_of, gain_of_all}
+use Rattle.cargo_toml_audit.specs.AuditedFiles.{is_excluded, is_member, listed_places}
+use Rattle.cargo_toml_audit.specs.AuditedFiles.{member_places, needs_of}
 use Rattle.cargo_toml_audit.specs.declared.auditing.walk.Walk.{Walk}
 use Rattle.cargo_toml_audit.specs.{Entries.left_keys, MemberFolders.Disk, Oddities.oddities_of}
 use Rattle.cargo_toml_audit.specs.{Places.is_in, declared.audit.Audit.Audit}
@@ -29,15 +29,6 @@ module _ (base : Base) where
     pub made : Made
     pub is_made : map string_bytes inherits.items ≡ left_keys (held m) → IsMade base place m made
     pub takes : Takes (gain_made base place made) old new
-
-  -- a member is added
-  pub record AddsMemberAt (place : Text) (own : Bool) (m : Manifest Value) (old new : Audit)
-      : Type 0 where
-    pub errors : Bool
-    pub made : Made
-    pub errors_are : HasErrors m errors
-    pub is_made : IsMade base place m made
-    pub takes : Takes (gain_of base place (belongs own errors m made)) old new
 
   -- what lies at a place is added
   pub record AddsPlace (is_listed : Bool) (place : Text)

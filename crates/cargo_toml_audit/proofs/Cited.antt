@@ -5,7 +5,7 @@ pub use Rattle.cargo_toml_audit.specs.Entries.{asked_in, asking_of, entries_of, 
 pub use Rattle.cargo_toml_audit.specs.MemberFolders.{Agrees, Disk, OnDisks, Tells, all_below, below, disk_of, further, further_in, is_folder, is_wrong, is_wrong_name, led, named_so, picked, place_if, places_if_right, places_once, subfolders, unread_in, unseen, unseen_in}
 pub use Rattle.cargo_toml_audit.specs.Oddities.{Gain, Oddity, both, found_each, found_if, found_in, further_from, further_of, is_bare, is_not_inherited, leads_elsewhere, named_by, oddities_of, oddity_of, only_found, overall_oddities, shared_oddities}
 pub use Rattle.cargo_toml_audit.specs.Patterns.{Part, accepts, after_any, after_one, begins, is_among, is_empty, is_many, matches, next, part_of, read_all, read_more, read_of}
-pub use Rattle.cargo_toml_audit.specs.Places.{included, is_in, lies_in_some, one_further, pieces}
+pub use Rattle.cargo_toml_audit.specs.Places.{excluded_by, included, is_in, lies_in_some, one_further, outer_paths, pieces}
 pub use Rattle.cargo_toml_audit.specs.Steps.{AreListed, Visits, Walks, known_of}
 pub use Rattle.cargo_toml_audit.specs.declared.audit.Code.TheVariants.{Features, Incomplete, NoLints, NotInherited, OtherWorkspace, Outside, TwoWorkspaces, Virtual, WorkspaceWithin}
 pub use Rattle.std.proofs.Common.{Bool, Bor, Global, List, MatchOption, None, Option, Some, String, Vec, [], ap, append-nil, append_assoc, ap₂, arith, bytes_eq, cond, drop, false, filter, fold, get_or, if◌then◌else◌, inl, inr, is_some, length, lit<, map, nat_le, ne_eqb, not, option_map, option_to_list, refl, replicate, reverse, rules, string_bytes, subst, suc, sym, take, tests, true, unwrap_or, zero, ℕ, ◌&&◌, ◌++◌, ◌+◌, ◌-◌, ◌<◌, ◌||◌, ◌∙◌, ◌∷◌, ◌≡◌, ◌≢◌}

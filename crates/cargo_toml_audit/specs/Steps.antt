@@ -5,11 +5,10 @@ use Rattle.std.specs.Prelude.{◌||◌, bytes_eq, false, true}
 use Rattle.std.specs.{BTreeSet.contains_text, declared.alloc.Global.Global}
 use Rattle.toml.specs.declared.value.Value.{Value}
 use Rattle.cargo_toml.specs.{Action.Text, Manifest.Manifest, Manifests.held}
-use Rattle.cargo_toml_audit.specs.AuditedFiles.{AreRead, Base, Content, IsContent, IsMade, Knows}
-use Rattle.cargo_toml_audit.specs.AuditedFiles.{Made, Reading, Takes, entered_places, first_places}
-use Rattle.cargo_toml_audit.specs.AuditedFiles.{found_in_lists, gain_made, gain_of, gain_of_all}
-use Rattle.cargo_toml_audit.specs.AuditedFiles.{is_excluded, is_member, listed_places}
-use Rattle.cargo_toml_audit.specs.AuditedFiles.{member_places, needs_of}
+use Rattle.cargo_toml_audit.specs.AuditedFiles.{AreRead, IsMade, Knows, Made, Reading, Takes}
+use Rattle.cargo_toml_audit.specs.AuditedFiles.{Base, entered_places, found_in_lists, listed_places}
+use Rattle.cargo_toml_audit.specs.AuditedFiles.{Content, IsContent, gain_of, is_member, needs_of}
+use Rattle.cargo_toml_audit.specs.AuditedFiles.{first_places, gain_made, gain_of_all, member_places}
 use Rattle.cargo_toml_audit.specs.declared.auditing.walk.Walk.{Walk}
 use Rattle.cargo_toml_audit.specs.{Entries.left_keys, MemberFolders.Disk, Oddities.oddities_of}
 use Rattle.cargo_toml_audit.specs.{Places.is_in, declared.audit.Audit.Audit}
@@ -50,13 +49,10 @@ module _ (base : Base) where
 
   -- ---- the walk
   -- a place was seen before or is excluded, or it is looked at
-  abbrev pub is_past : Text → Walk → Bool
-  is_past place walk = contains_text walk.seen place || is_excluded base place
-
-  pub record IsLookedAt (is_listed : Bool) (place : Text) (before after : Walk)
+  pub record IsLookedAt (excluded is_listed : Bool) (place : Text) (before after : Walk)
       (old new : Audit) : Type 0 where
     pub content : Content
-    pub fresh : is_past place before ≡ false
+    pub fresh : (contains_text before.seen place || excluded) ≡ false
     pub is : IsContent base is_listed place content
     pub takes : Takes (gain_of base place content) old new
     pub seen : (t : Text) → contains_text after.seen t
@@ -66,10 +62,10 @@ module _ (base : Base) where
     pub waiting : map string_bytes after.waiting.items
         ≡ map string_bytes before.waiting.items ++ needs_of base place content
 
-  abbrev pub Visits : Bool → Text → Walk → Walk → Audit → Audit → Type 0
-  Visits is_listed place before after old new =
-      ((is_past place before ≡ true) × ((after ≡ before) × (new ≡ old)))
-      ⊎ IsLookedAt is_listed place before after old new
+  abbrev pub Visits : Bool → Bool → Text → Walk → Walk → Audit → Audit → Type 0
+  Visits excluded is_listed place before after old new =
+      (((contains_text before.seen place || excluded) ≡ true) × ((after ≡ before) × (new ≡ old)))
+      ⊎ IsLookedAt excluded is_listed place before after old new
 
   -- all that is read of these places on is taken in, and so are the members
   pub record Walks (first : List Text) (members : Text → Bool) (old new : Audit) : Type 0 where

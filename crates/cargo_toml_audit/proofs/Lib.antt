@@ -1,6 +1,5 @@
+pub mod Cited
 pub mod Matched
-pub mod Paths
-pub mod Reports
 pub mod Taking
 pub mod Texts
 pub mod Walked

@@ -1,12 +1,5 @@
 -- A row of tests with one more character of the pattern.
-use Rattle.std.proofs.Common.{◌≡◌, ◌-◌, ◌+◌, arith, map, ◌&&◌, ◌||◌, ◌∙◌, ℕ, Bool, List, [], ◌∷◌, true, false, refl, ap, ◌<◌, drop, length, get_or, replicate, reverse, nat_le, take, ◌≢◌}
-use Rattle.std.specs.List.{scan, zip}
-use Rattle.std.proofs.lemmas.List.{take_rest}
-use borrow.Author.Tests.{ne_eqb}
-use Rattle.std.proofs.Math.Bool.{and_comm, or_comm}
-use Rattle.cargo_toml_audit.specs.Patterns.{Part, accepts, after_any, after_one, begins, is_among, is_empty, matches, next}
-use Rattle.cargo_toml_tools.proofs.Grown.{left_next}
-use mathlib.Core.List.{reverse_aux}
+use Rattle.cargo_toml_audit.proofs.Cited.{Bool, List, Part, [], accepts, after_any, after_one, and_comm, ap, arith, begins, drop, false, get_or, is_among, is_empty, left_next, length, map, matches, nat_le, ne_eqb, next, or_comm, refl, replicate, reverse, reverse_aux, scan, take, take_rest, true, zip, ℕ, ◌&&◌, ◌+◌, ◌-◌, ◌<◌, ◌||◌, ◌∙◌, ◌∷◌, ◌≡◌, ◌≢◌}
 
 -- a test at the end that was taken, and at those with each further character, as a pattern is matched from its end on
 abbrev pub row : (List ℕ → Bool) → List ℕ → List ℕ → List Bool
@@ -57,13 +50,10 @@ back_next f xs i k x within is at =
 -- what stands in brackets, behind a range or a character that comes first
 pub among_range : (xs : List ℕ) (c x z : ℕ) → 2 < length xs → get_or xs 1 0 ≡ 45 → x ≡ get_or xs 0 x → z ≡ get_or xs 2 z → (nat_le x c && nat_le c z) ≡ false
     → is_among (take (length xs - 3) (drop 3 xs)) c ≡ is_among xs c
-among_range [] c x z long range first last out = absurd (omega arith)
-among_range (a ∷ []) c x z long range first last out = absurd (omega arith)
-among_range (a ∷ b ∷ []) c x z long range first last out = absurd (omega arith)
 among_range (a ∷ b ∷ e ∷ rest) c x z long range first last out = let rest = take_rest (a ∷ b ∷ e ∷ rest) 3 in grind (arith, rest)
+among_range xs c x z long range first last out = absurd (omega arith)
 
 pub among_one : (xs : List ℕ) (c x : ℕ) → 0 < length xs → (2 < length xs → get_or xs 1 0 ≢ 45) → x ≡ get_or xs 0 x → x ≢ c → is_among (take (length xs - 1) (drop 1 xs)) c ≡ is_among xs c
 among_one [] c x some single first other = absurd (omega arith)
-among_one (a ∷ []) c x some single first other = let no = ne_eqb x c other in grind arith
-among_one (a ∷ b ∷ []) c x some single first other = let no = ne_eqb x c other in grind arith
 among_one (a ∷ b ∷ e ∷ rest) c x some single first other = let no = ne_eqb x c other in let rest = take_rest (a ∷ b ∷ e ∷ rest) 1 in let this = single (omega arith) in grind arith
+among_one xs c x some single first other = let no = ne_eqb x c other in grind arith

@@ -1,5 +1,5 @@
 -- What a report takes of one place after the other.
-use Rattle.cargo_toml_audit.proofs.Reports.{[], ◌++◌, ◌∙◌, ◌∷◌, ◌≡◌, Audit, Base, Finding, Gain, Global, List, Oddity, Reading, Takes, Vec, ap, append-nil, append_assoc, both, gain_of, gain_of_all, oddities_of, only_found, refl, sym}
+use Rattle.cargo_toml_audit.proofs.Cited.{Audit, Base, Finding, Gain, Global, List, Oddity, Reading, Takes, Vec, [], ap, append-nil, append_assoc, both, gain_of, gain_of_all, oddities_of, only_found, refl, sym, ◌++◌, ◌∙◌, ◌∷◌, ◌≡◌}
 
 abbrev pub nothing : Gain
 nothing = only_found []

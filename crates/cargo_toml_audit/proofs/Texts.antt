@@ -1,5 +1,5 @@
 -- Lists of texts: what they are joined to, and which stand in one, with one more.
-use Rattle.cargo_toml_audit.proofs.Paths.{[], Bool, beq, ◌++◌, ◌||◌, ◌∷◌, ◌≡◌, List, Text, ap, flat_map-map, join_by, map, refl, sym, if◌then◌else◌, ℕ, ◌+◌, ◌<◌, ◌∙◌, bytes_eq, bytes_eq_sym, drop, get_or, is_in, left_next, length, list_any-append, map-append, or-false, picked, take, take_more}
+use Rattle.cargo_toml_audit.proofs.Cited.{Bool, List, Text, [], ap, beq, bytes_eq, bytes_eq_sym, drop, flat_map-map, get_or, if◌then◌else◌, is_in, join_by, left_next, length, list_any-append, map, map-append, or-false, picked, refl, sym, take, take_more, ℕ, ◌++◌, ◌+◌, ◌<◌, ◌||◌, ◌∙◌, ◌∷◌, ◌≡◌}
 
 pub join_mapped : {X : Type 0} (f : X → Text) (between : Text) (xs : List X) → join_by f between xs ≡ join_by (λ t. t) between (map f xs)
 join_mapped f between [] = refl

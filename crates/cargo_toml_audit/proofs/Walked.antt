@@ -1,5 +1,5 @@
 -- What is told of each disk that answered so.
-use Rattle.cargo_toml_audit.proofs.Paths.{[], ℕ, ◌-◌, ◌∙◌, ◌∷◌, ◌≡◌, ◌≢◌, Agrees, BTreeMap, Disk, Global, Listing, Looks, None, Nothing, Some, String, Tells, Text, There, UpdatesBy, ap, arith, below, btree_map_updates_text, bytes_eq-Decides, cond, disk_of, flat_map, get_by_text, map, nat_cmp, option_map_or, refl, slice_cmp, string_bytes, string_cmp, subfolders, suc, sym, unwrap_or, zero}
+use Rattle.cargo_toml_audit.proofs.Cited.{Agrees, BTreeMap, Disk, Global, Listing, Looks, None, Nothing, Some, String, Tells, Text, There, UpdatesBy, [], ap, arith, below, btree_map_updates_text, bytes_eq-Decides, cond, disk_of, flat_map, get_by_text, map, nat_cmp, option_map_or, refl, slice_cmp, string_bytes, string_cmp, subfolders, suc, sym, unwrap_or, with_itself, zero, ℕ, ◌-◌, ◌∙◌, ◌≡◌, ◌≢◌}
 
 -- ---- one more answer, of a path of which there was none
 module _ {X : Type 0} (bs path : Text) (m n : BTreeMap (String Global) X) (w : X) (none : get_by_text m path ≡ None) (same : bs ≡ path)
@@ -32,6 +32,6 @@ disk_agrees looks = record {
 }
 
 -- one level of folders at least
-pub below_more : (d : Disk) (n : ℕ) (folder : Text) → n ≢ 0 → below d n folder ≡ folder ∷ flat_map (below d (n - 1)) (subfolders d folder)
+pub below_more : (d : Disk) (n : ℕ) (folder : Text) → n ≢ 0 → below d n folder ≡ flat_map (with_itself (below d (n - 1))) (subfolders d folder)
 below_more d zero folder h = absurd (h refl)
-below_more d (suc n) folder h = ap (λ k. folder ∷ flat_map (below d k) (subfolders d folder)) (omega arith)
+below_more d (suc n) folder h = ap (λ k. flat_map (with_itself (below d k)) (subfolders d folder)) (omega arith)

@@ -1,5 +1,5 @@
 -- The places that are looked at, while some are waiting.
-use Rattle.cargo_toml_audit.proofs.Reports.{[], ℕ, ◌&&◌, ◌++◌, ◌+◌, ◌-◌, ◌||◌, ◌∙◌, ◌∷◌, ◌≡◌, Audit, Base, Bool, Gain, Global, List, MatchOption, None, Option, Reading, Reads, Some, String, Takes, Text, Vec, Visits, Walk, Walks, ap, append-nil, bytes_eq, cond, contains_text, ended, false, filter, filter-append, gain_of_all, inl, inr, is_excluded, is_in, is_member, looked, map, map-append, member_places, option_to_list, or-false, passed, places_read, refl, string_bytes, subst, sym, take, true}
+use Rattle.cargo_toml_audit.proofs.Cited.{Audit, Base, Bool, Gain, Global, List, MatchOption, None, Option, Reading, Reads, Some, String, Takes, Text, Vec, Visits, Walk, Walks, [], ap, append-nil, bytes_eq, cond, contains_text, ended, false, filter, filter-append, gain_of_all, inl, inr, is_excluded, is_in, is_member, looked, map, map-append, member_places, option_to_list, or-false, passed, places_read, refl, string_bytes, subst, sym, take, true, ℕ, ◌&&◌, ◌++◌, ◌+◌, ◌-◌, ◌||◌, ◌∙◌, ◌∷◌, ◌≡◌}
 use Rattle.cargo_toml_audit.proofs.Texts.{one_more_in}
 use Rattle.cargo_toml_audit.proofs.Taking.{one_more_gain, takes_both, takes_nothing}
 
@@ -35,7 +35,7 @@ module _ (base : Base) (first : List Text) where
 
   -- the next place was popped, and visited
   walked : (place : Text) (left : Vec (String Global) Global) (walk after : Walk) (old now new : Audit) → map string_bytes walk.waiting.items ≡ map string_bytes left.items ++ place ∷ []
-      → Visits base (is_in first place) place (record walk { waiting = left }) after now new → Walking walk old now → Walking after old new
+      → Visits base (is_excluded base place) (is_in first place) place (record walk { waiting = left }) after now new → Walking walk old now → Walking after old new
   walked place left walk after old now new popped (inl past) w =
       subst (λ (x : Walk). Walking x old new) (sym past.1.0) (subst (λ (x : Audit). Walking (record walk { waiting = left }) old x) (sym past.1.1) (record {
         readings = w.readings;
@@ -67,13 +67,14 @@ module _ (base : Base) (first : List Text) where
   }
 
   -- the same of what was popped and asked
-  pub walking_on : (x : String Global) (listed : Bool) (asked : Text) (left : Vec (String Global) Global) (walk after : Walk) (old now new : Audit)
-      → walk.waiting.items ≡ left.items ++ x ∷ [] → listed ≡ is_in first (string_bytes x) → asked ≡ string_bytes x
-      → Visits base listed asked (record walk { waiting = left }) after now new → Walking walk old now → Walking after old new
-  walking_on x listed asked left walk after old now new popped flag same visits w =
+  pub walking_on : (x : String Global) (excluded listed : Bool) (asked : Text) (left : Vec (String Global) Global) (walk after : Walk) (old now new : Audit)
+      → walk.waiting.items ≡ left.items ++ x ∷ [] → excluded ≡ is_excluded base (string_bytes x) → listed ≡ is_in first (string_bytes x) → asked ≡ string_bytes x
+      → Visits base excluded listed asked (record walk { waiting = left }) after now new → Walking walk old now → Walking after old new
+  walking_on x excluded listed asked left walk after old now new popped out flag same visits w =
       walked (string_bytes x) left walk after old now new (ap (map string_bytes) popped ∙ map-append string_bytes left.items (x ∷ []))
-      (subst (λ (b : Bool). Visits base b (string_bytes x) (record walk { waiting = left }) after now new) flag
-      (subst (λ (t : Text). Visits base listed t (record walk { waiting = left }) after now new) same visits)) w
+      (subst (λ (b : Bool). Visits base b (is_in first (string_bytes x)) (string_bytes x) (record walk { waiting = left }) after now new) out
+      (subst (λ (b : Bool). Visits base excluded b (string_bytes x) (record walk { waiting = left }) after now new) flag
+      (subst (λ (t : Text). Visits base excluded listed t (record walk { waiting = left }) after now new) same visits))) w
 
 -- nothing was there to be popped
 pub none_left : (items left : List (String Global)) (o : Option (String Global)) (n m : ℕ) → items ≡ left ++ option_to_list o → left ≡ take (n - 1) items

@@ -10,16 +10,13 @@ use Rattle.cargo_toml.specs.{InheritableValues.value_of, Manifests.ManifestMeani
 use Rattle.cargo_toml.specs.{Packages.PackageMeaning}
 use Rattle.cargo_toml_audit.specs.declared.audit.Member.{Member}
 
--- the names of registries, with a comma between each two; none at all is `no`
-abbrev pub names_text : List Text → Text
-names_text names =
-    if length names == 0 then codes "no" else join_by (λ text. text) (codes ", ") names
-
--- where a package may be published
+-- where a package may be published: the names of registries have a comma between each two, and none
+-- at all is `no`
 abbrev pub publish_text : Registries → Text
 publish_text (everywhere true) = codes "yes"
 publish_text (everywhere false) = codes "no"
-publish_text (among names) = names_text names
+publish_text (among names) =
+    if length names == 0 then codes "no" else join_by (λ text. text) (codes ", ") names
 
 -- a text that may be missing, and that isn't left to the workspace
 abbrev pub stated : Option (String Global) → Option (Inheritable Text)

@@ -23,10 +23,7 @@ use Rattle.cargo_toml_audit.specs.Oddities.{Gain, Oddity, both, differences, fou
 use Rattle.cargo_toml_audit.specs.Oddities.{found_in, has_no_target, is_bare, oddities_of}
 use Rattle.cargo_toml_audit.specs.Oddities.{only_found, overall_oddities, refusals}
 use Rattle.cargo_toml_audit.specs.Places.{excludes, is_in, lies_in, manifest_path, place_of}
-use Rattle.cargo_toml_audit.specs.declared.audit.Code.TheVariants.{Absent, BadPattern, Incomplete}
-use Rattle.cargo_toml_audit.specs.declared.audit.Code.TheVariants.{DefaultMember, ListedTwice}
-use Rattle.cargo_toml_audit.specs.declared.audit.Code.TheVariants.{NoTarget, Unlisted, Unseen}
-use Rattle.cargo_toml_audit.specs.declared.audit.Code.TheVariants.{Virtual}
+use Rattle.cargo_toml_audit.specs.declared.audit.Code.TheVariants as kind
 use Rattle.cargo_toml_audit.specs.{Entries.left_keys, MemberFolders.unseen, Audited.IsMemberOf}
 use Rattle.cargo_toml_audit.specs.{Audited.is_untold, declared.audit.Code.Code}
 use Rattle.cargo_toml_audit.specs.{declared.audit.Audit.Audit, declared.audit.Member.Member}
@@ -42,8 +39,9 @@ pub data Made : Type 0 where
   told : Manifest Value → Member → Made
 
 -- What was read at a place: nothing, for a fault; a manifest that is none of the workspace's, with
--- the fault of completing it, if any; the root's, which has no package; or that of a member, with
--- whether it lies in the workspace's folder or leads there, and whether its features have errors.
+-- the fault of completing it, if any; the root's, which has no package; or that of a member. Of a
+-- member: whether it lies in the workspace's folder or leads there, and whether its features have
+-- errors.
 pub data Content : Type 0 where
   unread : Error → Content
   foreign : Option Error → Content
@@ -57,8 +55,8 @@ pub record Reading : Type 0 where
 -- how a fault of a place is found
 abbrev pub refusal_code : Error → Code
 refusal_code e = elim (out-Error e) as (λ _. Code) [
-  | Error-F.Io fault ↦ if is_absent (error_kind fault) then Absent else Incomplete
-  | _ ↦ Incomplete
+  | Error-F.Io fault ↦ if is_absent (error_kind fault) then kind.Absent else kind.Incomplete
+  | _ ↦ kind.Incomplete
 ]
 
 abbrev pub refusal : Text → Error → List Oddity
@@ -166,12 +164,12 @@ module _ (base : Base) where
       (refusals place base.place (btree_map_len base.workspace.lints == 0) own errors (held m))
 
   abbrev pub targets_found : Text → Manifest Value → List Oddity
-  targets_found place new = found_if NoTarget (has_no_target (held new)) place
+  targets_found place new = found_if kind.NoTarget (has_no_target (held new)) place
 
   abbrev pub gain_made : Text → Made → Gain
   gain_made place (incomplete e) = only_found (refusal place e)
   gain_made place (untold new) =
-      only_found (targets_found place new ++ found_if Incomplete true place)
+      only_found (targets_found place new ++ found_if kind.Incomplete true place)
   gain_made place (told new member) = record {
     members = member ∷ [];
     found = targets_found place new
@@ -183,7 +181,7 @@ module _ (base : Base) where
   abbrev pub gain_of : Text → Content → Gain
   gain_of place (unread e) = only_found (refusal place e)
   gain_of place (foreign fault) = only_found (option_map_or (refusal place) fault [])
-  gain_of place (rootless m) = only_found (found_if Virtual (not (is_bare m)) place)
+  gain_of place (rootless m) = only_found (found_if kind.Virtual (not (is_bare m)) place)
   gain_of place (belongs own errors m made) =
       both (record {
         members = [];
@@ -266,7 +264,7 @@ module _ (base : Base) where
     -- an entry of `default-members` leads to a place that is no member's, nor listed and excluded
     abbrev pub astray : Knows → Text → List Oddity
     astray k entry =
-        found_if DefaultMember
+        found_if kind.DefaultMember
         (list_any (is_astray k) (places_if_right disk base.place entry)) entry
 
   abbrev pub default_entries : List Text
@@ -275,9 +273,9 @@ module _ (base : Base) where
   -- what is found of the lists
   abbrev pub found_in_lists : List Text → List Oddity
   found_in_lists places =
-      found_each ListedTwice (repeats places)
-      ++ (found_each BadPattern (filter is_wrong member_entries)
-      ++ found_each BadPattern (filter is_wrong default_entries))
+      found_each kind.ListedTwice (repeats places)
+      ++ (found_each kind.BadPattern (filter is_wrong member_entries)
+      ++ found_each kind.BadPattern (filter is_wrong default_entries))
 
   abbrev pub knows : Disk → List Reading → Knows
   knows disk readings = record {
@@ -290,8 +288,8 @@ module _ (base : Base) where
   -- what couldn't be looked at
   abbrev pub found_beside : Looks → Disk → Knows → Text → List Oddity
   found_beside looks disk k asked =
-      found_if Unlisted (not (k.members asked)) asked
-      ++ (flat_map (astray disk k) default_entries ++ found_each Unseen (unseen looks))
+      found_if kind.Unlisted (not (k.members asked)) asked
+      ++ (flat_map (astray disk k) default_entries ++ found_each kind.Unseen (unseen looks))
 
   abbrev pub all_found : Looks → List Reading → Text → List Oddity
   all_found looks readings asked =

@@ -56,6 +56,10 @@ is_plain behind_deep name = not behind_deep && not (is_pattern name)
 abbrev pub skips : Bool → Text → Bool
 skips behind_deep name = is_deep name || (behind_deep && (length name == 0))
 
+-- a folder, and those that lie below it
+abbrev pub with_itself : (Text → List Text) → Text → List Text
+with_itself lying_below folder = folder ∷ lying_below folder
+
 module _ (d : Disk) where
   -- the folders that lie right in one
   abbrev pub subfolders : Text → List Text
@@ -63,10 +67,10 @@ module _ (d : Disk) where
       if is_folder (d.there folder)
       then filter (λ p. is_folder (d.there p)) (map (path_join folder) (d.names folder)) else []
 
-  -- a folder, and those below it, so many levels of them
+  -- those below a folder, so many levels of them
   abbrev pub below : ℕ → Text → List Text
   below zero folder = []
-  below (suc n) folder = folder ∷ flat_map (below n) (subfolders folder)
+  below (suc n) folder = flat_map (with_itself (below n)) (subfolders folder)
 
   unfoldable pub all_below : Text → List Text
   all_below folder = below 2048 folder
@@ -87,13 +91,12 @@ module _ (d : Disk) where
   -- right behind `**` from the folder and all below it
   abbrev pub further : Bool → Text → Text → List Text
   further behind_deep name folder =
-      if behind_deep then flat_map (further_in true name) (all_below folder)
+      if behind_deep then flat_map (further_in true name) (with_itself all_below folder)
       else further_in false name folder
 
   -- where names end: right behind `**` at all below the folder
   abbrev pub ended : Bool → Text → List Text
-  ended behind_deep folder =
-      if behind_deep then flat_map all_below (subfolders folder) else folder ∷ []
+  ended behind_deep folder = if behind_deep then all_below folder else folder ∷ []
 
   -- what names lead to from a folder, one after the other
   abbrev pub led : Bool → List Text → Text → List Text
@@ -150,7 +153,7 @@ is_wrong entry = list_any is_wrong_name (pieces entry)
 abbrev pub places_if_right : Disk → Text → Text → List Text
 places_if_right d root entry = if is_wrong entry then [] else places_of d root entry
 
--- the texts of a list that stand in others, or before in it; or those that don't
+-- where `again` is set, the texts of a list that stand in others or before in it; else the rest
 abbrev pub picked : Bool → List Text → List Text → List Text
 picked again before [] = []
 picked again before (t ∷ ts) =

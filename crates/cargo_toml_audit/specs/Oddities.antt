@@ -11,12 +11,7 @@ use Rattle.cargo_toml.specs.{Action.Text, Manifests.ManifestMeaning, Templates.T
 use Rattle.cargo_toml.specs.{Inheritable.Inheritable, Inheritable.TheVariants.Inherited}
 use Rattle.cargo_toml.specs.{Inheritable.TheVariants.Set, Manifest.Manifest, Manifests.held}
 use Rattle.cargo_toml.specs.{Packages.PackageMeaning, Settings.edition_text}
-use Rattle.cargo_toml_audit.specs.declared.audit.Code.TheVariants.{Features, SeveralRequirements}
-use Rattle.cargo_toml_audit.specs.declared.audit.Code.TheVariants.{OptionalShared, UnusedDependency}
-use Rattle.cargo_toml_audit.specs.declared.audit.Code.TheVariants.{OtherWorkspace, WorkspaceWithin}
-use Rattle.cargo_toml_audit.specs.declared.audit.Code.TheVariants.{NotInherited, TwoWorkspaces}
-use Rattle.cargo_toml_audit.specs.declared.audit.Code.TheVariants.{OtherEdition, OtherLicense}
-use Rattle.cargo_toml_audit.specs.declared.audit.Code.TheVariants.{NoLints, Outside, SameName}
+use Rattle.cargo_toml_audit.specs.declared.audit.Code.TheVariants as kind
 use Rattle.cargo_toml_audit.specs.{Entries.Asking, Entries.Listed, Entries.entries_of, Places.is_in}
 use Rattle.cargo_toml_audit.specs.{Places.place_of, MemberFolders.repeats, declared.audit.Code.Code}
 use Rattle.cargo_toml_audit.specs.{declared.audit.Finding.Finding, declared.audit.Member.Member}
@@ -55,9 +50,9 @@ other_of code folder own (Some given) = found_if code (not (has_given own given)
 abbrev pub differences : Option TemplateMeaning → Member → List Oddity
 differences template member =
     option_map_or
-    (λ t. other_of OtherEdition (string_bytes member.folder) (Some (string_bytes member.edition))
-    (option_map edition_text t.edition)
-    ++ other_of OtherLicense (string_bytes member.folder)
+    (λ t. other_of kind.OtherEdition (string_bytes member.folder)
+    (Some (string_bytes member.edition)) (option_map edition_text t.edition)
+    ++ other_of kind.OtherLicense (string_bytes member.folder)
     (option_map string_bytes member.license) t.license)
     template []
 
@@ -84,16 +79,16 @@ is_not_inherited es = list_any (λ e. is_false e.1.1) es
 abbrev pub refusals : {M : Type 0} → Text → Text → Bool → Bool → Bool → ManifestMeaning M
     → List (Code × Bool)
 refusals place root lacks_lints own errors m =
-    (Features, errors)
-    ∷ (NoLints, lacks_lints && field_is_left m.lints)
-    ∷ (NotInherited, is_not_inherited (entries_of m))
+    (kind.Features, errors)
+    ∷ (kind.NoLints, lacks_lints && field_is_left m.lints)
+    ∷ (kind.NotInherited, is_not_inherited (entries_of m))
     ∷ (
-      OtherWorkspace,
+      kind.OtherWorkspace,
       leads_elsewhere place root (named_by m.«package») && not (is_some m.workspace),
     )
-    ∷ (Outside, not own && not (is_some (named_by m.«package»)))
-    ∷ (TwoWorkspaces, is_some (named_by m.«package») && is_some m.workspace)
-    ∷ (WorkspaceWithin, is_some m.workspace && not (bytes_eq place root)) ∷ []
+    ∷ (kind.Outside, not own && not (is_some (named_by m.«package»)))
+    ∷ (kind.TwoWorkspaces, is_some (named_by m.«package») && is_some m.workspace)
+    ∷ (kind.WorkspaceWithin, is_some m.workspace && not (bytes_eq place root)) ∷ []
 
 -- a package that is completed has nothing to build
 abbrev pub lacks_targets : {M : Type 0} → ManifestMeaning M → Bool
@@ -140,8 +135,8 @@ both g h = record {
 -- of a dependency of the workspace: no member inherits it, and it is optional
 abbrev pub shared_oddities : (Text → Bool) → Text × DependencyMeaning → List Oddity
 shared_oddities inherits e =
-    found_if UnusedDependency (not (inherits e.0)) e.0
-    ++ found_if OptionalShared (is_optional e.1) e.0
+    found_if kind.UnusedDependency (not (inherits e.0)) e.0
+    ++ found_if kind.OptionalShared (is_optional e.1) e.0
 
 -- a crate is asked for that was before, and by a requirement that is new
 abbrev pub asking_key : Asking → Text
@@ -149,7 +144,7 @@ asking_key a = a.requirement ++ codes "|" ++ a.name
 
 abbrev pub further_of : (Text → Bool) → (Text → Bool) → Asking → List Oddity
 further_of names keys a =
-    found_if SeveralRequirements (names a.name && not (keys (asking_key a))) a.name
+    found_if kind.SeveralRequirements (names a.name && not (keys (asking_key a))) a.name
 
 abbrev pub further_from : (Text → Bool) → (Text → Bool) → List Asking → List Oddity
 further_from names keys [] = []
@@ -162,5 +157,5 @@ further_from names keys (a ∷ others) =
 abbrev pub overall_oddities : Entries → Gain → List Oddity
 overall_oddities dependencies g =
     flat_map (shared_oddities (is_in g.inherited)) dependencies
-    ++ (found_each SameName (repeats (map (λ m. string_bytes m.name) g.members))
+    ++ (found_each kind.SameName (repeats (map (λ m. string_bytes m.name) g.members))
     ++ further_from (λ t. false) (λ t. false) g.asked)

@@ -34,11 +34,10 @@ begins_with_dot _ = false
 -- what stands in brackets has a character: one by one, and `-` (45) between two makes a range
 abbrev pub is_among : List ℕ → ℕ → Bool
 is_among [] c = false
-is_among (first ∷ []) c = nat_eq first c || false
-is_among (first ∷ next ∷ []) c = nat_eq first c || (nat_eq next c || false)
 is_among (first ∷ next ∷ last ∷ others) c =
     if nat_eq next 45 then (nat_le first c && nat_le c last) || is_among others c
     else nat_eq first c || is_among (next ∷ last ∷ others) c
+is_among (first ∷ others) c = nat_eq first c || is_among others c
 
 abbrev pub accepts : Part → ℕ → Bool
 accepts many c = true

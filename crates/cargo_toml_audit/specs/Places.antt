@@ -1,7 +1,7 @@
 -- Paths of folders: a path is its bytes, and its names stand between slashes.
 use Rattle.std.specs.Prelude.{◌++◌, ◌&&◌, ◌||◌, ◌==◌, ◌-◌, Bool, true, false, List, [], ◌∷◌, codes}
 use Rattle.std.specs.Prelude.{bytes_eq, filter, fold, get_or, if◌then◌else◌, length, nat_eq, not}
-use Rattle.std.specs.Prelude.{take}
+use Rattle.std.specs.Prelude.{map, take}
 use Rattle.std.specs.List.{join_by, list_any, slice_split, starts_with}
 use Rattle.std.specs.Path.{path_join}
 use Rattle.cargo_toml.specs.Action.{Text}
@@ -56,18 +56,24 @@ manifest_path folder = path_join folder (codes "Cargo.toml")
 abbrev pub lies_in : Text → Text → Bool
 lies_in place outer = bytes_eq place outer || starts_with nat_eq place (path_join outer [])
 
--- a path is one of these entries of a list in a folder, or lies in one. As Cargo compares them,
--- each `..` of an entry stays
-abbrev pub lies_in_some : Text → Text → List Text → Bool
-lies_in_some root path entries =
-    list_any (λ e. lies_in path (normalized true (path_join root e))) entries
+-- the paths of the entries of a list in a folder, as places are compared with them: each `..` of an
+-- entry stays, as Cargo has it
+abbrev pub outer_paths : Text → List Text → List Text
+outer_paths root entries = map (λ e. normalized true (path_join root e)) entries
 
--- a workspace excludes a place: its manifest lies in what is excluded, and in no entry of `members`
--- as that is written
+-- a path is one of these, or lies in one
+abbrev pub lies_in_some : Text → List Text → Bool
+lies_in_some path outers = list_any (lies_in path) outers
+
+-- a place is excluded: its manifest lies in what is excluded, and in no entry of `members` as that
+-- is written
+abbrev pub excluded_by : List Text → List Text → Text → Bool
+excluded_by excluded members place =
+    lies_in_some (manifest_path place) excluded && not (lies_in_some (manifest_path place) members)
+
+-- a workspace in a folder excludes a place
 abbrev pub excludes : Text → List Text → List Text → Text → Bool
-excludes root excluded members place =
-    lies_in_some root (manifest_path place) excluded
-    && not (lies_in_some root (manifest_path place) members)
+excludes root excluded members = excluded_by (outer_paths root excluded) (outer_paths root members)
 
 -- those of these places that it doesn't exclude
 abbrev pub included : Text → List Text → List Text → List Text → List Text

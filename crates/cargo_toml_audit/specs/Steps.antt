@@ -5,11 +5,10 @@ use Rattle.std.specs.Prelude.{◌||◌, bytes_eq, false, true}
 use Rattle.std.specs.{BTreeSet.contains_text, declared.alloc.Global.Global}
 use Rattle.toml.specs.declared.value.Value.{Value}
 use Rattle.cargo_toml.specs.{Action.Text, Manifest.Manifest, Manifests.held}
-use Rattle.cargo_toml_audit.specs.AuditedFiles.{IsCompletedThere, entered_places, found_in_lists}
-use Rattle.cargo_toml_audit.specs.AuditedFiles.{Content, first_places, listed_places, member_places}
-use Rattle.cargo_toml_audit.specs.AuditedFiles.{HasErrors, IsContent, gain_of_all, is_excluded}
-use Rattle.cargo_toml_audit.specs.AuditedFiles.{belongs, gain_made, gain_of, is_member, needs_of}
-use Rattle.cargo_toml_audit.specs.AuditedFiles.{AreRead, Base, IsMade, Knows, Made, Reading, Takes}
+use Rattle.cargo_toml_audit.specs.AuditedFiles.{AreRead, IsMade, Knows, Made, Reading, Takes}
+use Rattle.cargo_toml_audit.specs.AuditedFiles.{Base, entered_places, found_in_lists, listed_places}
+use Rattle.cargo_toml_audit.specs.AuditedFiles.{Content, IsContent, gain_of, is_member, needs_of}
+use Rattle.cargo_toml_audit.specs.AuditedFiles.{first_places, gain_made, gain_of_all, member_places}
 use Rattle.cargo_toml_audit.specs.declared.auditing.walk.Walk.{Walk}
 use Rattle.cargo_toml_audit.specs.{Entries.left_keys, MemberFolders.Disk, Oddities.oddities_of}
 use Rattle.cargo_toml_audit.specs.{Places.is_in, declared.audit.Audit.Audit}
@@ -23,30 +22,12 @@ known_of k = record {
 }
 
 module _ (base : Base) where
-  -- what is told of a completed manifest is added, or that nothing can be: by the keys that the
-  -- member inherits
-  pub record AddsCompleted (place : Text) (new : Manifest Value) (keys : List Text)
-      (before after : Audit) : Type 0 where
-    pub made : Made
-    pub is_made : (m : Manifest Value) → IsCompletedThere base m new → keys ≡ left_keys (held m)
-        → IsMade base place m made
-    pub takes : Takes (gain_made base place made) before after
-
   -- what completion made of a member's manifest is added; the keys that it inherits are known
   pub record AddsMade (place : Text) (m : Manifest Value) (inherits : Vec (String Global) Global)
       (old new : Audit) : Type 0 where
     pub made : Made
     pub is_made : map string_bytes inherits.items ≡ left_keys (held m) → IsMade base place m made
     pub takes : Takes (gain_made base place made) old new
-
-  -- a member is added
-  pub record AddsMemberAt (place : Text) (own : Bool) (m : Manifest Value) (old new : Audit)
-      : Type 0 where
-    pub errors : Bool
-    pub made : Made
-    pub errors_are : HasErrors m errors
-    pub is_made : IsMade base place m made
-    pub takes : Takes (gain_of base place (belongs own errors m made)) old new
 
   -- what lies at a place is added
   pub record AddsPlace (is_listed : Bool) (place : Text)
@@ -68,13 +49,10 @@ module _ (base : Base) where
 
   -- ---- the walk
   -- a place was seen before or is excluded, or it is looked at
-  abbrev pub is_past : Text → Walk → Bool
-  is_past place walk = contains_text walk.seen place || is_excluded base place
-
-  pub record IsLookedAt (is_listed : Bool) (place : Text) (before after : Walk)
+  pub record IsLookedAt (excluded is_listed : Bool) (place : Text) (before after : Walk)
       (old new : Audit) : Type 0 where
     pub content : Content
-    pub fresh : is_past place before ≡ false
+    pub fresh : (contains_text before.seen place || excluded) ≡ false
     pub is : IsContent base is_listed place content
     pub takes : Takes (gain_of base place content) old new
     pub seen : (t : Text) → contains_text after.seen t
@@ -84,10 +62,10 @@ module _ (base : Base) where
     pub waiting : map string_bytes after.waiting.items
         ≡ map string_bytes before.waiting.items ++ needs_of base place content
 
-  abbrev pub Visits : Bool → Text → Walk → Walk → Audit → Audit → Type 0
-  Visits is_listed place before after old new =
-      ((is_past place before ≡ true) × ((after ≡ before) × (new ≡ old)))
-      ⊎ IsLookedAt is_listed place before after old new
+  abbrev pub Visits : Bool → Bool → Text → Walk → Walk → Audit → Audit → Type 0
+  Visits excluded is_listed place before after old new =
+      (((contains_text before.seen place || excluded) ≡ true) × ((after ≡ before) × (new ≡ old)))
+      ⊎ IsLookedAt excluded is_listed place before after old new
 
   -- all that is read of these places on is taken in, and so are the members
   pub record Walks (first : List Text) (members : Text → Bool) (old new : Audit) : Type 0 where

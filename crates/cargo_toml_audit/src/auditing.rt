@@ -1,4 +1,4 @@
-//! The report on a workspace.
+//! Makes the report on a workspace: follows its lists and its members, and reads what lies there.
 ghost use Rattle.std.specs.Prelude.{◌≡◌, ◌++◌, IfErr, IfOk, OnOk, map, string_bytes};
 ghost use Rattle.std.specs.List.{flat_map, list_any};
 ghost use Rattle.cargo_toml_audit.specs.Steps.{AreListed, known_of};
@@ -190,18 +190,13 @@ fn any_astray(known: &Known, places: &[String]) -> bool
     ensures { result ≡ list_any (is_astray (known_of known.now)) (map string_bytes places.now) }
 {
     for place in places {
-        if is_astray(known, place.as_str()) {
+        let place = place.as_str();
+        let is_excluded = known.listed.contains(place) & !known.entered.contains(place);
+        if !known.members.contains(place) & !is_excluded {
             return true;
         }
     }
     false
-}
-
-fn is_astray(known: &Known, place: &str) -> bool
-    ensures { result ≡ is_astray (known_of known.now) place.now }
-{
-    !known.members.contains(place)
-        && !(known.listed.contains(place) && !known.entered.contains(place))
 }
 
 /// The report as text, and whether something is odd: JSON where `as_json` is set, and else lines.

@@ -1,4 +1,4 @@
-//! The members of a workspace, as Cargo finds them by its lists and by paths of dependencies.
+//! The places that the lists of a workspace lead to, and that it excludes, as Cargo finds them.
 ghost use Rattle.std.specs.Prelude.{◌≡◌, IfOk, filter, map, string_bytes};
 ghost use Rattle.cargo_toml_audit.specs.MemberFolders.{is_wrong, unseen};
 ghost use Rattle.cargo_toml_audit.specs.Places.{included};
@@ -12,7 +12,7 @@ use crate::AllocResult;
 use cargo_toml::Workspace;
 use patterns::{is_deep, tokens_of};
 use places::pieces;
-pub use places::{excludes, lies_in, manifest_path, place_of, seen_from};
+pub use places::{Exclusion, lies_in, manifest_path, place_of, seen_from};
 use sets::push_if;
 pub use sets::{note, picked, set_of};
 use std::alloc::Global;
@@ -54,9 +54,10 @@ pub fn included(
         (map string_bytes workspace.now.exclude.items)
         (map string_bytes workspace.now.members.items) (map string_bytes places.now)) }
 {
+    let exclusion = Exclusion::of(alloc, root, workspace)?;
     let mut all = Vec::new(alloc);
     for place in places {
-        let is_included = !excludes(alloc, root, workspace, place.as_str())?;
+        let is_included = !exclusion.excludes(alloc, place.as_str())?;
         push_if(&mut all, place.as_str(), is_included)?;
     }
     Ok(all)

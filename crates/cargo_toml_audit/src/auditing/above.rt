@@ -5,7 +5,7 @@ ghost use Rattle.cargo_toml_audit.specs.Places.{lies_in};
 
 use crate::AllocResult;
 use crate::audit::named_by;
-use crate::members::{Looking, There, excludes, lies_in, manifest_path, place_of};
+use crate::members::{Exclusion, Looking, There, lies_in, manifest_path, place_of};
 use cargo_toml::{Error, Manifest};
 use cargo_toml_parts::paths::ancestors;
 use cargo_toml_tools::files::manifest_in;
@@ -77,7 +77,8 @@ fn led_to(
     asked: &str,
 ) -> AllocResult<Option<String>> {
     if let Some(workspace) = &manifest.workspace {
-        if excludes(alloc, place, workspace, asked)? {
+        let exclusion = Exclusion::of(alloc, place, workspace)?;
+        if exclusion.excludes(alloc, asked)? {
             return Ok(None);
         }
         return Ok(Some(String::from_str(alloc, place)?));

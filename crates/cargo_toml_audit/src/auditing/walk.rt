@@ -3,12 +3,12 @@
 ghost use Rattle.std.specs.Prelude.{IfErr, IfOk, OnOk, map, string_bytes};
 ghost use Rattle.std.specs.BTreeSet.{contains_text};
 ghost use Rattle.cargo_toml_audit.specs.AuditedFiles.{IsAuditFault, base_of};
-ghost use Rattle.cargo_toml_audit.specs.Steps.{Visits, Walks};
+ghost use Rattle.cargo_toml_audit.specs.{Places.excluded_by, Steps.Visits, Steps.Walks};
 ghost use Rattle.cargo_toml_tools.specs.FromFiles.{IsUnreadable};
 
 use super::place::At;
 use crate::audit::{Audit, Root};
-use crate::members::{excludes, note, set_of};
+use crate::members::{Exclusion, note, set_of};
 use cargo_toml::Error;
 use std::collections::BTreeSet;
 use std::io;
@@ -40,6 +40,7 @@ pub fn add_members<R: Files + Eprint + RandomSource + AllocGlobal>(
     ensures refused { IfErr result IsAuditFault }
 {
     let alloc = rt.alloc();
+    let exclusion = Exclusion::of(alloc, root.place, root.workspace)?;
     let listed = set_of(alloc, first.as_slice())?;
     let mut walk = Walk {
         waiting: first,
@@ -59,7 +60,7 @@ pub fn add_members<R: Files + Eprint + RandomSource + AllocGlobal>(
             place: place.as_str(),
             is_listed,
         };
-        visit(&at, &mut walk, audit)?;
+        visit(&at, &exclusion, &mut walk, audit)?;
     }
     Err(Error::Other("there are too many places"))
 }
@@ -67,18 +68,21 @@ pub fn add_members<R: Files + Eprint + RandomSource + AllocGlobal>(
 /// Looks at a place, unless that was done or it is excluded.
 fn visit<R: Files + RandomSource + AllocGlobal>(
     at: &At<'_, R>,
+    exclusion: &Exclusion,
     walk: &mut Walk,
     audit: &mut Audit,
 ) -> Result<(), Error>
-    ensures visited { OnOk result (Visits (base_of at.now.root) at.now.is_listed at.now.place.now
-        walk.old walk.new audit.old audit.new) }
+    ensures visited { OnOk result (Visits (base_of at.now.root)
+        (excluded_by (map string_bytes exclusion.now.excluded.items)
+        (map string_bytes exclusion.now.members.items) at.now.place.now)
+        at.now.is_listed at.now.place.now walk.old walk.new audit.old audit.new) }
     ensures refused { IfErr result IsUnreadable }
 {
     let alloc = at.rt.alloc();
     if walk.seen.contains(at.place) {
         return Ok(());
     }
-    if excludes(alloc, at.root.place, at.root.workspace, at.place)? {
+    if exclusion.excludes(alloc, at.place)? {
         return Ok(());
     }
     let (is_member, mut needs) = at.add_place(audit)?;

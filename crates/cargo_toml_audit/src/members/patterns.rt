@@ -102,7 +102,7 @@ impl Reading {
         }
     }
 
-    /// The same outside brackets, at times right behind a star.
+    /// The same outside brackets, right behind a star where `is_star` is set.
     fn take_plain(&mut self, c: char, is_star: bool) -> AllocResult<()>
         ensures { OnOk result (read_of self.new ≡ read_plain is_star (read_of self.old) c) }
     {

@@ -1,8 +1,8 @@
 //! Places of folders: absolute paths with no `.` and no `..` in them.
 ghost use Rattle.std.specs.Prelude.{◌≡◌, IfOk, map, string_bytes};
-ghost use Rattle.cargo_toml_audit.specs.Places.{begins_at, ends_in_name, excludes, lies_in};
-ghost use Rattle.cargo_toml_audit.specs.Places.{lies_in_some, manifest_path, normalized};
-ghost use Rattle.cargo_toml_audit.specs.Places.{or_dot, pieces, place_of, with_names};
+ghost use Rattle.cargo_toml_audit.specs.Places.{begins_at, ends_in_name, excluded_by, lies_in};
+ghost use Rattle.cargo_toml_audit.specs.Places.{lies_in_some, manifest_path, normalized, or_dot};
+ghost use Rattle.cargo_toml_audit.specs.Places.{outer_paths, pieces, place_of, with_names};
 
 use crate::AllocResult;
 use cargo_toml::Workspace;
@@ -97,34 +97,65 @@ pub fn lies_in(alloc: Global, place: &str, outer: &str) -> AllocResult<bool>
     Ok(place.as_bytes().starts_with(front.as_str().as_bytes()))
 }
 
-/// Whether what lies at a path is one of the entries of a list in `root`, or lies in one. As Cargo
-/// compares them, each `..` of an entry stays.
-fn lies_in_some(alloc: Global, root: &str, path: &str, entries: &[String]) -> AllocResult<bool>
-    ensures { IfOk result
-        (λ b. b ≡ lies_in_some root.now path.now (map string_bytes entries.now)) }
+/// What places are compared with to tell whether a workspace excludes them: paths from its folder,
+/// in which each `..` stays, as Cargo has it.
+#[derive(Drop)]
+pub struct Exclusion {
+    /// Those of the entries of `exclude`.
+    pub excluded: Vec<String>,
+    /// Those of the entries of `members`.
+    pub members: Vec<String>,
+}
+
+impl Exclusion {
+    /// That of a workspace in `root`.
+    pub fn of(alloc: Global, root: &str, workspace: &Workspace) -> AllocResult<Exclusion>
+        ensures excluded { IfOk result (λ all. map string_bytes all.excluded.items
+            ≡ outer_paths root.now (map string_bytes workspace.now.exclude.items)) }
+        ensures members { IfOk result (λ all. map string_bytes all.members.items
+            ≡ outer_paths root.now (map string_bytes workspace.now.members.items)) }
+    {
+        let excluded = outer_paths(alloc, root, workspace.exclude.as_slice())?;
+        let members = outer_paths(alloc, root, workspace.members.as_slice())?;
+        Ok(Exclusion { excluded, members })
+    }
+
+    /// Whether it excludes what lies at a place. What `members` lists wins, as it is written.
+    pub fn excludes(&self, alloc: Global, place: &str) -> AllocResult<bool>
+        ensures { IfOk result (λ b. b ≡ excluded_by (map string_bytes self.now.excluded.items)
+            (map string_bytes self.now.members.items) place.now) }
+    {
+        let path = manifest_path(alloc, place)?;
+        if !lies_in_some(alloc, path.as_str(), self.excluded.as_slice())? {
+            return Ok(false);
+        }
+        Ok(!lies_in_some(alloc, path.as_str(), self.members.as_slice())?)
+    }
+}
+
+/// The paths of the entries of a list in `root`, with each `..` as it is written.
+fn outer_paths(alloc: Global, root: &str, entries: &[String]) -> AllocResult<Vec<String>>
+    ensures { IfOk result (λ all. map string_bytes all.items
+        ≡ outer_paths root.now (map string_bytes entries.now)) }
 {
+    let mut all = Vec::new(alloc);
     for entry in entries {
         let whole = join(alloc, root, entry.as_str())?;
-        let outer = normalized(alloc, whole.as_str(), true)?;
+        all.push(normalized(alloc, whole.as_str(), true)?)?;
+    }
+    Ok(all)
+}
+
+/// Whether a path is one of these, or lies in one.
+fn lies_in_some(alloc: Global, path: &str, outers: &[String]) -> AllocResult<bool>
+    ensures { IfOk result (λ b. b ≡ lies_in_some path.now (map string_bytes outers.now)) }
+{
+    for outer in outers {
         if lies_in(alloc, path, outer.as_str())? {
             return Ok(true);
         }
     }
     Ok(false)
-}
-
-/// Whether a workspace in `root` excludes what lies at a place. What `members` lists wins, as it is
-/// written.
-pub fn excludes(alloc: Global, root: &str, workspace: &Workspace, place: &str) -> AllocResult<bool>
-    ensures { IfOk result (λ b. b ≡ excludes root.now
-        (map string_bytes workspace.now.exclude.items)
-        (map string_bytes workspace.now.members.items) place.now) }
-{
-    let path = manifest_path(alloc, place)?;
-    if !lies_in_some(alloc, root, path.as_str(), workspace.exclude.as_slice())? {
-        return Ok(false);
-    }
-    Ok(!lies_in_some(alloc, root, path.as_str(), workspace.members.as_slice())?)
 }
 
 /// A place as it is seen from a folder, for people. What has no folder in common with it is told by

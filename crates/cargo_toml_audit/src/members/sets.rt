@@ -8,7 +8,7 @@ use crate::AllocResult;
 use std::alloc::Global;
 use std::collections::BTreeSet;
 
-/// Puts a text into a set, where it is one.
+/// Puts a text into a set, where `is_one` is set.
 pub fn note(alloc: Global, set: &mut BTreeSet<String>, text: &str, is_one: bool) -> AllocResult<()>
     ensures { OnOk result ((t : List ℕ) → contains_text set.new t
         ≡ (contains_text set.old t || (is_one && bytes_eq text.now t))) }
@@ -32,7 +32,7 @@ pub fn set_of(alloc: Global, texts: &[String]) -> AllocResult<BTreeSet<String>>
     Ok(set)
 }
 
-/// The texts that stand before in a list, each time, or those that don't.
+/// Each text of a list once; or, where `again` is set, those that stand there a further time.
 pub fn picked(alloc: Global, texts: &[String], again: bool) -> AllocResult<Vec<String>>
     ensures { IfOk result
         (λ all. map string_bytes all.items ≡ picked again [] (map string_bytes texts.now)) }
@@ -47,7 +47,7 @@ pub fn picked(alloc: Global, texts: &[String], again: bool) -> AllocResult<Vec<S
     Ok(all)
 }
 
-/// Adds a text, where that holds.
+/// Adds a text to a list, where `holds` is set.
 pub fn push_if(all: &mut Vec<String>, text: &str, holds: bool) -> AllocResult<()>
     ensures { OnOk result (map string_bytes all.new.items
         ≡ map string_bytes all.old.items ++ (if holds then text.now ∷ [] else [])) }

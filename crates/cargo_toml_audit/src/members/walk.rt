@@ -35,10 +35,12 @@ pub enum There {
     Unseen,
 }
 
-/// The names of what lies in a folder, and whether it could be read to its end.
+/// What lies in a folder, as far as it could be read.
 #[derive(Debug, Drop)]
 pub struct Listing {
+    /// The names.
     pub names: Vec<String>,
+    /// Whether it could be read to its end.
     pub is_whole: bool,
 }
 
@@ -144,8 +146,8 @@ impl<'a, R: Files + AllocGlobal> Looking<'a, R> {
         Ok(places)
     }
 
-    /// What names lead to from a path, at times right behind `**`. That name leads no further, nor
-    /// does the empty one right behind it.
+    /// What names lead to from a path, right behind `**` where that is set. `**` leads no further,
+    /// nor does the empty name right behind it.
     fn led(&mut self, from: (&str, bool), names: &[&str]) -> AllocResult<Vec<String>>
         ensures { IfOk result (λ paths. Tells
             (λ d. led d from.entry.1 (map (λ t. t.now) names.now) from.entry.0.now)
@@ -171,16 +173,11 @@ impl<'a, R: Files + AllocGlobal> Looking<'a, R> {
         ensures { IfOk result (λ paths. Tells (λ d. ended d from.entry.1 from.entry.0.now)
             self.old.looks self.new.looks (map string_bytes paths.items)) }
     {
+        if from.1 {
+            return self.all_below(from.0);
+        }
         let mut all = Vec::new(self.rt.alloc());
-        if !from.1 {
-            all.push(String::from_str(self.rt.alloc(), from.0)?)?;
-            return Ok(all);
-        }
-        let folders = self.subfolders(from.0)?;
-        for folder in folders.as_slice() {
-            let mut paths = self.all_below(folder.as_str())?;
-            all.append(&mut paths)?;
-        }
+        all.push(String::from_str(self.rt.alloc(), from.0)?)?;
         Ok(all)
     }
 
@@ -190,11 +187,11 @@ impl<'a, R: Files + AllocGlobal> Looking<'a, R> {
         ensures { IfOk result (λ all. Tells (λ d. further d from.entry.1 name.now from.entry.0.now)
             self.old.looks self.new.looks (map string_bytes all.items)) }
     {
+        let mut all = self.further_in(from, name)?;
         if !from.1 {
-            return self.further_in(from, name);
+            return Ok(all);
         }
         let folders = self.all_below(from.0)?;
-        let mut all = Vec::new(self.rt.alloc());
         for folder in folders.as_slice() {
             let mut paths = self.further_in((folder.as_str(), true), name)?;
             all.append(&mut paths)?;
@@ -202,8 +199,8 @@ impl<'a, R: Files + AllocGlobal> Looking<'a, R> {
         Ok(all)
     }
 
-    /// What a name leads to in a folder, at times right behind `**`. One that is no pattern stands
-    /// for itself.
+    /// What a name leads to in a folder. One that is no pattern stands for itself, except right
+    /// behind `**`, where it is compared with the names there.
     fn further_in(&mut self, from: (&str, bool), name: &str) -> AllocResult<Vec<String>>
         ensures { IfOk result (λ all. Tells
             (λ d. further_in d from.entry.1 name.now from.entry.0.now)
@@ -237,7 +234,7 @@ impl<'a, R: Files + AllocGlobal> Looking<'a, R> {
         named_so(self.rt.alloc(), from.0, pattern, names.as_slice())
     }
 
-    /// A folder and all below it.
+    /// The folders below one.
     #[tactic(auto, unfolding(crate::specs::MemberFolders::all_below))]
     fn all_below(&mut self, folder: &str) -> AllocResult<Vec<String>>
         ensures { IfOk result (λ all. Tells (λ d. all_below d folder.now)
@@ -246,7 +243,7 @@ impl<'a, R: Files + AllocGlobal> Looking<'a, R> {
         self.below(folder, MAX_DEPTH)
     }
 
-    /// A folder and all below it, so many levels of them.
+    /// The folders below one, so many levels of them, each before those below it.
     #[tactic(auto, using(crate::proofs::Walked::below_more))]
     fn below(&mut self, folder: &str, levels: usize) -> AllocResult<Vec<String>>
         ensures { IfOk result (λ all. Tells (λ d. below d levels folder.now)
@@ -256,10 +253,10 @@ impl<'a, R: Files + AllocGlobal> Looking<'a, R> {
         if levels == 0 {
             return Ok(all);
         }
-        all.push(String::from_str(self.rt.alloc(), folder)?)?;
         let folders = self.subfolders(folder)?;
         for next in folders.as_slice() {
             let mut paths = self.below(next.as_str(), levels - 1)?;
+            all.push(String::from_str(self.rt.alloc(), next.as_str())?)?;
             all.append(&mut paths)?;
         }
         Ok(all)

@@ -1,4 +1,4 @@
-use Rattle.cargo_toml_audit.proofs.Reports.{◌≡◌, drop, is_astray, known_of, list_any, map, string_bytes}
+use Rattle.cargo_toml_audit.proofs.Cited.{drop, is_astray, known_of, list_any, map, string_bytes, ◌≡◌}
 use Rattle.cargo_toml_audit.proofs.auditing.any_astray.Given as goal
 
 abbrev pub invariant-loop-place : goal.invariant-loop-place

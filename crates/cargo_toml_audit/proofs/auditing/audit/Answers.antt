@@ -1,4 +1,4 @@
-use Rattle.cargo_toml_audit.proofs.Reports.{err_from_is_err_and, inl}
+use Rattle.cargo_toml_audit.proofs.Cited.{err_from_is_err_and, inl}
 use Rattle.cargo_toml_audit.proofs.auditing.audit.Goals as goal
 
 pub returns-in_err-start-clause-refused : goal.returns-in_err-start-clause-refused

@@ -1,4 +1,4 @@
-use Rattle.cargo_toml_audit.proofs.Reports.{◌++◌, ◌≡◌, OnDisks, astray, base_of, drop, flat_map, known_of, map, oddities_of, string_bytes}
+use Rattle.cargo_toml_audit.proofs.Cited.{OnDisks, astray, base_of, drop, flat_map, known_of, map, oddities_of, string_bytes, ◌++◌, ◌≡◌}
 use Rattle.cargo_toml_audit.proofs.auditing.find_astray.Given as goal
 
 abbrev pub invariant-loop-entry : goal.invariant-loop-entry

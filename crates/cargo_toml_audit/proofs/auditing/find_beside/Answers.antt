@@ -1,4 +1,4 @@
-use Rattle.cargo_toml_audit.proofs.Reports.{◌∙◌, ap, arith, common_steps, map, on_ok_weaker, string_bytes}
+use Rattle.cargo_toml_audit.proofs.Cited.{ap, arith, common_steps, map, on_ok_weaker, string_bytes, ◌∙◌}
 use Rattle.cargo_toml_audit.proofs.auditing.find_beside.Goals as goal
 
 pub returns : goal.returns

@@ -1,4 +1,4 @@
-use Rattle.cargo_toml_audit.proofs.Reports.{[], ◌++◌, ◌∙◌, ◌∷◌, ◌≡◌, ap, base_of, entered_places, filter, flat_map, found_in_lists, is_excluded, is_in, listed_places, map, map-append, not, oddities_of, places_once, string_bytes}
+use Rattle.cargo_toml_audit.proofs.Cited.{[], ap, base_of, entered_places, filter, flat_map, found_in_lists, is_excluded, is_in, listed_places, map, map-append, not, oddities_of, places_once, string_bytes, ◌++◌, ◌∙◌, ◌∷◌, ◌≡◌}
 use Rattle.cargo_toml_audit.proofs.auditing.read_lists.Goals as goal
 
 pub returns : goal.returns

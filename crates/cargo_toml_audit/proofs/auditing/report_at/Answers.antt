@@ -1,4 +1,4 @@
-use Rattle.cargo_toml_audit.proofs.Reports.{◌∙◌, IsManifestIn, Manifest, Text, Value, err_from_is_err_and, inl, subst, sym}
+use Rattle.cargo_toml_audit.proofs.Cited.{IsManifestIn, Manifest, Text, Value, err_from_is_err_and, inl, subst, sym, ◌∙◌}
 use Rattle.cargo_toml_audit.proofs.auditing.report_at.Goals as goal
 
 pub returns-in_err-held-clause-refused : goal.returns-in_err-held-clause-refused

@@ -1,4 +1,4 @@
-use Rattle.cargo_toml_audit.proofs.Reports.{[], ◌++◌, ◌∙◌, ◌≡◌, AreListed, AreRead, Audit, Base, Bool, Finding, Gain, Global, IsReport, Known, List, Looks, Takes, Text, Vec, Walks, ap, append-nil, append_assoc, arith, base_of, contains_text, dependency_meaning, disk_of, found_beside, gain_of_all, held_in, map, map_meaning, oddities_of, only_found, overall_oddities, string_bytes, subst, String}
+use Rattle.cargo_toml_audit.proofs.Cited.{AreListed, AreRead, Audit, Base, Bool, Finding, Gain, Global, IsReport, Known, List, Looks, String, Takes, Text, Vec, Walks, [], ap, append-nil, append_assoc, arith, base_of, contains_text, dependency_meaning, disk_of, found_beside, gain_of_all, held_in, map, map_meaning, oddities_of, only_found, overall_oddities, string_bytes, subst, ◌++◌, ◌∙◌, ◌≡◌}
 use Rattle.cargo_toml_audit.proofs.Walked.{disk_agrees}
 use Rattle.cargo_toml_audit.proofs.auditing.report_on.Goals as goal
 

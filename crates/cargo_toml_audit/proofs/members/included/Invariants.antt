@@ -1,4 +1,4 @@
-use Rattle.cargo_toml_audit.proofs.Paths.{◌++◌, ◌≡◌, drop, included, map, string_bytes}
+use Rattle.cargo_toml_audit.proofs.Cited.{drop, included, map, string_bytes, ◌++◌, ◌≡◌}
 use Rattle.cargo_toml_audit.proofs.members.included.Given as goal
 
 abbrev pub invariant-loop-place : goal.invariant-loop-place

@@ -1,4 +1,4 @@
-use Rattle.cargo_toml_audit.proofs.Paths.{◌≡◌, drop, is_wrong, is_wrong_name, list_any, map}
+use Rattle.cargo_toml_audit.proofs.Cited.{drop, is_wrong, is_wrong_name, list_any, map, ◌≡◌}
 use Rattle.cargo_toml_audit.proofs.members.is_wrong.Given as goal
 
 abbrev pub invariant-loop-name : goal.invariant-loop-name

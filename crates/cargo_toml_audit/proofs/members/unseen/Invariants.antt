@@ -1,4 +1,4 @@
-use Rattle.cargo_toml_audit.proofs.Paths.{◌++◌, ◌≡◌, map, string_bytes, unread_in, unseen, unseen_in}
+use Rattle.cargo_toml_audit.proofs.Cited.{map, string_bytes, unread_in, unseen, unseen_in, ◌++◌, ◌≡◌}
 use Rattle.cargo_toml_audit.proofs.members.unseen.Given as goal
 
 abbrev pub invariant-loop-path : goal.invariant-loop-path

@@ -1,4 +1,4 @@
-use Rattle.cargo_toml_audit.proofs.Paths.{◌++◌, ◌≡◌, drop, filter, is_wrong, map, string_bytes}
+use Rattle.cargo_toml_audit.proofs.Cited.{drop, filter, is_wrong, map, string_bytes, ◌++◌, ◌≡◌}
 use Rattle.cargo_toml_audit.proofs.members.wrong_entries.Given as goal
 
 abbrev pub invariant-loop-entry : goal.invariant-loop-entry

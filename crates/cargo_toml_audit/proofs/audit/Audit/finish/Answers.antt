@@ -1,4 +1,4 @@
-use Rattle.cargo_toml_audit.proofs.Reports.{◌++◌, ◌∙◌, ◌≡◌, ap, arith, common_steps, dependency_meaning, flat_map, is_in, map, map_meaning, oddities_of, shared_oddities, string_bytes}
+use Rattle.cargo_toml_audit.proofs.Cited.{ap, arith, common_steps, dependency_meaning, flat_map, is_in, map, map_meaning, oddities_of, shared_oddities, string_bytes, ◌++◌, ◌∙◌, ◌≡◌}
 use Rattle.cargo_toml_audit.proofs.Taking.{takes_found}
 use Rattle.cargo_toml_audit.proofs.audit.Audit.finish.Goals as goal
 

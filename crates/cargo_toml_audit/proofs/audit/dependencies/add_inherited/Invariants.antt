@@ -1,4 +1,4 @@
-use Rattle.cargo_toml_audit.proofs.Reports.{◌++◌, ◌≡◌, drop, flat_map, inherited_in, left_dependency, listed_of, map, string_bytes}
+use Rattle.cargo_toml_audit.proofs.Cited.{drop, flat_map, inherited_in, left_dependency, listed_of, map, string_bytes, ◌++◌, ◌≡◌}
 use Rattle.cargo_toml_audit.proofs.audit.dependencies.add_inherited.Given as goal
 
 abbrev pub invariant-loop-entry : goal.invariant-loop-entry

@@ -1,4 +1,4 @@
-use Rattle.cargo_toml_audit.proofs.Reports.{◌++◌, ◌≡◌, drop, flat_map, map, named_if, string_bytes}
+use Rattle.cargo_toml_audit.proofs.Cited.{drop, flat_map, map, named_if, string_bytes, ◌++◌, ◌≡◌}
 use Rattle.cargo_toml_audit.proofs.audit.dependencies.add_left.Given as goal
 
 abbrev pub invariant-loop-key : goal.invariant-loop-key

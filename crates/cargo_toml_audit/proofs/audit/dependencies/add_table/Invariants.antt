@@ -1,4 +1,4 @@
-use Rattle.cargo_toml_audit.proofs.Reports.{◌++◌, ◌≡◌, entries_meaning, entry_of, listed_of, map, with_kind}
+use Rattle.cargo_toml_audit.proofs.Cited.{entries_meaning, entry_of, listed_of, map, with_kind, ◌++◌, ◌≡◌}
 use Rattle.cargo_toml_audit.proofs.audit.dependencies.add_table.Given as goal
 
 abbrev pub invariant-loop-key : goal.invariant-loop-key

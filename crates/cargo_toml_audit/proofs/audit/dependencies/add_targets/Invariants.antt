@@ -1,4 +1,4 @@
-use Rattle.cargo_toml_audit.proofs.Reports.{◌++◌, ◌≡◌, flat_map, in_target, listed_of, map, map_meaning, target_meaning, target_of}
+use Rattle.cargo_toml_audit.proofs.Cited.{flat_map, in_target, listed_of, map, map_meaning, target_meaning, target_of, ◌++◌, ◌≡◌}
 use Rattle.cargo_toml_audit.proofs.audit.dependencies.add_targets.Given as goal
 
 abbrev pub invariant-loop-target : goal.invariant-loop-target

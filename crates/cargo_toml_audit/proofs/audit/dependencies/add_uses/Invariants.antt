@@ -1,4 +1,4 @@
-use Rattle.cargo_toml_audit.proofs.Reports.{◌++◌, ◌≡◌, asked_in, asking_of, drop, listed_of, map}
+use Rattle.cargo_toml_audit.proofs.Cited.{asked_in, asking_of, drop, listed_of, map, ◌++◌, ◌≡◌}
 use Rattle.cargo_toml_audit.proofs.audit.dependencies.add_uses.Given as goal
 
 abbrev pub invariant-loop-entry : goal.invariant-loop-entry

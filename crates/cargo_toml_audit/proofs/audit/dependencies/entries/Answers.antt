@@ -1,4 +1,4 @@
-use Rattle.cargo_toml_audit.proofs.Reports.{TargetMeaning, Text, arith, common_steps, flat_flat, map_meaning, target_by_kind, target_meaning, with_kind}
+use Rattle.cargo_toml_audit.proofs.Cited.{TargetMeaning, Text, arith, common_steps, flat_flat, map_meaning, target_by_kind, target_meaning, with_kind}
 use Rattle.cargo_toml_audit.proofs.audit.dependencies.entries.Goals as goal
 
 pub returns : goal.returns

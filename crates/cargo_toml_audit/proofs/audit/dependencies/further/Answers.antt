@@ -1,4 +1,4 @@
-use Rattle.cargo_toml_audit.proofs.Reports.{◌++◌, ◌+◌, ◌∙◌, ap, append_assoc, asking_of, contains_text, drop, further_from, further_of, left_next, map, oddity_of, sym}
+use Rattle.cargo_toml_audit.proofs.Cited.{ap, append_assoc, asking_of, contains_text, drop, further_from, further_of, left_next, map, oddity_of, sym, ◌++◌, ◌+◌, ◌∙◌}
 use Rattle.cargo_toml_audit.proofs.audit.dependencies.further.Goals as goal
 
 pub loop-one-preserved : goal.loop-one-preserved

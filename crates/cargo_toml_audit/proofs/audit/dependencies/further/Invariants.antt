@@ -1,4 +1,4 @@
-use Rattle.cargo_toml_audit.proofs.Reports.{◌++◌, ◌≡◌, asking_of, contains_text, drop, false, further_from, map, oddity_of}
+use Rattle.cargo_toml_audit.proofs.Cited.{asking_of, contains_text, drop, false, further_from, map, oddity_of, ◌++◌, ◌≡◌}
 use Rattle.cargo_toml_audit.proofs.audit.dependencies.further.Given as goal
 
 abbrev pub invariant-loop-one : goal.invariant-loop-one

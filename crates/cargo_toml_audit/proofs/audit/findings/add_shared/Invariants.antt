@@ -1,4 +1,4 @@
-use Rattle.cargo_toml_audit.proofs.Reports.{◌++◌, ◌≡◌, contains_text, entries_meaning, entry_of, flat_map, map, oddities_of, shared_oddities}
+use Rattle.cargo_toml_audit.proofs.Cited.{contains_text, entries_meaning, entry_of, flat_map, map, oddities_of, shared_oddities, ◌++◌, ◌≡◌}
 use Rattle.cargo_toml_audit.proofs.audit.findings.add_shared.Given as goal
 
 abbrev pub invariant-loop-key : goal.invariant-loop-key

@@ -1,4 +1,4 @@
-use Rattle.cargo_toml_audit.proofs.Reports.{◌++◌, ◌≡◌, drop, found_each, map, oddities_of, string_bytes}
+use Rattle.cargo_toml_audit.proofs.Cited.{drop, found_each, map, oddities_of, string_bytes, ◌++◌, ◌≡◌}
 use Rattle.cargo_toml_audit.proofs.audit.findings.find_all.Given as goal
 
 abbrev pub invariant-loop-subject : goal.invariant-loop-subject

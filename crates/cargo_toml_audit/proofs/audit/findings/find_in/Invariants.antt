@@ -1,4 +1,4 @@
-use Rattle.cargo_toml_audit.proofs.Reports.{◌++◌, ◌≡◌, drop, found_in, oddities_of}
+use Rattle.cargo_toml_audit.proofs.Cited.{drop, found_in, oddities_of, ◌++◌, ◌≡◌}
 use Rattle.cargo_toml_audit.proofs.audit.findings.find_in.Given as goal
 
 abbrev pub invariant-loop-code : goal.invariant-loop-code

@@ -1,4 +1,4 @@
-use Rattle.cargo_toml_audit.proofs.Reports.{◌≡◌, drop, entries_of, held, is_not_inherited, listed_of, map}
+use Rattle.cargo_toml_audit.proofs.Cited.{drop, entries_of, held, is_not_inherited, listed_of, map, ◌≡◌}
 use Rattle.cargo_toml_audit.proofs.audit.findings.has_false.Given as goal
 
 abbrev pub invariant-loop-entry : goal.invariant-loop-entry

@@ -1,4 +1,4 @@
-use Rattle.cargo_toml_audit.proofs.Reports.{◌++◌, ◌≡◌, drop, map, string_bytes}
+use Rattle.cargo_toml_audit.proofs.Cited.{drop, map, string_bytes, ◌++◌, ◌≡◌}
 use Rattle.cargo_toml_audit.proofs.audit.findings.names.Given as goal
 
 abbrev pub invariant-loop-member : goal.invariant-loop-member

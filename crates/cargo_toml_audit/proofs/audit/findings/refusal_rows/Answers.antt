@@ -1,4 +1,4 @@
-use Rattle.cargo_toml_audit.proofs.Reports.{[], ◌&&◌, ◌∙◌, ◌∷◌, ◌≡◌, Bor, Decides-eqb, Features, NoLints, None, NotInherited, Option, OtherWorkspace, Outside, Some, Text, TwoWorkspaces, WorkspaceWithin, ap, btree_map_len, field_is_left, held, is_some, leads_elsewhere, named_by, not, option_map, refl, rules, same_from_decides}
+use Rattle.cargo_toml_audit.proofs.Cited.{Bor, Decides-eqb, Features, NoLints, None, NotInherited, Option, OtherWorkspace, Outside, Some, Text, TwoWorkspaces, WorkspaceWithin, [], ap, btree_map_len, field_is_left, held, is_some, leads_elsewhere, named_by, not, option_map, refl, rules, same_from_decides, ◌&&◌, ◌∙◌, ◌∷◌, ◌≡◌}
 use Rattle.cargo_toml_audit.proofs.audit.findings.refusal_rows.Goals as goal
 
 still_some : (o : Option (Bor Text)) → is_some o ≡ is_some (option_map (λ t. t.now) o)

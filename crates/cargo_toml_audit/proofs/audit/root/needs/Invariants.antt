@@ -1,4 +1,4 @@
-use Rattle.cargo_toml_audit.proofs.Reports.{◌++◌, ◌≡◌, base_of, drop, flat_map, listed_of, map, need_by, string_bytes}
+use Rattle.cargo_toml_audit.proofs.Cited.{base_of, drop, flat_map, listed_of, map, need_by, string_bytes, ◌++◌, ◌≡◌}
 use Rattle.cargo_toml_audit.proofs.audit.root.needs.Given as goal
 
 abbrev pub invariant-loop-entry : goal.invariant-loop-entry

@@ -1,4 +1,4 @@
-use Rattle.cargo_toml_audit.proofs.Reports.{err_from_is_err_and, from_input, inl, inr}
+use Rattle.cargo_toml_audit.proofs.Cited.{err_from_is_err_and, from_input, inl, inr}
 use Rattle.cargo_toml_audit.proofs.auditing.above.absolute.Goals as goal
 
 pub returns-in_err-metadata : goal.returns-in_err-metadata

@@ -1,4 +1,4 @@
-use Rattle.cargo_toml_audit.proofs.Reports.{◌++◌, ◌∙◌, Global, List, Option, String, ap, base_of, contains_text, err_from_is_err_and, from_input, inl, inr, is_at, is_in, list_any, map, nat_cmp, option_to_list, refl, slice_cmp, string_bytes}
+use Rattle.cargo_toml_audit.proofs.Cited.{Global, List, Option, String, ap, base_of, contains_text, err_from_is_err_and, excluded_by, from_input, inl, inr, is_at, is_in, list_any, map, nat_cmp, option_to_list, refl, slice_cmp, string_bytes, ◌++◌, ◌∙◌}
 use Rattle.cargo_toml_audit.proofs.Walking.{none_left, walking_begun, walking_ends, walking_on}
 use Rattle.cargo_toml_audit.proofs.auditing.walk.add_members.Goals as goal
 
@@ -11,12 +11,16 @@ loop-done-init g c =
 pub loop-done-preserved : goal.loop-done-preserved
 loop-done-preserved g c =
     let place = string_bytes c.in-Some.place in
-    walking_on (base_of c.args.root) (map string_bytes c.args.first.items) c.in-Some.place c.contains-is_listed.result c.as_str-in-loop-done.result.now c.pop-next.new.self
+    let paths = c.in_ok-exclusion in
+    let asked = c.as_str-in-loop-done in
+    let excluded = excluded_by (map string_bytes paths.exclusion.excluded.items) (map string_bytes paths.exclusion.members.items) asked.result.now in
+    walking_on (base_of c.args.root) (map string_bytes c.args.first.items) c.in-Some.place excluded c.contains-is_listed.result asked.result.now c.pop-next.new.self
     c.loop-done.walk c.visit.new.walk c.args.audit.now c.loop-done.audit c.visit.new.audit
     (c.pop-next.ensures.items ∙ ap (λ (o : Option (String Global)). c.pop-next.new.self.items ++ option_to_list o) c.in-Some.is)
+    (λ i. excluded_by (paths.ensures.excluded i) (paths.ensures.members i) (asked.ensures.value i))
     (c.contains-is_listed.ensures ∙ ap (contains_text c.in_ok-listed.listed) c.as_str.ensures.value ∙ c.in_ok-listed.ensures place
     ∙ ap (λ (xs : List (String Global)). is_in (map string_bytes xs) place) c.as_slice.ensures.value)
-    c.as_str-in-loop-done.ensures.value c.in_ok-visit.ensures.visited c.loop-done.invariant
+    asked.ensures.value c.in_ok-visit.ensures.visited c.loop-done.invariant
 
 pub returns-in_err-show_progress-clause-refused : goal.returns-in_err-show_progress-clause-refused
 returns-in_err-show_progress-clause-refused g c =

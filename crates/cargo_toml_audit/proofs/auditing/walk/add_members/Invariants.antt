@@ -1,4 +1,4 @@
-use Rattle.cargo_toml_audit.proofs.Reports.{base_of, map, string_bytes}
+use Rattle.cargo_toml_audit.proofs.Cited.{base_of, map, string_bytes}
 use Rattle.cargo_toml_audit.proofs.Walking.{Walking}
 use Rattle.cargo_toml_audit.proofs.auditing.walk.add_members.Given as goal
 

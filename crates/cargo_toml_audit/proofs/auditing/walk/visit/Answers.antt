@@ -1,4 +1,4 @@
-use Rattle.cargo_toml_audit.proofs.Reports.{◌∙◌, arith, common_steps, inl, inr, or_left, or_right, refl, sym}
+use Rattle.cargo_toml_audit.proofs.Cited.{arith, common_steps, inl, inr, or_left, or_right, refl, sym, ◌∙◌}
 use Rattle.cargo_toml_audit.proofs.auditing.walk.visit.Goals as goal
 
 pub returns-then-contains-clause-visited : goal.returns-then-contains-clause-visited

@@ -1,5 +1,4 @@
-use Rattle.std.proofs.Common.{arith}
-use Rattle.std.proofs.lemmas.Bool.Decides.{nat_tests}
+use Rattle.cargo_toml_audit.proofs.Cited.{arith, nat_tests}
 use Rattle.cargo_toml_audit.proofs.Matched.{among_one, among_range}
 use Rattle.cargo_toml_audit.proofs.members.patterns.+is_among.Goals as goal
 

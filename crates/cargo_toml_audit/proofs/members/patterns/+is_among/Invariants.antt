@@ -1,4 +1,4 @@
-use Rattle.cargo_toml_audit.proofs.Paths.{length}
+use Rattle.cargo_toml_audit.proofs.Cited.{length}
 use Rattle.cargo_toml_audit.proofs.members.patterns.+is_among.Given as goal
 
 abbrev pub decreases-is_among : goal.decreases-is_among

@@ -1,4 +1,4 @@
-use Rattle.cargo_toml_audit.proofs.Paths.{[], ◌-◌, ◌∙◌, ◌∷◌, ◌≡◌, List, Part, Token, ap, arith, chars, common_steps, drop, drop_all, false, get_or, is_many, length, map, matches, next, part_of, reverse, reverse-reverse, sym, true}
+use Rattle.cargo_toml_audit.proofs.Cited.{List, Part, Token, [], ap, arith, chars, common_steps, drop, drop_all, false, get_or, is_many, length, map, matches, next, part_of, reverse, reverse-reverse, sym, true, ◌-◌, ◌∙◌, ◌∷◌, ◌≡◌}
 use Rattle.cargo_toml_audit.proofs.Matched.{back_next, first_row, last_row, next_row, row}
 use Rattle.cargo_toml_audit.proofs.members.patterns.matches.Goals as goal
 

@@ -1,4 +1,4 @@
-use Rattle.cargo_toml_audit.proofs.Paths.{[], ◌-◌, ◌≡◌, drop, length, map, matches, part_of}
+use Rattle.cargo_toml_audit.proofs.Cited.{[], drop, length, map, matches, part_of, ◌-◌, ◌≡◌}
 use Rattle.cargo_toml_audit.proofs.Matched.{row}
 use Rattle.cargo_toml_audit.proofs.members.patterns.matches.Given as goal
 

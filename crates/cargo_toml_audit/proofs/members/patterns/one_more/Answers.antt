@@ -1,9 +1,4 @@
-use Rattle.std.proofs.lemmas.Iterator.{YieldsList-from_map, YieldsList-from_slice, YieldsList-from_zip, items_from_collect}
-use Rattle.std.proofs.lemmas.Iterator.Consumers.{YieldsList-at, YieldsList-from_scan}
-use Rattle.std.specs.List.{zip}
-use borrow.Author.Tests.{tests}
-use Rattle.cargo_toml_audit.specs.Patterns.{accepts}
-use Rattle.cargo_toml_audit.proofs.Paths.{◌&&◌, ◌||◌, ◌≡◌, arith, false, map, part_of, rules}
+use Rattle.cargo_toml_audit.proofs.Cited.{YieldsList-at, YieldsList-from_map, YieldsList-from_scan, YieldsList-from_slice, YieldsList-from_zip, accepts, arith, false, items_from_collect, map, part_of, rules, tests, zip, ◌&&◌, ◌||◌, ◌≡◌}
 use Rattle.cargo_toml_audit.proofs.members.patterns.one_more.Goals as goal
 
 pub returns-in-Many : goal.returns-in-Many

@@ -1,4 +1,4 @@
-use Rattle.cargo_toml_audit.proofs.Paths.{◌≡◌, chars, drop, fold, read_all, read_more, read_of}
+use Rattle.cargo_toml_audit.proofs.Cited.{chars, drop, fold, read_all, read_more, read_of, ◌≡◌}
 use Rattle.cargo_toml_audit.proofs.members.patterns.tokens_of.Given as goal
 
 abbrev pub invariant-loop-c : goal.invariant-loop-c

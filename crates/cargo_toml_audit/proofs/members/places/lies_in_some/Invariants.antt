@@ -1,6 +1,5 @@
-use Rattle.cargo_toml_audit.proofs.Paths.{◌≡◌, drop, lies_in_some, map, string_bytes}
+use Rattle.cargo_toml_audit.proofs.Cited.{drop, lies_in_some, map, string_bytes, ◌≡◌}
 use Rattle.cargo_toml_audit.proofs.members.places.lies_in_some.Given as goal
 
-abbrev pub invariant-loop-entry : goal.invariant-loop-entry
-invariant-loop-entry l =
-    lies_in_some l.root l.path (map string_bytes (drop l.entry-index l.entries)) ≡ lies_in_some l.root l.path (map string_bytes l.entries)
+abbrev pub invariant-loop-outer : goal.invariant-loop-outer
+invariant-loop-outer l = lies_in_some l.path (map string_bytes (drop l.outer-index l.outers)) ≡ lies_in_some l.path (map string_bytes l.outers)

@@ -1,4 +1,4 @@
-use Rattle.cargo_toml_audit.proofs.Paths.{[], ◌≡◌, drop, fold, map, one_further, pieces}
+use Rattle.cargo_toml_audit.proofs.Cited.{[], drop, fold, map, one_further, pieces, ◌≡◌}
 use Rattle.cargo_toml_audit.proofs.members.places.normalized.Given as goal
 
 abbrev pub invariant-loop-name : goal.invariant-loop-name

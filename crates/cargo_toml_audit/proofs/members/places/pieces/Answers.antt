@@ -1,4 +1,4 @@
-use Rattle.cargo_toml_audit.proofs.Paths.{YieldsList-from_str_split, lit<, map_from_collect}
+use Rattle.cargo_toml_audit.proofs.Cited.{YieldsList-from_str_split, lit<, map_from_collect}
 use Rattle.cargo_toml_audit.proofs.members.places.pieces.Goals as goal
 
 pub returns : goal.returns

@@ -1,4 +1,4 @@
-use Rattle.cargo_toml_audit.proofs.Paths.{arith, btree_set_updates_text, or-false, string_bytes, true}
+use Rattle.cargo_toml_audit.proofs.Cited.{arith, btree_set_updates_text, or-false, string_bytes, true}
 use Rattle.cargo_toml_audit.proofs.members.sets.note.Goals as goal
 
 pub returns-then-not-is_one : goal.returns-then-not-is_one

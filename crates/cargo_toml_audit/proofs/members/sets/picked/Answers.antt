@@ -1,4 +1,4 @@
-use Rattle.cargo_toml_audit.proofs.Paths.{[], beq, if◌then◌else◌, ◌++◌, ◌+◌, ◌||◌, ◌∙◌, ◌∷◌, ap, append_assoc, ap₂, bytes_eq, contains_text, drop, is_in, map, picked, string_bytes, sym, take}
+use Rattle.cargo_toml_audit.proofs.Cited.{[], ap, append_assoc, ap₂, beq, bytes_eq, contains_text, drop, if◌then◌else◌, is_in, map, picked, string_bytes, sym, take, ◌++◌, ◌+◌, ◌||◌, ◌∙◌, ◌∷◌}
 use Rattle.cargo_toml_audit.proofs.Texts.{in_next, picked_next}
 use Rattle.cargo_toml_audit.proofs.members.sets.picked.Goals as goal
 

@@ -1,4 +1,4 @@
-use Rattle.cargo_toml_audit.proofs.Paths.{[], ◌++◌, ◌≡◌, Text, contains_text, drop, is_in, map, picked, string_bytes, take}
+use Rattle.cargo_toml_audit.proofs.Cited.{Text, [], contains_text, drop, is_in, map, picked, string_bytes, take, ◌++◌, ◌≡◌}
 use Rattle.cargo_toml_audit.proofs.members.sets.picked.Given as goal
 
 abbrev pub invariant-loop-text : goal.invariant-loop-text

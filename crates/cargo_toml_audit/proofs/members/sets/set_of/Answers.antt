@@ -1,4 +1,4 @@
-use Rattle.cargo_toml_audit.proofs.Paths.{arith, string_bytes}
+use Rattle.cargo_toml_audit.proofs.Cited.{arith, string_bytes}
 use Rattle.cargo_toml_audit.proofs.Texts.{in_next}
 use Rattle.cargo_toml_audit.proofs.members.sets.set_of.Goals as goal
 

@@ -1,4 +1,4 @@
-use Rattle.cargo_toml_audit.proofs.Paths.{◌++◌, ◌≡◌, drop, map, named_so, part_of, string_bytes}
+use Rattle.cargo_toml_audit.proofs.Cited.{drop, map, named_so, part_of, string_bytes, ◌++◌, ◌≡◌}
 use Rattle.cargo_toml_audit.proofs.members.walk.named_so.Given as goal
 
 abbrev pub invariant-loop-name : goal.invariant-loop-name

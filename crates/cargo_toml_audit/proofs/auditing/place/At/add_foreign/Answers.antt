@@ -1,4 +1,4 @@
-use Rattle.cargo_toml_audit.proofs.Reports.{◌∙◌, None, Some, ap, append-nil, oddities_of, sym}
+use Rattle.cargo_toml_audit.proofs.Cited.{None, Some, ap, append-nil, oddities_of, sym, ◌∙◌}
 use Rattle.cargo_toml_audit.proofs.auditing.place.At.add_foreign.Goals.{in-Err+in_ok-refuse, in_default}
 use Rattle.cargo_toml_audit.proofs.auditing.place.At.add_foreign.Goals as goal
 

@@ -1,4 +1,4 @@
-use Rattle.cargo_toml_audit.proofs.Reports.{ap, map, refl, refusal, string_bytes, unread}
+use Rattle.cargo_toml_audit.proofs.Cited.{ap, map, refl, refusal, string_bytes, unread}
 use Rattle.cargo_toml_audit.proofs.Taking.{takes_found}
 use Rattle.cargo_toml_audit.proofs.auditing.place.At.add_unread.Goals as goal
 

@@ -1,4 +1,4 @@
-use Rattle.cargo_toml_audit.proofs.Paths.{◌++◌, ◌≡◌, OnDisks, drop, false, flat_map, led, length, map, string_bytes}
+use Rattle.cargo_toml_audit.proofs.Cited.{OnDisks, drop, false, flat_map, led, length, map, string_bytes, ◌++◌, ◌≡◌}
 use Rattle.cargo_toml_audit.proofs.members.walk.Looking.+led.Given as goal
 
 abbrev pub decreases-led : goal.decreases-led

@@ -1,4 +1,4 @@
-use Rattle.cargo_toml_audit.proofs.Paths.{◌++◌, ◌≡◌, OnDisks, drop, flat_map, further, further_in, map, string_bytes, true}
+use Rattle.cargo_toml_audit.proofs.Cited.{OnDisks, drop, flat_map, further, further_in, map, string_bytes, true, ◌++◌, ◌≡◌}
 use Rattle.cargo_toml_audit.proofs.members.walk.Looking.further.Given as goal
 
 abbrev pub invariant-loop-folder : goal.invariant-loop-folder

@@ -1,4 +1,4 @@
-use Rattle.cargo_toml_audit.proofs.Paths.{◌++◌, ◌≡◌, OnDisks, drop, flat_map, map, places_once, string_bytes}
+use Rattle.cargo_toml_audit.proofs.Cited.{OnDisks, drop, flat_map, map, places_once, string_bytes, ◌++◌, ◌≡◌}
 use Rattle.cargo_toml_audit.proofs.members.walk.Looking.listed.Given as goal
 
 abbrev pub invariant-loop-entry : goal.invariant-loop-entry

@@ -1,4 +1,4 @@
-use Rattle.cargo_toml_audit.proofs.Paths.{sym}
+use Rattle.cargo_toml_audit.proofs.Cited.{sym}
 use Rattle.cargo_toml_audit.proofs.Walked.{told_there}
 use Rattle.cargo_toml_audit.proofs.members.walk.Looking.look_at.Goals as goal
 

@@ -1,5 +1,4 @@
-use Rattle.std.proofs.lemmas.Result.{MatchResult-weaker}
-use Rattle.cargo_toml_audit.proofs.Paths.{◌∙◌, string_bytes, sym, zip_same}
+use Rattle.cargo_toml_audit.proofs.Cited.{MatchResult-weaker, string_bytes, sym, zip_same, ◌∙◌}
 use Rattle.cargo_toml_audit.proofs.Walked.{told_names}
 use Rattle.cargo_toml_audit.proofs.members.walk.Looking.names_in.Goals as goal
 

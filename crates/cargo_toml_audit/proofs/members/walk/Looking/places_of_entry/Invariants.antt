@@ -1,4 +1,4 @@
-use Rattle.cargo_toml_audit.proofs.Paths.{◌++◌, ◌≡◌, OnDisks, drop, flat_map, map, place_if, places_if_right, string_bytes}
+use Rattle.cargo_toml_audit.proofs.Cited.{OnDisks, drop, flat_map, map, place_if, places_if_right, string_bytes, ◌++◌, ◌≡◌}
 use Rattle.cargo_toml_audit.proofs.members.walk.Looking.places_of_entry.Given as goal
 
 abbrev pub invariant-loop-path : goal.invariant-loop-path

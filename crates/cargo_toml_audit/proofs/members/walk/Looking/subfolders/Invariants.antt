@@ -1,4 +1,4 @@
-use Rattle.cargo_toml_audit.proofs.Paths.{◌++◌, ◌≡◌, OnDisks, drop, filter, is_folder, map, path_join, string_bytes, subfolders}
+use Rattle.cargo_toml_audit.proofs.Cited.{OnDisks, drop, filter, is_folder, map, path_join, string_bytes, subfolders, ◌++◌, ◌≡◌}
 use Rattle.cargo_toml_audit.proofs.members.walk.Looking.subfolders.Given as goal
 
 abbrev pub invariant-loop-name : goal.invariant-loop-name

@@ -1,5 +1,4 @@
-use Rattle.{std.proofs.Common.◌≡◌, cargo_toml.specs.Targets.target_meaning, cargo_toml_check.specs.Listed.are_cut_targets}
-use Rattle.cargo_toml.specs.Reads.{map_meaning, pairs_meaning}
+use Rattle.cargo_toml_check.proofs.Cited.{are_cut_targets, map_meaning, pairs_meaning, target_meaning, ◌≡◌}
 use Rattle.cargo_toml_check.proofs.features.are_cut_targets.Given as goal
 
 abbrev pub invariant-loop-name : goal.invariant-loop-name

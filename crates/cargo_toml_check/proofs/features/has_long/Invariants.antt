@@ -1,5 +1,4 @@
-use Rattle.std.proofs.Common.{◌≡◌, map, string_bytes}
-use Rattle.{cargo_toml_check.specs.Listed.has_long, cargo_toml_tools.specs.Sections.lists_meaning}
+use Rattle.cargo_toml_check.proofs.Cited.{has_long, lists_meaning, map, string_bytes, ◌≡◌}
 use Rattle.cargo_toml_check.proofs.features.has_long.Given as goal
 
 abbrev pub invariant-loop-name : goal.invariant-loop-name

@@ -1,4 +1,4 @@
-use Rattle.std.proofs.lemmas.Iterator.{items_from_collect, Consumers.YieldsList-from_copied, Consumers.YieldsList-from_rest}
+use Rattle.cargo_toml_check.proofs.Cited.{YieldsList-from_copied, YieldsList-from_rest, items_from_collect}
 use Rattle.cargo_toml_check.proofs.features.set_json.Goals as goal
 
 pub returns : goal.returns

@@ -22,6 +22,9 @@ use std::random::RandomSource;
 /// What a line tells behind its place: the level, the code, the feature, the text and the words.
 type Cells<'a> = (&'a str, &'a str, &'a str, &'a str, &'a str);
 
+/// What is passed over: a code, of one feature or of any.
+type Allowed<'a> = (&'a str, Option<&'a str>);
+
 /// The tables of dependencies that Cargo reads up to edition 2021 alone, and not the library.
 const OTHER_TABLES: [&str; 2] = ["build_dependencies", "dev_dependencies"];
 
@@ -67,16 +70,24 @@ fn readable<R: RandomSource + AllocGlobal>(
     Ok((lines, is_odd || told.len() > kept.len()))
 }
 
-/// What is passed over: these texts, and those that the manifest itself has for it.
+/// What these texts pass over, and those that the manifest itself has for it, in order.
 fn allowed<'m>(
     alloc: Global,
     manifest: &'m Manifest,
     allowed: &[&'m str],
-) -> Result<Vec<&'m str>, AllocError> {
-    let mut all = Vec::from_slice(alloc, allowed)?;
+) -> Result<Vec<Allowed<'m>>, AllocError> {
+    let mut texts = Vec::from_slice(alloc, allowed)?;
     if let Some(Value::Array(items)) = own_allow(manifest) {
-        all.extend(items.iter().filter_map(|item| item.as_str()))?;
+        texts.extend(items.iter().filter_map(|item| item.as_str()))?;
     }
+    let mut all = Vec::new(alloc);
+    for text in texts {
+        all.push(match text.split_once('=') {
+            Some((code, feature)) => (code, Some(feature)),
+            None => (text, None),
+        })?;
+    }
+    all.sort_unstable();
     Ok(all)
 }
 
@@ -105,12 +116,10 @@ fn own_allow(manifest: &Manifest) -> Option<&Value> {
     metadata.get("cargo-toml-tools")?.get("allow")
 }
 
-/// Whether one of the texts is this code, or `CODE=FEATURE` of it.
-fn is_allowed(allowed: &[&str], code: &str, feature: &str) -> bool {
-    allowed.iter().any(|text| {
-        let (own, of) = text.split_once('=').unwrap_or((*text, feature));
-        own == code && of == feature
-    })
+/// Whether a code is passed over, of any feature or of this one.
+fn is_allowed<'a>(allowed: &[Allowed<'a>], code: &'a str, feature: &'a str) -> bool {
+    allowed.binary_search(&(code, None)).is_ok()
+        || allowed.binary_search(&(code, Some(feature))).is_ok()
 }
 
 /// What a finding is of.
@@ -146,7 +155,7 @@ fn told<'m>(
     alloc: Global,
     text: &str,
     manifest: &'m Manifest,
-    allowed: &[&str],
+    allowed: &[Allowed<'_>],
     findings: &[Finding<'m>],
 ) -> Result<Vec<(Cells<'m>, Place)>, AllocError> {
     let mut keys = Keys {

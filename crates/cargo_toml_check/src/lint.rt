@@ -64,7 +64,7 @@ fn readable<R: RandomSource + AllocGlobal>(
     let told = told(alloc, text, manifest, allowed, kept.as_slice())?;
     let mut lines = String::new(alloc);
     for (cells, place) in &told {
-        lines.push_str(line_of(alloc, file, *place, *cells, judging.json)?.as_str())?;
+        push_line(&mut lines, alloc, file, *place, *cells, judging.json)?;
     }
     let is_odd = is_odd(kept.as_slice(), judging.denies_hints);
     Ok((lines, is_odd || told.len() > kept.len()))
@@ -338,21 +338,21 @@ fn unreadable(alloc: Global, file: &str, text: &str, json: bool) -> Result<Strin
     for told in &faults_in(alloc, text)? {
         let words = told.words.as_str().trim_end();
         let cells = ("error", "unreadable", told.key.as_str(), "", words);
-        lines.push_str(line_of(alloc, file, told.place, cells, json)?.as_str())?;
+        push_line(&mut lines, alloc, file, told.place, cells, json)?;
     }
     Ok(lines)
 }
 
-/// A line `FILE:LINE:COLUMN: LEVEL | CODE | FEATURE | TEXT | words`, or the same as JSON.
-fn line_of(
+/// Adds a line `FILE:LINE:COLUMN: LEVEL | CODE | FEATURE | TEXT | words`, or the same as JSON.
+fn push_line(
+    lines: &mut String,
     alloc: Global,
     file: &str,
     place: Place,
     cells: Cells<'_>,
     json: bool,
-) -> Result<String, AllocError> {
+) -> Result<(), AllocError> {
     let (level, code, feature, text, words) = cells;
-    let mut line = String::new(alloc);
     if json {
         let mut object = Map::new(alloc);
         put_text(alloc, &mut object, "file", Some(file))?;
@@ -363,14 +363,13 @@ fn line_of(
         put_text(alloc, &mut object, "feature", Some(feature))?;
         put_text(alloc, &mut object, "text", Some(text))?;
         put_text(alloc, &mut object, "words", Some(words))?;
-        line = Json::from(object).to_string(alloc)?;
+        lines.push_str(Json::from(object).to_string(alloc)?.as_str())?;
     } else {
-        push_place(&mut line, file, place)?;
-        line.push_str(level)?;
+        push_place(lines, file, place)?;
+        lines.push_str(level)?;
         for cell in &[code, feature, text, words] {
-            write!(line, " | {}", Escaped(*cell, Format::Line))?;
+            write!(lines, " | {}", Escaped(*cell, Format::Line))?;
         }
     }
-    line.push_str("\n")?;
-    Ok(line)
+    lines.push_str("\n")
 }

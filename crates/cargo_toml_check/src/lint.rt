@@ -227,13 +227,9 @@ impl<'m> Keys<'m> {
     fn add_all(&mut self, manifest: &'m Manifest) -> Result<(), AllocError> {
         let path = self.paths.step(0, Step::Key("features"))?;
         for (name, texts) in &manifest.features {
-            let (name, texts) = (name.as_str(), texts.as_slice());
-            self.add(
-                (Owner::Feature, name),
-                (path, Step::Key(name)),
-                "enables",
-                texts,
-            )?;
+            let name = name.as_str();
+            let at = (path, Step::Key(name));
+            self.add((Owner::Feature, name), at, "enables", texts.as_slice())?;
         }
         let (build, dev) = (&manifest.build_dependencies, &manifest.dev_dependencies);
         self.add_tables(0, [&manifest.dependencies, build, dev])?;

@@ -214,12 +214,8 @@ struct Keys<'m> {
 
 impl<'m> Keys<'m> {
     fn want(&mut self, owner: (Owner, &'m str), text: Option<&'m str>) -> Result<(), AllocError> {
-        let mut number = self.owners.len();
-        if let Some(known) = self.owners.get(&owner) {
-            number = *known;
-        } else {
-            self.owners.insert(owner, number)?;
-        }
+        let next = self.owners.len();
+        let number = *self.owners.entry(owner)?.or_insert(next);
         self.wanted.insert((number, text), (0, 0))?;
         Ok(())
     }

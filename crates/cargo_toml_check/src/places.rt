@@ -63,13 +63,8 @@ impl Paths {
             Step::Key(key) => Held::Key(String::from_str(self.alloc, key)?),
             Step::Item(index) => Held::Item(index),
         };
-        let key = (above, held);
-        if let Some(path) = self.next.get(&key) {
-            return Ok(*path);
-        }
-        let path = self.next.len().saturating_add(1);
-        self.next.insert(key, path)?;
-        Ok(path)
+        let next = self.next.len().saturating_add(1);
+        Ok(*self.next.entry((above, held))?.or_insert(next))
     }
 }
 

@@ -131,10 +131,7 @@ fn refusal(alloc: Global, path: &[Step<'_>], part: &Value) -> Result<Option<Erro
 {
     let tree = alone(alloc, Around::Manifest, path, part)?;
     match HeldManifest::from_value(alloc, tree) {
-        Ok(held) => {
-            drop(held);
-            Ok(None)
-        }
+        Ok(_) => Ok(None),
         Err(Error::Memory) => Err(AllocError),
         Err(fault) => Ok(Some(fault)),
     }

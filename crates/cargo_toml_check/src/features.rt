@@ -148,23 +148,13 @@ fn is_cut<M>(manifest: &Manifest<M>) -> bool
 fn has_long(features: &FeatureSet) -> bool
     ensures { result ≡ has_long (lists_meaning features.now) }
 {
-    for (_name, texts) in features.iter() {
-        if texts.len() > MAX_ITEMS {
-            return true;
-        }
-    }
-    false
+    features.values().any(|texts| texts.len() > MAX_ITEMS)
 }
 
 fn are_cut_targets(targets: &TargetDepsSet) -> bool
     ensures { result ≡ are_cut_targets (map_meaning target_meaning targets.now) }
 {
-    for (_name, target) in targets.iter() {
-        if is_cut_target(target) {
-            return true;
-        }
-    }
-    false
+    targets.values().any(is_cut_target)
 }
 
 fn is_cut_target(target: &Target) -> bool

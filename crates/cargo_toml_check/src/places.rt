@@ -130,13 +130,15 @@ fn push_key(text: &mut String, key: &str) -> Result<(), AllocError> {
     text.push_str("\"")
 }
 
-/// What is behind the plain value that a text begins with.
-fn after_plain(alloc: Global, text: &str) -> &str {
-    if starts_string(text) {
-        quoted(alloc, text).map_or(text, |(_, rest)| rest)
+/// What is behind the plain value that a text begins with. As the document reads, a fault is one of
+/// memory.
+fn after_plain(alloc: Global, text: &str) -> Result<&str, AllocError> {
+    let rest = if starts_string(text) {
+        quoted(alloc, text).map(|(_, rest)| rest)
     } else {
-        unquoted(alloc, text).map_or(text, |(_, rest)| rest)
-    }
+        unquoted(alloc, text).map(|(_, rest)| rest)
+    };
+    rest.map_err(|_| AllocError)
 }
 
 /// An array or an inline table that isn't closed yet.
@@ -324,7 +326,7 @@ impl<'t> Walk<'t> {
             b'[' => Some(0),
             b'{' => None,
             _ => {
-                self.go_to(after_plain(self.alloc, self.rest()));
+                self.go_to(after_plain(self.alloc, self.rest())?);
                 return Ok(());
             }
         };

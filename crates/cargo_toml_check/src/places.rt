@@ -74,11 +74,12 @@ pub fn places(
     text: &str,
     wanted: &Paths,
 ) -> Result<BTreeMap<usize, Place>, AllocError> {
+    let at = start_of(text);
     let mut walk = Walk {
         alloc,
         text,
-        at: 0,
-        counted: (0, (1, 1)),
+        at,
+        counted: (at, (1, 1)),
         wanted,
         found: BTreeMap::new(alloc),
         last: BTreeMap::new(alloc),
@@ -92,11 +93,11 @@ pub fn places(
 
 /// The place of an index of a text.
 pub fn place_in(text: &str, at: usize) -> Place {
-    let mut counted = (0, (1, 1));
+    let mut counted = (start_of(text), (1, 1));
     place_behind(text, &mut counted, at)
 }
 
-/// The same of an index that isn't before this one, of which the place is known. It takes its turn.
+/// The same of an index that isn't before the one up to which is counted. It takes its turn.
 fn place_behind(text: &str, counted: &mut (usize, Place), at: usize) -> Place {
     let (before, (line, column)) = *counted;
     let since = text.get(before..at).unwrap_or("");
@@ -110,6 +111,11 @@ fn place_behind(text: &str, counted: &mut (usize, Place), at: usize) -> Place {
     };
     *counted = (at, place);
     place
+}
+
+/// Where the first line begins: behind the mark of the encoding, if there is one.
+fn start_of(text: &str) -> usize {
+    if text.starts_with('\u{feff}') { 3 } else { 0 }
 }
 
 /// Adds a key to a path.
@@ -186,9 +192,6 @@ impl<'t> Walk<'t> {
 
     fn document(&mut self) -> Result<(), AllocError> {
         let mut section = Some(0);
-        if self.text.starts_with('\u{feff}') {
-            self.skip(3);
-        }
         for _ in 0..self.text.len() {
             self.go_to(skip_blank(self.rest(), true));
             match self.byte() {

@@ -38,7 +38,7 @@ pub fn lint_lines<R: RandomSource + AllocGlobal>(
     text: &str,
     judging: &Judging<'_>,
 ) -> Result<(String, bool), Error>
-    ensures { IfErr result IsOfInput }
+    ensures refused { IfErr result IsOfInput }
 {
     match HeldManifest::from_str(rt.alloc(), text) {
         Ok(held) => readable(rt, file, text, &*held.manifest, judging),
@@ -54,7 +54,7 @@ fn readable<R: RandomSource + AllocGlobal>(
     manifest: &Manifest,
     judging: &Judging<'_>,
 ) -> Result<(String, bool), Error>
-    ensures { IfErr result IsOfInput }
+    ensures refused { IfErr result IsOfInput }
 {
     let alloc = rt.alloc();
     let allowed = allowed(alloc, manifest, judging.allowed.as_slice())?;
@@ -206,7 +206,7 @@ struct Keys<'m> {
     paths: Paths,
     /// The owners that are wanted, each with a number.
     owners: BTreeMap<(Owner, &'m str), usize>,
-    /// Of each wanted owner, or text in its list, the first path, and another one. No path is 0.
+    /// Of each wanted owner, or text in its list, two paths that it may have, or 0 in place of one.
     wanted: BTreeMap<(usize, Option<&'m str>), (usize, usize)>,
     /// The paths of tables with other names, which need not be there.
     others: Vec<(&'static str, usize)>,
@@ -277,8 +277,8 @@ impl<'m> Keys<'m> {
         Ok(())
     }
 
-    /// Adds an owner behind a path, and the texts of its list, where these are wanted and are no
-    /// others' yet. The list is what stands there, or below this key.
+    /// Adds the path of an owner, and those of the texts in its list, where they are wanted and
+    /// have none yet. The list stands where the owner does, or there at this key.
     fn add(
         &mut self,
         owner: (Owner, &'m str),

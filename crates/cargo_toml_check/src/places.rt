@@ -31,8 +31,8 @@ enum Held {
     Item(usize),
 }
 
-/// Paths whose places are wanted, each with a number. In them a step leads from a path to another
-/// one, and that of no step is 0: so a key of a text is compared with steps alone.
+/// Paths whose places are wanted, as numbers, of which 0 is the path of no step. What is kept is
+/// which step leads from which path to which: so a key of a text is compared with single steps.
 #[derive(Drop)]
 pub struct Paths {
     alloc: Global,

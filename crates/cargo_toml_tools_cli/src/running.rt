@@ -24,7 +24,7 @@ pub(crate) struct Run<'a, R> {
     began: Option<Instant>,
     files: usize,
     done: usize,
-    /// In which tenth of a second the terminal was told that, where the words stand there.
+    /// The tenth of a second in which the terminal was told so, or 0 where no words stand there.
     told: u128,
 }
 

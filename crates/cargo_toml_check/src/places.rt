@@ -196,7 +196,12 @@ impl<'t> Walk<'t> {
             self.go_to(skip_blank(self.rest(), true));
             match self.byte() {
                 0 => return Ok(()),
-                b'[' => section = self.header()?,
+                b'[' => {
+                    let brackets = if self.rest().starts_with("[[") { 2 } else { 1 };
+                    self.skip(brackets);
+                    section = self.key(Some(0), brackets == 2)?;
+                    self.skip(brackets);
+                }
                 _ => {
                     let path = self.key(section, false)?;
                     self.skip(1);
@@ -205,15 +210,6 @@ impl<'t> Walk<'t> {
             }
         }
         Ok(())
-    }
-
-    /// A header; what it leads to is answered.
-    fn header(&mut self) -> Result<Option<usize>, AllocError> {
-        let brackets = if self.rest().starts_with("[[") { 2 } else { 1 };
-        self.skip(brackets);
-        let path = self.key(Some(0), brackets == 2)?;
-        self.skip(brackets);
-        Ok(path)
     }
 
     /// A key below this path; the path that it leads to is answered. A part that stands for an

@@ -66,6 +66,7 @@ fn readable<R: RandomSource + AllocGlobal>(
     for (cells, place) in &told {
         push_line(&mut lines, alloc, file, *place, *cells, judging.json)?;
     }
+    // no two findings are alike: further lines are warnings of tables
     let is_odd = is_odd(kept.as_slice(), judging.denies_hints);
     Ok((lines, is_odd || told.len() > kept.len()))
 }
@@ -144,7 +145,7 @@ fn keys_of<'m>(finding: &Finding<'m>) -> [(Owner, Option<&'m str>); 3] {
         Code::BadRequired | Code::Missing => (Owner::Product, text),
         Code::OptionalDev => (Owner::Dev, None),
         Code::Implied => (Owner::Dependency, None),
-        // or of the feature that a dependency's key is
+        // where none is listed, its dependency stands for it
         _ => (Owner::Feature, None),
     };
     [(owner, text), (owner, None), (Owner::Dependency, None)]

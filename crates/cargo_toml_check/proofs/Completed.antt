@@ -1,9 +1,5 @@
 -- What is made of a completed manifest, or refused, by a reference to it.
-use Rattle.{std.proofs.lemmas.Result.IfErr-weaker, std.proofs.lemmas.Result.IfOk-weaker, toml.specs.declared.value.Value.Value, cargo_toml.specs.Action.Text}
-use Rattle.std.proofs.Common.{◌≡◌, Global, String, inr, string_bytes, subst, sym}
-use Rattle.std.specs.Prelude.{IfErr, IfOk, Result}
-use Rattle.cargo_toml_check.specs.FromFiles.{HoldsOfCompleted, IsRefusedFor}
-use Rattle.{cargo_toml.specs.Error.Error, cargo_toml.specs.Manifest.Manifest, cargo_toml_tools.specs.FromFiles.IsCompletedIn}
+use Rattle.cargo_toml_check.proofs.Cited.{Error, Global, HoldsOfCompleted, IfErr, IfErr-weaker, IfOk, IfOk-weaker, IsCompletedIn, IsRefusedFor, Manifest, Result, String, Text, Value, inr, string_bytes, subst, sym, ◌≡◌}
 
 module _ (path text : Text) (held m : Manifest Value) (completed : IsCompletedIn path text held) (same : m ≡ held) (made : Result (String Global) Error) where
   pub shown_of : (P : Manifest Value → Text → Type 0) → IfOk made (λ shown. P m (string_bytes shown)) → IfOk made (λ shown. HoldsOfCompleted path text (λ n. P n (string_bytes shown)))

@@ -1,3 +1,2 @@
-pub mod Blaming
-pub mod Silent
+pub mod Cited
 pub mod Completed

@@ -1,12 +1,10 @@
 -- Resolved features as JSON.
-use Rattle.std.specs.Prelude.{◌≡◌, ◌||◌, ℕ, Bool, List, [], ◌∷◌, codes, is_some, length, map}
-use Rattle.std.specs.Prelude.{nat_lt}
-use Rattle.std.specs.{Option.option_copied, Option.option_map_or, Borrow.Bor, BTreeMap.BTreeMap}
-use Rattle.std.specs.{BTreeSet.BTreeSet, HashMap.HashMap, List.flat_map, List.list_any}
+use Rattle.std.specs.Prelude.{◌≡◌, ◌||◌, Bool, List, [], ◌∷◌, codes, is_some, length, map, nat_lt}
+use Rattle.std.specs.{BTreeMap.BTreeMap, BTreeSet.BTreeSet, List.flat_map, List.list_any, Prelude.ℕ}
+use Rattle.std.specs.{Borrow.Bor, HashMap.HashMap, Option.option_copied, Option.option_map_or}
 use Rattle.serde_json.specs.Data.{Data, boolean, no_members, object}
-use Rattle.cargo_toml.specs.{Action.Text, Feature.Feature, Limits.MAX_ITEMS}
-use Rattle.cargo_toml.specs.{Manifests.ManifestMeaning, Targets.TargetMeaning}
-use Rattle.cargo_toml.specs.{Views.set_has, Views.value_at}
+use Rattle.cargo_toml.specs.{Action.Text, Feature.Feature, Limits.MAX_ITEMS, Targets.TargetMeaning}
+use Rattle.cargo_toml.specs.{Manifests.ManifestMeaning, Views.set_has, Views.value_at}
 use Rattle.cargo_toml_features.specs.declared.features.{DepAction.DepAction, Features.Features}
 use Rattle.cargo_toml_tools.specs.IndexEntries.{text_array, text_or_null, with_rows}
 

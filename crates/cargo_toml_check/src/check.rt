@@ -58,10 +58,7 @@ pub fn check_lines<R: Files + AllocGlobal>(
     ensures { IfOk result (λ told. IsChecked file.now text.now told.1) }
 {
     match completed_of(rt, file, text) {
-        Ok(held) => {
-            drop(held);
-            Ok((String::new(rt.alloc()), false))
-        }
+        Ok(_) => Ok((String::new(rt.alloc()), false)),
         Err(Error::Memory) => Err(AllocError),
         Err(fault) => Ok((lines_of(rt.alloc(), file, text, &fault)?, true)),
     }

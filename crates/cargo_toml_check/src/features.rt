@@ -5,7 +5,7 @@ ghost use Rattle.cargo_toml.specs.{Manifests.held, Reads.map_meaning, Targets.ta
 ghost use Rattle.cargo_toml_tools.specs.{Sections.lists_meaning, IndexEntries.with_rows};
 ghost use Rattle.cargo_toml_check.specs.Listed.{AreMembers, IsListing, action_json, actions_json};
 ghost use Rattle.cargo_toml_check.specs.Listed.{are_cut_targets, feature_json, has_long, is_cut};
-ghost use Rattle.cargo_toml_check.specs.Listed.{is_cut_target, row_at, stands_for_json, texts_json};
+ghost use Rattle.cargo_toml_check.specs.Listed.{is_cut_target, row_at, stands_for_json};
 
 use cargo_toml::features::{DepAction, Feature, Features};
 use cargo_toml::{FeatureSet, Manifest, Target, TargetDepsSet};
@@ -48,12 +48,13 @@ trait ToJson {
         ensures { IfOk result (λ v. view v ≡ json self.now) };
 }
 
-/// Those that a feature stands for which was removed.
+/// Texts in order, as those that stand for a removed feature.
 impl ToJson for BTreeSet<&str> {
     ghost json = { stands_for_json };
 
     fn to_json(&self, alloc: Global) -> Result<Value, AllocError> {
-        set_json(alloc, self)
+        let texts: Vec<&str> = self.iter().copied().collect(alloc)?;
+        array(alloc, texts.as_slice())
     }
 }
 
@@ -91,9 +92,9 @@ impl ToJson for Feature<'_> {
     ghost json = { feature_json };
 
     fn to_json(&self, alloc: Global) -> Result<Value, AllocError> {
-        let names = set_json(alloc, &self.enables_features)?;
+        let names = self.enables_features.to_json(alloc)?;
         let dependencies = actions_json(alloc, &self.enables_deps)?;
-        let enabled_by = set_json(alloc, &self.enabled_by)?;
+        let enabled_by = self.enabled_by.to_json(alloc)?;
         let binaries = array(alloc, self.required_by_bins.as_slice())?;
         let mut members = Map::new(alloc);
         put(&mut members, alloc, "listed", Value::from(self.explicit))?;
@@ -121,21 +122,12 @@ fn actions_json(alloc: Global, actions: &BTreeMap<&str, DepAction<'_>>) -> Resul
 fn action_json(alloc: Global, action: &DepAction<'_>) -> Result<Value, AllocError>
     ensures { IfOk result (λ v. view v ≡ action_json action.now) }
 {
-    let features = set_json(alloc, &action.dep_features)?;
-    let conditional = Value::from(action.is_conditional);
-    let dep_only = Value::from(action.is_dep_only);
+    let features = action.dep_features.to_json(alloc)?;
     let mut members = Map::new(alloc);
-    put(&mut members, alloc, "conditional", conditional)?;
-    put(&mut members, alloc, "dep_only", dep_only)?;
+    put(&mut members, alloc, "conditional", Value::from(action.is_conditional))?;
+    put(&mut members, alloc, "dep_only", Value::from(action.is_dep_only))?;
     put(&mut members, alloc, "features", features)?;
     Ok(Value::from(members))
-}
-
-fn set_json(alloc: Global, texts: &BTreeSet<&str>) -> Result<Value, AllocError>
-    ensures { IfOk result (λ v. view v ≡ texts_json texts.now.keys) }
-{
-    let texts: Vec<&str> = texts.iter().copied().collect(alloc)?;
-    array(alloc, texts.as_slice())
 }
 
 /// Whether a manifest has more features, more texts of one, or more keys of a table of dependencies
@@ -154,23 +146,13 @@ fn is_cut<M>(manifest: &Manifest<M>) -> bool
 fn has_long(features: &FeatureSet) -> bool
     ensures { result ≡ has_long (lists_meaning features.now) }
 {
-    for (_name, texts) in features.iter() {
-        if texts.len() > MAX_ITEMS {
-            return true;
-        }
-    }
-    false
+    features.values().any(|texts| texts.len() > MAX_ITEMS)
 }
 
 fn are_cut_targets(targets: &TargetDepsSet) -> bool
     ensures { result ≡ are_cut_targets (map_meaning target_meaning targets.now) }
 {
-    for (_name, target) in targets.iter() {
-        if is_cut_target(target) {
-            return true;
-        }
-    }
-    false
+    targets.values().any(is_cut_target)
 }
 
 fn is_cut_target(target: &Target) -> bool

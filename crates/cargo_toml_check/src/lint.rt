@@ -22,6 +22,9 @@ use std::random::RandomSource;
 /// What a line tells behind its place: the level, the code, the feature, the text and the words.
 type Cells<'a> = (&'a str, &'a str, &'a str, &'a str, &'a str);
 
+/// What is passed over: a code, of one feature or of any.
+type Allowed<'a> = (&'a str, Option<&'a str>);
+
 /// The tables of dependencies that Cargo reads up to edition 2021 alone, and not the library.
 const OTHER_TABLES: [&str; 2] = ["build_dependencies", "dev_dependencies"];
 
@@ -35,7 +38,7 @@ pub fn lint_lines<R: RandomSource + AllocGlobal>(
     text: &str,
     judging: &Judging<'_>,
 ) -> Result<(String, bool), Error>
-    ensures { IfErr result IsOfInput }
+    ensures refused { IfErr result IsOfInput }
 {
     match HeldManifest::from_str(rt.alloc(), text) {
         Ok(held) => readable(rt, file, text, &*held.manifest, judging),
@@ -51,7 +54,7 @@ fn readable<R: RandomSource + AllocGlobal>(
     manifest: &Manifest,
     judging: &Judging<'_>,
 ) -> Result<(String, bool), Error>
-    ensures { IfErr result IsOfInput }
+    ensures refused { IfErr result IsOfInput }
 {
     let alloc = rt.alloc();
     let allowed = allowed(alloc, manifest, judging.allowed.as_slice())?;
@@ -61,22 +64,31 @@ fn readable<R: RandomSource + AllocGlobal>(
     let told = told(alloc, text, manifest, allowed, kept.as_slice())?;
     let mut lines = String::new(alloc);
     for (cells, place) in &told {
-        lines.push_str(line_of(alloc, file, *place, *cells, judging.json)?.as_str())?;
+        push_line(&mut lines, alloc, file, *place, *cells, judging.json)?;
     }
+    // no two findings are alike: further lines are warnings of tables
     let is_odd = is_odd(kept.as_slice(), judging.denies_hints);
     Ok((lines, is_odd || told.len() > kept.len()))
 }
 
-/// What is passed over: these texts, and those that the manifest itself has for it.
+/// What these texts pass over, and those that the manifest itself has for it, in order.
 fn allowed<'m>(
     alloc: Global,
     manifest: &'m Manifest,
     allowed: &[&'m str],
-) -> Result<Vec<&'m str>, AllocError> {
-    let mut all = Vec::from_slice(alloc, allowed)?;
+) -> Result<Vec<Allowed<'m>>, AllocError> {
+    let mut texts = Vec::from_slice(alloc, allowed)?;
     if let Some(Value::Array(items)) = own_allow(manifest) {
-        all.extend(items.iter().filter_map(|item| item.as_str()))?;
+        texts.extend(items.iter().filter_map(|item| item.as_str()))?;
     }
+    let mut all = Vec::new(alloc);
+    for text in texts {
+        all.push(match text.split_once('=') {
+            Some((code, feature)) => (code, Some(feature)),
+            None => (text, None),
+        })?;
+    }
+    all.sort_unstable();
     Ok(all)
 }
 
@@ -105,12 +117,10 @@ fn own_allow(manifest: &Manifest) -> Option<&Value> {
     metadata.get("cargo-toml-tools")?.get("allow")
 }
 
-/// Whether one of the texts is this code, or `CODE=FEATURE` of it.
-fn is_allowed(allowed: &[&str], code: &str, feature: &str) -> bool {
-    allowed.iter().any(|text| {
-        let (own, of) = text.split_once('=').unwrap_or((*text, feature));
-        own == code && of == feature
-    })
+/// Whether a code is passed over, of any feature or of this one.
+fn is_allowed<'a>(allowed: &[Allowed<'a>], code: &'a str, feature: &'a str) -> bool {
+    allowed.binary_search(&(code, None)).is_ok()
+        || allowed.binary_search(&(code, Some(feature))).is_ok()
 }
 
 /// What a finding is of.
@@ -135,7 +145,7 @@ fn keys_of<'m>(finding: &Finding<'m>) -> [(Owner, Option<&'m str>); 3] {
         Code::BadRequired | Code::Missing => (Owner::Product, text),
         Code::OptionalDev => (Owner::Dev, None),
         Code::Implied => (Owner::Dependency, None),
-        // or of the feature that a dependency's key is
+        // where none is listed, its dependency stands for it
         _ => (Owner::Feature, None),
     };
     [(owner, text), (owner, None), (Owner::Dependency, None)]
@@ -146,7 +156,7 @@ fn told<'m>(
     alloc: Global,
     text: &str,
     manifest: &'m Manifest,
-    allowed: &[&str],
+    allowed: &[Allowed<'_>],
     findings: &[Finding<'m>],
 ) -> Result<Vec<(Cells<'m>, Place)>, AllocError> {
     let mut keys = Keys {
@@ -197,7 +207,7 @@ struct Keys<'m> {
     paths: Paths,
     /// The owners that are wanted, each with a number.
     owners: BTreeMap<(Owner, &'m str), usize>,
-    /// Of each wanted owner, or text in its list, the first path, and another one. No path is 0.
+    /// Of each wanted owner, or text in its list, two paths that it may have, or 0 in place of one.
     wanted: BTreeMap<(usize, Option<&'m str>), (usize, usize)>,
     /// The paths of tables with other names, which need not be there.
     others: Vec<(&'static str, usize)>,
@@ -205,12 +215,8 @@ struct Keys<'m> {
 
 impl<'m> Keys<'m> {
     fn want(&mut self, owner: (Owner, &'m str), text: Option<&'m str>) -> Result<(), AllocError> {
-        let mut number = self.owners.len();
-        if let Some(known) = self.owners.get(&owner) {
-            number = *known;
-        } else {
-            self.owners.insert(owner, number)?;
-        }
+        let next = self.owners.len();
+        let number = *self.owners.entry(owner)?.or_insert(next);
         self.wanted.insert((number, text), (0, 0))?;
         Ok(())
     }
@@ -218,13 +224,9 @@ impl<'m> Keys<'m> {
     fn add_all(&mut self, manifest: &'m Manifest) -> Result<(), AllocError> {
         let path = self.paths.step(0, Step::Key("features"))?;
         for (name, texts) in &manifest.features {
-            let (name, texts) = (name.as_str(), texts.as_slice());
-            self.add(
-                (Owner::Feature, name),
-                (path, Step::Key(name)),
-                "enables",
-                texts,
-            )?;
+            let name = name.as_str();
+            let at = (path, Step::Key(name));
+            self.add((Owner::Feature, name), at, "enables", texts.as_slice())?;
         }
         let (build, dev) = (&manifest.build_dependencies, &manifest.dev_dependencies);
         self.add_tables(0, [&manifest.dependencies, build, dev])?;
@@ -276,8 +278,8 @@ impl<'m> Keys<'m> {
         Ok(())
     }
 
-    /// Adds an owner behind a path, and the texts of its list, where these are wanted and are no
-    /// others' yet. The list is what stands there, or below this key.
+    /// Adds the path of an owner, and those of the texts in its list, where they are wanted and
+    /// have none yet. The list stands where the owner does, or there at this key.
     fn add(
         &mut self,
         owner: (Owner, &'m str),
@@ -329,21 +331,21 @@ fn unreadable(alloc: Global, file: &str, text: &str, json: bool) -> Result<Strin
     for told in &faults_in(alloc, text)? {
         let words = told.words.as_str().trim_end();
         let cells = ("error", "unreadable", told.key.as_str(), "", words);
-        lines.push_str(line_of(alloc, file, told.place, cells, json)?.as_str())?;
+        push_line(&mut lines, alloc, file, told.place, cells, json)?;
     }
     Ok(lines)
 }
 
-/// A line `FILE:LINE:COLUMN: LEVEL | CODE | FEATURE | TEXT | words`, or the same as JSON.
-fn line_of(
+/// Adds a line `FILE:LINE:COLUMN: LEVEL | CODE | FEATURE | TEXT | words`, or the same as JSON.
+fn push_line(
+    lines: &mut String,
     alloc: Global,
     file: &str,
     place: Place,
     cells: Cells<'_>,
     json: bool,
-) -> Result<String, AllocError> {
+) -> Result<(), AllocError> {
     let (level, code, feature, text, words) = cells;
-    let mut line = String::new(alloc);
     if json {
         let mut object = Map::new(alloc);
         put_text(alloc, &mut object, "file", Some(file))?;
@@ -354,14 +356,13 @@ fn line_of(
         put_text(alloc, &mut object, "feature", Some(feature))?;
         put_text(alloc, &mut object, "text", Some(text))?;
         put_text(alloc, &mut object, "words", Some(words))?;
-        line = Json::from(object).to_string(alloc)?;
+        lines.push_str(Json::from(object).to_string(alloc)?.as_str())?;
     } else {
-        push_place(&mut line, file, place)?;
-        line.push_str(level)?;
+        push_place(lines, file, place)?;
+        lines.push_str(level)?;
         for cell in &[code, feature, text, words] {
-            write!(line, " | {}", Escaped(*cell, Format::Line))?;
+            write!(lines, " | {}", Escaped(*cell, Format::Line))?;
         }
     }
-    line.push_str("\n")?;
-    Ok(line)
+    lines.push_str("\n")
 }

@@ -31,8 +31,8 @@ enum Held {
     Item(usize),
 }
 
-/// Paths whose places are wanted, each with a number. In them a step leads from a path to another
-/// one, and that of no step is 0: so a key of a text is compared with steps alone.
+/// Paths whose places are wanted, as numbers, of which 0 is the path of no step. What is kept is
+/// which step leads from which path to which: so a key of a text is compared with single steps.
 #[derive(Drop)]
 pub struct Paths {
     alloc: Global,
@@ -63,13 +63,8 @@ impl Paths {
             Step::Key(key) => Held::Key(String::from_str(self.alloc, key)?),
             Step::Item(index) => Held::Item(index),
         };
-        let key = (above, held);
-        if let Some(path) = self.next.get(&key) {
-            return Ok(*path);
-        }
-        let path = self.next.len().saturating_add(1);
-        self.next.insert(key, path)?;
-        Ok(path)
+        let next = self.next.len().saturating_add(1);
+        Ok(*self.next.entry((above, held))?.or_insert(next))
     }
 }
 
@@ -79,11 +74,12 @@ pub fn places(
     text: &str,
     wanted: &Paths,
 ) -> Result<BTreeMap<usize, Place>, AllocError> {
+    let at = start_of(text);
     let mut walk = Walk {
         alloc,
         text,
-        at: 0,
-        counted: (0, (1, 1)),
+        at,
+        counted: (at, (1, 1)),
         wanted,
         found: BTreeMap::new(alloc),
         last: BTreeMap::new(alloc),
@@ -97,11 +93,11 @@ pub fn places(
 
 /// The place of an index of a text.
 pub fn place_in(text: &str, at: usize) -> Place {
-    let mut counted = (0, (1, 1));
+    let mut counted = (start_of(text), (1, 1));
     place_behind(text, &mut counted, at)
 }
 
-/// The same of an index that isn't before this one, of which the place is known. It takes its turn.
+/// The same of an index that isn't before the one up to which is counted. It takes its turn.
 fn place_behind(text: &str, counted: &mut (usize, Place), at: usize) -> Place {
     let (before, (line, column)) = *counted;
     let since = text.get(before..at).unwrap_or("");
@@ -115,6 +111,11 @@ fn place_behind(text: &str, counted: &mut (usize, Place), at: usize) -> Place {
     };
     *counted = (at, place);
     place
+}
+
+/// Where the first line begins: behind the mark of the encoding, if there is one.
+fn start_of(text: &str) -> usize {
+    if text.starts_with('\u{feff}') { 3 } else { 0 }
 }
 
 /// Adds a key to a path.
@@ -135,13 +136,15 @@ fn push_key(text: &mut String, key: &str) -> Result<(), AllocError> {
     text.push_str("\"")
 }
 
-/// What is behind the plain value that a text begins with.
-fn after_plain(alloc: Global, text: &str) -> &str {
-    if starts_string(text) {
-        quoted(alloc, text).map_or(text, |(_, rest)| rest)
+/// What is behind the plain value that a text begins with. As the document reads, a fault is one of
+/// memory.
+fn after_plain(alloc: Global, text: &str) -> Result<&str, AllocError> {
+    let rest = if starts_string(text) {
+        quoted(alloc, text).map(|(_, rest)| rest)
     } else {
-        unquoted(alloc, text).map_or(text, |(_, rest)| rest)
-    }
+        unquoted(alloc, text).map(|(_, rest)| rest)
+    };
+    rest.map_err(|_| AllocError)
 }
 
 /// An array or an inline table that isn't closed yet.
@@ -189,14 +192,16 @@ impl<'t> Walk<'t> {
 
     fn document(&mut self) -> Result<(), AllocError> {
         let mut section = Some(0);
-        if self.text.starts_with('\u{feff}') {
-            self.skip(3);
-        }
         for _ in 0..self.text.len() {
             self.go_to(skip_blank(self.rest(), true));
             match self.byte() {
                 0 => return Ok(()),
-                b'[' => section = self.header()?,
+                b'[' => {
+                    let brackets = if self.rest().starts_with("[[") { 2 } else { 1 };
+                    self.skip(brackets);
+                    section = self.key(Some(0), brackets == 2)?;
+                    self.skip(brackets);
+                }
                 _ => {
                     let path = self.key(section, false)?;
                     self.skip(1);
@@ -205,15 +210,6 @@ impl<'t> Walk<'t> {
             }
         }
         Ok(())
-    }
-
-    /// A header; what it leads to is answered.
-    fn header(&mut self) -> Result<Option<usize>, AllocError> {
-        let brackets = if self.rest().starts_with("[[") { 2 } else { 1 };
-        self.skip(brackets);
-        let path = self.key(Some(0), brackets == 2)?;
-        self.skip(brackets);
-        Ok(path)
     }
 
     /// A key below this path; the path that it leads to is answered. A part that stands for an
@@ -329,7 +325,7 @@ impl<'t> Walk<'t> {
             b'[' => Some(0),
             b'{' => None,
             _ => {
-                self.go_to(after_plain(self.alloc, self.rest()));
+                self.go_to(after_plain(self.alloc, self.rest())?);
                 return Ok(());
             }
         };

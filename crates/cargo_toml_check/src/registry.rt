@@ -5,6 +5,7 @@ use std::collections::BTreeMap;
 use std::io::{ErrorKind, Write};
 use std::rt::Files;
 use std::{fs, io};
+use toml_parser::bytes::is_bare;
 
 /// The SHA-256 of each of these files by its name, as lines of `sha256sum` have it. A line that
 /// doesn't begin with one as an index writes it is passed over.
@@ -36,7 +37,7 @@ pub fn add_to_index<R: Files + AllocGlobal>(
     indexed: &Indexed,
 ) -> io::Result<()> {
     let alloc = rt.alloc();
-    if !indexed.name.bytes().all(is_of_name) {
+    if !indexed.name.bytes().all(is_bare) {
         return Err(io::Error::from(ErrorKind::InvalidInput));
     }
     let (above, name) = place_of(alloc, folder, indexed.name.as_str())?;
@@ -64,10 +65,6 @@ pub fn add_to_index<R: Files + AllocGlobal>(
     file.write_all(text.as_bytes())?;
     file.flush()?;
     fs::rename(rt, fresh.as_str(), path.as_str())
-}
-
-fn is_of_name(byte: u8) -> bool {
-    byte.is_ascii_alphanumeric() || matches!(byte, b'-' | b'_')
 }
 
 /// The folder in which an index has the file of a crate, and the name of the file.

@@ -21,9 +21,9 @@ pub struct Fault<'t> {
     pub fault: Error,
 }
 
-/// The parts of a manifest that are at fault: those that don't read by themselves, and of whose own
-/// parts each does. They stand in the order of their paths. There is none just where the manifest
-/// reads.
+/// The parts of a manifest that are at fault: each that doesn't read by itself, unless it does so
+/// emptied, and parts in it are at fault in its place. They stand in the order of their paths.
+/// There is none just where the manifest reads.
 pub fn faults(alloc: Global, tree: &Value) -> Result<Vec<Fault<'_>>, AllocError>
     ensures found { IfOk result (λ v. map path_of v.items ≡ blamed [] (view tree.now)) }
     ensures silent { IfOk result (λ v. v.items ≡ [] ↔ IsSome (reads (view tree.now))) }
@@ -131,10 +131,7 @@ fn refusal(alloc: Global, path: &[Step<'_>], part: &Value) -> Result<Option<Erro
 {
     let tree = alone(alloc, Around::Manifest, path, part)?;
     match HeldManifest::from_value(alloc, tree) {
-        Ok(held) => {
-            drop(held);
-            Ok(None)
-        }
+        Ok(_) => Ok(None),
         Err(Error::Memory) => Err(AllocError),
         Err(fault) => Ok(Some(fault)),
     }

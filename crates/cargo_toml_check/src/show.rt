@@ -45,6 +45,7 @@ fn tree_of(alloc: Global, manifest: &Manifest) -> Result<Table, Error>
         (λ t. reads (table (table_view t)) ≡ Some (reread (manifest_meaning view manifest.now))) }
     ensures refused { IfErr result (IsUnshown (manifest_meaning view manifest.now)) }
 {
+    // a law: what is written of free values reads as these again
     value_metadata(&None);
     match manifest.to_value(alloc)? {
         Value::Table(table) => Ok(table),

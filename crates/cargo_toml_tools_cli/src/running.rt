@@ -11,7 +11,7 @@ use cargo_toml_tools::{Inputs, Outcome, Request, Wanted};
 use std::collections::BTreeMap;
 use std::fmt::Display;
 use std::io;
-use std::io::{Read, Write};
+use std::io::Read;
 use std::random::RandomSource;
 use std::rt::{Clock, Files};
 use std::time::Instant;
@@ -24,7 +24,7 @@ pub(crate) struct Run<'a, R> {
     began: Option<Instant>,
     files: usize,
     done: usize,
-    /// In which tenth of a second the terminal was told that, where the words stand there.
+    /// The tenth of a second in which the terminal was told so, or 0 where no words stand there.
     told: u128,
 }
 
@@ -154,9 +154,7 @@ impl<'a, R: Files + Input + Print + Eprint + RandomSource + Clock + AllocGlobal>
     /// Writes what came of a file.
     fn put(&mut self, text: &str, odd: bool) -> io::Result<Outcome> {
         self.clear()?;
-        let mut output = io::writer(self.rt);
-        output.write_all(text.as_bytes())?;
-        output.flush()?;
+        self.rt.write_all(text.as_bytes())?;
         Ok(if odd { Outcome::Odd } else { Outcome::Done })
     }
 

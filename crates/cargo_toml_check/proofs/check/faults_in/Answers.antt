@@ -1,9 +1,9 @@
-use Rattle.{std.proofs.lemmas.Result.IfOk-weaker, toml.proofs.Views.view-Table, toml.specs.Data.Data, toml.specs.Parse.parse_document}
-use Rattle.std.proofs.Common.{[], ◌↔◌, ◌∙◌, ◌≡◌, IsSome, List, Option, ap, length, subst, sym}
-use Rattle.cargo_toml.specs.Manifests.{ManifestMeaning, manifest_reads}
-use Rattle.cargo_toml.specs.Texts.{any_tree, document_reads}
-use Rattle.{cargo_toml_check.proofs.Silent.alike_empty, cargo_toml_check.specs.Blamed.reads, cargo_toml_check.specs.declared.search.Fault.Fault}
+use Rattle.cargo_toml_check.proofs.Cited.{Data, Fault, IfOk-weaker, IsSome, List, ManifestMeaning, Option, [], any_tree, ap, document_reads, length, manifest_reads, nil_from_length, parse_document, reads, subst, sym, view-Table, ◌↔◌, ◌∙◌, ◌≡◌}
 use Rattle.cargo_toml_check.proofs.check.faults_in.Goals as goal
+
+-- lists of one length are empty together
+alike_empty : {A B : Type 0} {P : Type 0} (xs : List A) (ys : List B) → length xs ≡ length ys → (ys ≡ []) ↔ P → (xs ≡ []) ↔ P
+alike_empty xs ys e h = (λ none. h.0 (nil_from_length ys (sym e ∙ ap length none)), λ p. nil_from_length xs (e ∙ ap length (h.1 p)))
 
 pub returns : goal.returns
 returns c =

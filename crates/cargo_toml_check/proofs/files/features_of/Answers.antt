@@ -1,5 +1,5 @@
-use Rattle.{std.proofs.Common.inl, std.proofs.lemmas.Result.err_from_is_err_and, cargo_toml_check.proofs.Completed.refused_of}
-use Rattle.{cargo_toml_check.proofs.Completed.shown_of, cargo_toml_check.specs.FromFiles.IsListed, cargo_toml_tools.specs.FromFiles.IsOfInput}
+use Rattle.cargo_toml_check.proofs.Cited.{IsListed, IsOfInput, err_from_is_err_and, inl}
+use Rattle.cargo_toml_check.proofs.Completed.{refused_of, shown_of}
 use Rattle.cargo_toml_check.proofs.files.features_of.Goals as goal
 
 pub returns-in_err-held-clause-refused : goal.returns-in_err-held-clause-refused

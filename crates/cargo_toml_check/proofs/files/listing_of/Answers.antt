@@ -1,6 +1,4 @@
-use Rattle.{std.proofs.Common.Bool, std.proofs.Common.false, std.proofs.lemmas.Result.err_from_is_err_and, serde_json.specs.View.view}
-use Rattle.cargo_toml_lint.proofs.Resolving.{parsed_at, tells_of}
-use Rattle.{cargo_toml.specs.Action.Text, cargo_toml.specs.Manifests.held, cargo_toml.specs.Views.answer_of, cargo_toml_discovery.proofs.Faults.from_input}
+use Rattle.cargo_toml_check.proofs.Cited.{Bool, Text, answer_of, err_from_is_err_and, false, from_input, held, json_view, parsed_at, tells_of}
 use Rattle.cargo_toml_check.proofs.files.listing_of.Goals as goal
 
 pub returns-in_err-state-clause-refused : goal.returns-in_err-state-clause-refused
@@ -17,7 +15,7 @@ returns-clause-listed g c =
     record {
       features = c.in_ok-features.features;
       resolved = parsed_at keep (answer_of c.in_ok-features.features) made.limit m (c.in_ok-features.ensures.resolved.told keep tells);
-      listing = view c.in_ok-listing.listing;
+      listing = json_view c.in_ok-listing.listing;
       exact = c.in_ok-listing.ensures;
       printed = c.in_ok-to_string.ensures.order;
     }

@@ -1,6 +1,5 @@
-use Rattle.{std.proofs.Common.inl, std.proofs.lemmas.Result.err_from_is_err_and, toml.specs.View.view, cargo_toml.specs.Manifests.manifest_meaning}
+use Rattle.cargo_toml_check.proofs.Cited.{IsShown, IsUnshown, err_from_is_err_and, inl, manifest_meaning, view}
 use Rattle.cargo_toml_check.proofs.Completed.{refused_of, shown_of}
-use Rattle.cargo_toml_check.specs.Shown.{IsShown, IsUnshown}
 use Rattle.cargo_toml_check.proofs.files.toml_of.Goals as goal
 
 pub returns-in_err-completed-clause-refused : goal.returns-in_err-completed-clause-refused

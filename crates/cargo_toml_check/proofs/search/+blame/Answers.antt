@@ -1,8 +1,12 @@
-use Rattle.{std.proofs.lemmas.Grind.common_steps, std.proofs.lemmas.List.map-append, toml.specs.View.view, cargo_toml_check.specs.Alone.part_of}
-use Rattle.std.proofs.Common.{◌<◌, ◌∙◌, ◌≡◌, ap, arith, false, is_some, length, map}
-use Rattle.cargo_toml_check.proofs.Blaming.{told_inner}
-use Rattle.cargo_toml_check.specs.Blamed.{blamed_parts, inner_paths, path_of, reads_alone}
+use Rattle.cargo_toml_check.proofs.Cited.{Bool, Fault, List, Part, [], ap, arith, blamed_parts, common_steps, false, if◌then◌else◌, inner_paths, is_some, length, map, map-append, or_own, part_of, path_of, reads_alone, true, view, ◌++◌, ◌<◌, ◌∙◌, ◌∷◌, ◌≡◌}
 use Rattle.cargo_toml_check.proofs.search.+blame.Goals as goal
+
+-- what is told of a part whose own parts have something at fault
+told_inner : (read : Bool) (p : List Part) (inner before : List (List Part)) (fs : List Fault) → read ≡ false → map path_of fs ≡ inner → 0 < length fs
+    → before ++ map path_of fs ≡ before ++ (if read then [] else or_own p inner)
+told_inner true p inner before fs off same some = absurd cc
+told_inner false p inner before [] off same some = absurd (omega (arith, some))
+told_inner false p inner before (f ∷ fs) off same some = ap (λ xs. before ++ or_own p xs) same
 
 pub blame-returns-clause-found : goal.blame-returns-clause-found
 blame-returns-clause-found t c =

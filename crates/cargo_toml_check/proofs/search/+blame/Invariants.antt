@@ -1,6 +1,4 @@
-use Rattle.std.proofs.Common.{◌++◌, ◌≡◌, drop, map}
-use Rattle.cargo_toml_check.specs.Blamed.{blamed_items, blamed_members, path_of}
-use Rattle.{toml.specs.View.items_view, toml.specs.View.members_view, cargo_toml_check.specs.Alone.part_of}
+use Rattle.cargo_toml_check.proofs.Cited.{blamed_items, blamed_members, drop, items_view, map, members_view, part_of, path_of, ◌++◌, ◌≡◌}
 use Rattle.cargo_toml_check.proofs.search.+blame.Given as goal
 
 abbrev pub invariant-blame_items-items : goal.invariant-blame_items-items

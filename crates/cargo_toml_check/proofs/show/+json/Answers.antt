@@ -1,7 +1,9 @@
-use Rattle.{std.proofs.lemmas.List.take_all, toml.specs.View.view, serde_json.specs.Data.array, serde_json.specs.View.items_of}
-use Rattle.std.proofs.Common.{◌∙◌, ◌≡◌, ap, map, rules}
-use Rattle.{cargo_toml_check.proofs.Blaming.items_json, cargo_toml_check.specs.Shown.json_of}
+use Rattle.cargo_toml_check.proofs.Cited.{List, Value, [], ap, array, item, items_of, items_view, json_items, json_of, map, refl, rules, take_all, view, ◌∙◌, ◌∷◌, ◌≡◌}
 use Rattle.cargo_toml_check.proofs.show.+json.Goals as goal
+
+items_json : (vs : List Value) → items_of (map (λ v. json_of (view v)) vs) ≡ json_items (items_view vs)
+items_json [] = refl
+items_json (v ∷ vs) = ap (item (json_of (view v))) (items_json vs)
 
 pub array_of-returns : goal.array_of-returns
 array_of-returns t c =

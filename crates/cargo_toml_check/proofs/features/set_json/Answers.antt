@@ -1,8 +1,0 @@
-use Rattle.std.proofs.lemmas.Iterator.{items_from_collect, Consumers.YieldsList-from_copied, Consumers.YieldsList-from_rest}
-use Rattle.cargo_toml_check.proofs.features.set_json.Goals as goal
-
-pub returns : goal.returns
-returns c =
-    let all = items_from_collect _ c.collect.ensures.ran (YieldsList-from_copied (YieldsList-from_rest c.args.texts.now.keys cc)) in
-    let same = rw c.in_ok-texts.was at all in
-    rw (← same, ← c.as_slice.ensures.value) c.array.ensures

@@ -124,8 +124,18 @@ fn action_json(alloc: Global, action: &DepAction<'_>) -> Result<Value, AllocErro
 {
     let features = action.dep_features.to_json(alloc)?;
     let mut members = Map::new(alloc);
-    put(&mut members, alloc, "conditional", Value::from(action.is_conditional))?;
-    put(&mut members, alloc, "dep_only", Value::from(action.is_dep_only))?;
+    put(
+        &mut members,
+        alloc,
+        "conditional",
+        Value::from(action.is_conditional),
+    )?;
+    put(
+        &mut members,
+        alloc,
+        "dep_only",
+        Value::from(action.is_dep_only),
+    )?;
     put(&mut members, alloc, "features", features)?;
     Ok(Value::from(members))
 }

@@ -139,7 +139,12 @@ impl<R: Files + RandomSource + AllocGlobal> At<'_, R> {
         }
         let manifest = &*held.manifest;
         let lacks_targets = has_no_target(manifest);
-        find_if(&mut audit.findings, Code::NoTarget, lacks_targets, self.place)?;
+        find_if(
+            &mut audit.findings,
+            Code::NoTarget,
+            lacks_targets,
+            self.place,
+        )?;
         match summarize(alloc, self.place, manifest, inherits)? {
             Some(member) => Ok(audit.add_member(member, manifest, self.root.workspace)?),
             None => {

@@ -1,5 +1,6 @@
 //! The files of a registry's index.
 use cargo_toml_tools::files::Indexed;
+use cargo_toml_tools::is_checksum;
 use std::alloc::{AllocError, Global};
 use std::collections::BTreeMap;
 use std::io::{ErrorKind, Write};
@@ -22,11 +23,6 @@ pub fn checksums<'t>(
         }
     }
     Ok(all)
-}
-
-fn is_checksum(text: &str) -> bool {
-    let is_digit = |byte: u8| matches!(byte, b'0'..=b'9' | b'a'..=b'f');
-    text.len() == 64 && text.bytes().all(is_digit)
 }
 
 /// Adds a line to the file that the index in a folder has of a crate. The file is written anew

@@ -123,19 +123,11 @@ fn action_json(alloc: Global, action: &DepAction<'_>) -> Result<Value, AllocErro
     ensures { IfOk result (λ v. view v ≡ action_json action.now) }
 {
     let features = action.dep_features.to_json(alloc)?;
+    let conditional = Value::from(action.is_conditional);
+    let dep_only = Value::from(action.is_dep_only);
     let mut members = Map::new(alloc);
-    put(
-        &mut members,
-        alloc,
-        "conditional",
-        Value::from(action.is_conditional),
-    )?;
-    put(
-        &mut members,
-        alloc,
-        "dep_only",
-        Value::from(action.is_dep_only),
-    )?;
+    put(&mut members, alloc, "conditional", conditional)?;
+    put(&mut members, alloc, "dep_only", dep_only)?;
     put(&mut members, alloc, "features", features)?;
     Ok(Value::from(members))
 }

@@ -4,8 +4,8 @@ ghost use Rattle.std.specs.Option.{option_map_or};
 ghost use Rattle.cargo_toml.specs.{Action.Text, Error.Error, Error.Memory};
 ghost use Rattle.cargo_toml_tools.specs.FromFiles.{IsManifestIn, IsUnreadable};
 ghost use Rattle.cargo_toml_audit.specs.Steps.{AddsMade, AddsPlace};
-ghost use Rattle.cargo_toml_audit.specs.AuditedFiles.{HasErrors, base_of, is_rootless, refusal};
-ghost use Rattle.cargo_toml_audit.specs.AuditedFiles.{refusal_code};
+ghost use Rattle.cargo_toml_audit.specs.AuditedFiles.{HasErrors, base_of, has_error, is_rootless};
+ghost use Rattle.cargo_toml_audit.specs.AuditedFiles.{refusal, refusal_code};
 ghost use Rattle.cargo_toml_audit.specs.{Oddities.oddities_of, Places.lies_in};
 
 use super::above::is_of;
@@ -17,7 +17,7 @@ use crate::audit::{
 };
 use crate::members::{is_absent, manifest_path};
 use cargo_toml::{Error, Manifest};
-use cargo_toml_lint::Level;
+use cargo_toml_lint::{Finding as Fault, Level};
 use cargo_toml_manifest::HeldManifest;
 use cargo_toml_tools::files::{findings_of, manifest_in};
 use std::alloc::Global;
@@ -214,8 +214,13 @@ fn has_errors<R: RandomSource + AllocGlobal>(rt: &R, manifest: &Manifest) -> Res
     ensures refused { IfErr result IsUnreadable }
 {
     let findings = findings_of(rt, manifest)?;
-    let has_errors = findings
+    Ok(any_error(findings.as_slice()))
+}
+
+fn any_error(findings: &[Fault<'_>]) -> bool
+    ensures { result ≡ has_error findings.now }
+{
+    findings
         .iter()
-        .any(|found| matches!(found.code.level(), Level::Error));
-    Ok(has_errors)
+        .any(|found| matches!(found.code.level(), Level::Error))
 }

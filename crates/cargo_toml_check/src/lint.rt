@@ -156,7 +156,7 @@ fn told<'m>(
     alloc: Global,
     text: &str,
     manifest: &'m Manifest,
-    allowed: &[Allowed<'_>],
+    allowed: &[Allowed<'m>],
     findings: &[Finding<'m>],
 ) -> Result<Vec<(Cells<'m>, Place)>, AllocError> {
     let mut keys = Keys {

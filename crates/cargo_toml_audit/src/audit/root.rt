@@ -3,9 +3,9 @@ ghost use Rattle.std.specs.Prelude.{◌≡◌, ◌++◌, IfOk, OnOk, map, string
 ghost use Rattle.std.specs.List.{flat_map};
 ghost use Rattle.cargo_toml.specs.{Dependencies.dependency_meaning, Manifests.held};
 ghost use Rattle.cargo_toml_audit.specs.AuditedFiles.{base_of, need_at, need_by};
-ghost use Rattle.cargo_toml_audit.specs.Entries.{entries_of};
+ghost use Rattle.cargo_toml_audit.specs.Entries.{entries_of, listed_of};
 
-use super::dependencies::{entries, is_left};
+use super::dependencies::{Entry, entries, is_left};
 use crate::AllocResult;
 use crate::members::place_of;
 use cargo_toml::{Dependency, Manifest, Workspace};
@@ -26,7 +26,6 @@ pub struct Root<'a> {
 
 /// The places to which the dependencies of a manifest lead by their paths. A path of the
 /// workspace's dependencies is seen from the workspace.
-#[tactic(auto, using(cargo_toml_tools::proofs::Grown::nested))]
 pub fn needs(
     alloc: Global,
     root: Root<'_>,
@@ -39,16 +38,28 @@ pub fn needs(
     let entries = entries(alloc, manifest)?;
     let mut all = Vec::new(alloc);
     for entry in entries.as_slice() {
-        add_need(place, entry.dependency, &mut all)?;
-        if !is_left(entry.dependency) {
-            continue;
-        }
-        let Some(shared) = root.workspace.dependencies.get(entry.key) else {
-            continue;
-        };
-        add_need(root.place, shared, &mut all)?;
+        add_needs(root, place, *entry, &mut all)?;
     }
     Ok(all)
+}
+
+fn add_needs(
+    root: Root<'_>,
+    place: &str,
+    entry: Entry<'_>,
+    all: &mut Vec<String>,
+) -> AllocResult<()>
+    ensures { OnOk result (map string_bytes all.new.items ≡ map string_bytes all.old.items
+        ++ need_by (base_of root.entry) place.now (listed_of entry.entry)) }
+{
+    add_need(place, entry.dependency, all)?;
+    if !is_left(entry.dependency) {
+        return Ok(());
+    }
+    let Some(shared) = root.workspace.dependencies.get(entry.key) else {
+        return Ok(());
+    };
+    add_need(root.place, shared, all)
 }
 
 /// Adds where the path of a dependency leads, which is written in a folder.

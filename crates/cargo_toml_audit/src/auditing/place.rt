@@ -3,7 +3,7 @@ ghost use Rattle.std.specs.Prelude.{◌≡◌, ◌≢◌, ◌++◌, [], IfErr, I
 ghost use Rattle.std.specs.Option.{option_map_or};
 ghost use Rattle.cargo_toml.specs.{Action.Text, Error.Error, Error.Memory};
 ghost use Rattle.cargo_toml_tools.specs.FromFiles.{IsManifestIn, IsUnreadable};
-ghost use Rattle.cargo_toml_audit.specs.Steps.{AddsMade, AddsPlace};
+ghost use Rattle.cargo_toml_audit.specs.Steps.{AddsMade, AddsMemberAt, AddsPlace};
 ghost use Rattle.cargo_toml_audit.specs.AuditedFiles.{HasErrors, base_of, has_error, is_rootless};
 ghost use Rattle.cargo_toml_audit.specs.AuditedFiles.{refusal, refusal_code};
 ghost use Rattle.cargo_toml_audit.specs.{Oddities.oddities_of, Places.lies_in};
@@ -69,7 +69,7 @@ impl<R: Files + RandomSource + AllocGlobal> At<'_, R> {
     }
 
     /// Adds it where it was read, and it is known whether it lies in the workspace's folder, or
-    /// leads there: of a member what Cargo refuses of it, and what it is.
+    /// leads there.
     fn add_found(&self, is_own: bool, held: HeldManifest, audit: &mut Audit) -> Result<Seen, Error>
         requires read { (text : Text) × IsManifestIn text held.manifest.value }
         requires within { IsTrue (lies_in self.now.place.now self.now.root.place.now)
@@ -90,12 +90,7 @@ impl<R: Files + RandomSource + AllocGlobal> At<'_, R> {
             return Ok((true, Vec::new(self.rt.alloc())));
         }
         let needs = needs(self.rt.alloc(), self.root, self.place, manifest)?;
-        let at = (self.place, is_own);
-        let has_errors = has_errors(self.rt, manifest)?;
-        let rows = refusal_rows(self.rt.alloc(), self.root, at, has_errors, manifest)?;
-        find_in(&mut audit.findings, self.place, &rows)?;
-        let inherits = audit.add_written(manifest)?;
-        self.add_made(held, inherits, audit)?;
+        self.add_member(is_own, held, audit)?;
         Ok((true, needs))
     }
 
@@ -113,6 +108,22 @@ impl<R: Files + RandomSource + AllocGlobal> At<'_, R> {
             refuse(self.place, fault, findings)?;
         }
         Ok(())
+    }
+
+    /// Adds a member, which is completed from its workspace: what it is, and what Cargo refuses of
+    /// it.
+    fn add_member(&self, is_own: bool, held: HeldManifest, audit: &mut Audit) -> Result<(), Error>
+        ensures added { OnOk result (AddsMemberAt (base_of self.now.root) self.now.place.now is_own
+            held.manifest.value audit.old audit.new) }
+        ensures refused { IfErr result IsUnreadable }
+    {
+        let at = (self.place, is_own);
+        let manifest = &*held.manifest;
+        let has_errors = has_errors(self.rt, manifest)?;
+        let rows = refusal_rows(self.rt.alloc(), self.root, at, has_errors, manifest)?;
+        find_in(&mut audit.findings, self.place, &rows)?;
+        let inherits = audit.add_written(manifest)?;
+        self.add_made(held, inherits, audit)
     }
 
     /// Completes a member, and adds what it is, or that nothing can be told of it.

@@ -23,6 +23,15 @@ known_of k = record {
 }
 
 module _ (base : Base) where
+  -- what is told of a completed manifest is added, or that nothing can be: by the keys that the
+  -- member inherits
+  pub record AddsCompleted (place : Text) (new : Manifest Value) (keys : List Text)
+      (before after : Audit) : Type 0 where
+    pub made : Made
+    pub is_made : (m : Manifest Value) → IsCompletedThere base m new → keys ≡ left_keys (held m)
+        → IsMade base place m made
+    pub takes : Takes (gain_made base place made) before after
+
   -- what completion made of a member's manifest is added; the keys that it inherits are known
   pub record AddsMade (place : Text) (m : Manifest Value) (inherits : Vec (String Global) Global)
       (old new : Audit) : Type 0 where

@@ -1,9 +1,9 @@
 //! What a report takes of one place: a member, or that it was refused.
-ghost use Rattle.std.specs.Prelude.{◌≡◌, ◌≢◌, ◌++◌, [], IfErr, IfOk, IsTrue, OnOk, Option};
-ghost use Rattle.std.specs.Option.{option_map_or};
+ghost use Rattle.std.specs.Prelude.{◌≡◌, ◌≢◌, ◌++◌, [], IfErr, IfOk, IsTrue, OnOk, Option, map};
+ghost use Rattle.std.specs.{Prelude.string_bytes, Option.option_map_or};
 ghost use Rattle.cargo_toml.specs.{Action.Text, Error.Error, Error.Memory};
 ghost use Rattle.cargo_toml_tools.specs.FromFiles.{IsManifestIn, IsUnreadable};
-ghost use Rattle.cargo_toml_audit.specs.Steps.{AddsMade, AddsMemberAt, AddsPlace};
+ghost use Rattle.cargo_toml_audit.specs.Steps.{AddsCompleted, AddsMade, AddsMemberAt, AddsPlace};
 ghost use Rattle.cargo_toml_audit.specs.AuditedFiles.{HasErrors, base_of, has_error, is_rootless};
 ghost use Rattle.cargo_toml_audit.specs.AuditedFiles.{refusal, refusal_code};
 ghost use Rattle.cargo_toml_audit.specs.{Oddities.oddities_of, Places.lies_in};
@@ -126,7 +126,7 @@ impl<R: Files + RandomSource + AllocGlobal> At<'_, R> {
         self.add_made(held, inherits, audit)
     }
 
-    /// Completes a member, and adds what it is, or that nothing can be told of it.
+    /// Completes a member, and adds what it is.
     fn add_made(
         &self,
         held: HeldManifest,
@@ -148,21 +148,8 @@ impl<R: Files + RandomSource + AllocGlobal> At<'_, R> {
             refuse(self.place, fault, &mut audit.findings)?;
             return Ok(());
         }
-        let manifest = &*held.manifest;
-        let lacks_targets = has_no_target(manifest);
-        find_if(
-            &mut audit.findings,
-            Code::NoTarget,
-            lacks_targets,
-            self.place,
-        )?;
-        match summarize(alloc, self.place, manifest, inherits)? {
-            Some(member) => Ok(audit.add_member(member, manifest, self.root.workspace)?),
-            None => {
-                let words = String::from_str(alloc, untold_words(manifest))?;
-                Ok(find(&mut audit.findings, Code::Incomplete, self.place, words)?)
-            }
-        }
+        add_completed(self.root, self.place, &*held.manifest, inherits, audit)?;
+        Ok(())
     }
 }
 
@@ -234,4 +221,27 @@ fn any_error(findings: &[Fault<'_>]) -> bool
     findings
         .iter()
         .any(|found| matches!(found.code.level(), Level::Error))
+}
+
+/// Adds what a member is whose manifest is completed, or that nothing can be told of it.
+fn add_completed(
+    root: Root<'_>,
+    place: &str,
+    manifest: &Manifest,
+    inherits: Vec<String>,
+    audit: &mut Audit,
+) -> AllocResult<()>
+    ensures { OnOk result (AddsCompleted (base_of root.entry) place.now manifest.now
+        (map string_bytes inherits.items) audit.old audit.new) }
+{
+    let alloc = *audit.root.allocator();
+    let lacks_targets = has_no_target(manifest);
+    find_if(&mut audit.findings, Code::NoTarget, lacks_targets, place)?;
+    match summarize(alloc, place, manifest, inherits)? {
+        Some(member) => audit.add_member(member, manifest, root.workspace),
+        None => {
+            let words = String::from_str(alloc, untold_words(manifest))?;
+            find(&mut audit.findings, Code::Incomplete, place, words)
+        }
+    }
 }

@@ -151,12 +151,24 @@ pub fn add_shared(
         (shared_oddities (contains_text inherited.now)) (entries_meaning dependencies.now)) }
 {
     for (key, dependency) in dependencies {
-        let key = key.as_str();
-        let is_unused = !inherited.contains(key);
-        find_if(findings, Code::UnusedDependency, is_unused, key)?;
-        find_if(findings, Code::OptionalShared, dependency.optional(), key)?;
+        add_one_shared(key.as_str(), dependency, inherited, findings)?;
     }
     Ok(())
+}
+
+fn add_one_shared(
+    key: &str,
+    dependency: &Dependency,
+    inherited: &BTreeSet<String>,
+    findings: &mut Vec<Finding>,
+) -> AllocResult<()>
+    ensures { OnOk result (oddities_of findings.new ≡ oddities_of findings.old
+        ++ shared_oddities (contains_text inherited.now)
+        (key.now, dependency_meaning dependency.now)) }
+{
+    let is_unused = !inherited.contains(key);
+    find_if(findings, Code::UnusedDependency, is_unused, key)?;
+    find_if(findings, Code::OptionalShared, dependency.optional(), key)
 }
 
 /// The names of members, in their order.

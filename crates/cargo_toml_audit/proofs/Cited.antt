@@ -17,7 +17,7 @@ pub use Rattle.std.proofs.lemmas.List.{drop_all, map-append, reverse-reverse, ta
 pub use Rattle.std.proofs.lemmas.Result.{MatchResult-weaker, err_from_is_err_and, on_ok_weaker}
 pub use Rattle.std.specs.BTreeMap.{BTreeMap, UpdatesBy, btree_map_len, get_by_text, is_at}
 pub use Rattle.std.specs.List.{flat_map, join_by, list_any, scan, zip}
-pub use Rattle.cargo_toml.{specs.Action.Text, specs.Dependencies.dependency_meaning, specs.InheritedPackages.field_is_left, specs.Manifest.Manifest, specs.Manifests.held, specs.Reads.map_meaning, specs.Sharing.shared_of, specs.Targets.TargetMeaning, specs.Targets.target_meaning}
+pub use Rattle.cargo_toml.{specs.Action.Text, specs.Completed.IsCompleted, specs.Dependencies.dependency_meaning, specs.InheritedPackages.field_is_left, specs.Manifest.Manifest, specs.Manifests.held, specs.Reads.map_meaning, specs.Sharing.shared_of, specs.Targets.TargetMeaning, specs.Targets.target_meaning}
 pub use Rattle.cargo_toml_audit.{specs.declared.audit.Audit.Audit, specs.declared.audit.Finding.Finding, specs.declared.auditing.Known.Known, specs.declared.auditing.walk.Walk.Walk, specs.declared.members.patterns.Token.Token, specs.declared.members.walk.Listing.Listing, specs.declared.members.walk.Looks.Looks}
 pub use Rattle.cargo_toml_audit.{specs.declared.members.walk.There.TheVariants.Nothing, specs.declared.members.walk.There.There}
 pub use Rattle.cargo_toml_discovery.{proofs.Faults.from_input}

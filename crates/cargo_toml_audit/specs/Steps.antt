@@ -5,11 +5,10 @@ use Rattle.std.specs.Prelude.{◌||◌, bytes_eq, false, true}
 use Rattle.std.specs.{BTreeSet.contains_text, declared.alloc.Global.Global}
 use Rattle.toml.specs.declared.value.Value.{Value}
 use Rattle.cargo_toml.specs.{Action.Text, Manifest.Manifest, Manifests.held}
-use Rattle.cargo_toml_audit.specs.AuditedFiles.{AreRead, HasErrors, IsCompletedThere, IsMade, Knows}
+use Rattle.cargo_toml_audit.specs.AuditedFiles.{AreRead, IsMade, Knows, Made, Reading, Takes}
 use Rattle.cargo_toml_audit.specs.AuditedFiles.{Base, entered_places, found_in_lists, listed_places}
 use Rattle.cargo_toml_audit.specs.AuditedFiles.{Content, IsContent, gain_of, is_member, needs_of}
 use Rattle.cargo_toml_audit.specs.AuditedFiles.{first_places, gain_made, gain_of_all, member_places}
-use Rattle.cargo_toml_audit.specs.AuditedFiles.{Made, Reading, Takes, belongs}
 use Rattle.cargo_toml_audit.specs.declared.auditing.walk.Walk.{Walk}
 use Rattle.cargo_toml_audit.specs.{Entries.left_keys, MemberFolders.Disk, Oddities.oddities_of}
 use Rattle.cargo_toml_audit.specs.{Places.is_in, declared.audit.Audit.Audit}
@@ -23,30 +22,12 @@ known_of k = record {
 }
 
 module _ (base : Base) where
-  -- what is told of a completed manifest is added, or that nothing can be: by the keys that the
-  -- member inherits
-  pub record AddsCompleted (place : Text) (new : Manifest Value) (keys : List Text)
-      (before after : Audit) : Type 0 where
-    pub made : Made
-    pub is_made : (m : Manifest Value) → IsCompletedThere base m new → keys ≡ left_keys (held m)
-        → IsMade base place m made
-    pub takes : Takes (gain_made base place made) before after
-
   -- what completion made of a member's manifest is added; the keys that it inherits are known
   pub record AddsMade (place : Text) (m : Manifest Value) (inherits : Vec (String Global) Global)
       (old new : Audit) : Type 0 where
     pub made : Made
     pub is_made : map string_bytes inherits.items ≡ left_keys (held m) → IsMade base place m made
     pub takes : Takes (gain_made base place made) old new
-
-  -- a member is added
-  pub record AddsMemberAt (place : Text) (own : Bool) (m : Manifest Value) (old new : Audit)
-      : Type 0 where
-    pub errors : Bool
-    pub made : Made
-    pub errors_are : HasErrors m errors
-    pub is_made : IsMade base place m made
-    pub takes : Takes (gain_of base place (belongs own errors m made)) old new
 
   -- what lies at a place is added
   pub record AddsPlace (is_listed : Bool) (place : Text)

@@ -1,9 +1,9 @@
 //! What a report takes of one place: a member, or that it was refused.
-ghost use Rattle.std.specs.Prelude.{◌≡◌, ◌≢◌, ◌++◌, [], IfErr, IfOk, IsTrue, OnOk, Option, map};
-ghost use Rattle.std.specs.{Prelude.string_bytes, Option.option_map_or};
+ghost use Rattle.std.specs.Prelude.{◌≡◌, ◌≢◌, ◌++◌, [], IfErr, IfOk, IsTrue, OnOk, Option};
+ghost use Rattle.std.specs.Option.{option_map_or};
 ghost use Rattle.cargo_toml.specs.{Action.Text, Error.Error, Error.Memory};
 ghost use Rattle.cargo_toml_tools.specs.FromFiles.{IsManifestIn, IsUnreadable};
-ghost use Rattle.cargo_toml_audit.specs.Steps.{AddsCompleted, AddsMade, AddsMemberAt, AddsPlace};
+ghost use Rattle.cargo_toml_audit.specs.Steps.{AddsMade, AddsPlace};
 ghost use Rattle.cargo_toml_audit.specs.AuditedFiles.{HasErrors, base_of, has_error, is_rootless};
 ghost use Rattle.cargo_toml_audit.specs.AuditedFiles.{refusal, refusal_code};
 ghost use Rattle.cargo_toml_audit.specs.{Oddities.oddities_of, Places.lies_in};
@@ -69,7 +69,7 @@ impl<R: Files + RandomSource + AllocGlobal> At<'_, R> {
     }
 
     /// Adds it where it was read, and it is known whether it lies in the workspace's folder, or
-    /// leads there.
+    /// leads there: of a member what Cargo refuses of it, and what it is.
     fn add_found(&self, is_own: bool, held: HeldManifest, audit: &mut Audit) -> Result<Seen, Error>
         requires read { (text : Text) × IsManifestIn text held.manifest.value }
         requires within { IsTrue (lies_in self.now.place.now self.now.root.place.now)
@@ -90,7 +90,12 @@ impl<R: Files + RandomSource + AllocGlobal> At<'_, R> {
             return Ok((true, Vec::new(self.rt.alloc())));
         }
         let needs = needs(self.rt.alloc(), self.root, self.place, manifest)?;
-        self.add_member(is_own, held, audit)?;
+        let at = (self.place, is_own);
+        let has_errors = has_errors(self.rt, manifest)?;
+        let rows = refusal_rows(self.rt.alloc(), self.root, at, has_errors, manifest)?;
+        find_in(&mut audit.findings, self.place, &rows)?;
+        let inherits = audit.add_written(manifest)?;
+        self.add_made(held, inherits, audit)?;
         Ok((true, needs))
     }
 
@@ -110,23 +115,7 @@ impl<R: Files + RandomSource + AllocGlobal> At<'_, R> {
         Ok(())
     }
 
-    /// Adds a member, which is completed from its workspace: what it is, and what Cargo refuses of
-    /// it.
-    fn add_member(&self, is_own: bool, held: HeldManifest, audit: &mut Audit) -> Result<(), Error>
-        ensures added { OnOk result (AddsMemberAt (base_of self.now.root) self.now.place.now is_own
-            held.manifest.value audit.old audit.new) }
-        ensures refused { IfErr result IsUnreadable }
-    {
-        let at = (self.place, is_own);
-        let manifest = &*held.manifest;
-        let has_errors = has_errors(self.rt, manifest)?;
-        let rows = refusal_rows(self.rt.alloc(), self.root, at, has_errors, manifest)?;
-        find_in(&mut audit.findings, self.place, &rows)?;
-        let inherits = audit.add_written(manifest)?;
-        self.add_made(held, inherits, audit)
-    }
-
-    /// Completes a member, and adds what it is.
+    /// Completes a member, and adds what it is, or that nothing can be told of it.
     fn add_made(
         &self,
         held: HeldManifest,
@@ -148,8 +137,16 @@ impl<R: Files + RandomSource + AllocGlobal> At<'_, R> {
             refuse(self.place, fault, &mut audit.findings)?;
             return Ok(());
         }
-        add_completed(self.root, self.place, &*held.manifest, inherits, audit)?;
-        Ok(())
+        let manifest = &*held.manifest;
+        let no_target = has_no_target(manifest);
+        find_if(&mut audit.findings, Code::NoTarget, no_target, self.place)?;
+        match summarize(alloc, self.place, manifest, inherits)? {
+            Some(member) => Ok(audit.add_member(member, manifest, self.root.workspace)?),
+            None => {
+                let words = String::from_str(alloc, untold_words(manifest))?;
+                Ok(find(&mut audit.findings, Code::Incomplete, self.place, words)?)
+            }
+        }
     }
 }
 
@@ -221,27 +218,4 @@ fn any_error(findings: &[Fault<'_>]) -> bool
     findings
         .iter()
         .any(|found| matches!(found.code.level(), Level::Error))
-}
-
-/// Adds what a member is whose manifest is completed, or that nothing can be told of it.
-fn add_completed(
-    root: Root<'_>,
-    place: &str,
-    manifest: &Manifest,
-    inherits: Vec<String>,
-    audit: &mut Audit,
-) -> AllocResult<()>
-    ensures { OnOk result (AddsCompleted (base_of root.entry) place.now manifest.now
-        (map string_bytes inherits.items) audit.old audit.new) }
-{
-    let alloc = *audit.root.allocator();
-    let lacks_targets = has_no_target(manifest);
-    find_if(&mut audit.findings, Code::NoTarget, lacks_targets, place)?;
-    match summarize(alloc, place, manifest, inherits)? {
-        Some(member) => audit.add_member(member, manifest, root.workspace),
-        None => {
-            let words = String::from_str(alloc, untold_words(manifest))?;
-            find(&mut audit.findings, Code::Incomplete, place, words)
-        }
-    }
 }

@@ -1,10 +1,9 @@
 //! Makes the report on a workspace: follows its lists and its members, and reads what lies there.
 ghost use Rattle.std.specs.Prelude.{◌≡◌, ◌++◌, IfErr, IfOk, OnOk, map, string_bytes};
-ghost use Rattle.std.specs.List.{flat_map, list_any};
+ghost use Rattle.std.specs.List.{list_any};
 ghost use Rattle.cargo_toml_audit.specs.Steps.{AreListed, known_of};
-ghost use Rattle.cargo_toml_audit.specs.AuditedFiles.{IsAuditFault, IsAudited, IsReport, astray};
-ghost use Rattle.cargo_toml_audit.specs.AuditedFiles.{base_of, default_entries, found_beside};
-ghost use Rattle.cargo_toml_audit.specs.AuditedFiles.{found_in_lists, is_astray};
+ghost use Rattle.cargo_toml_audit.specs.AuditedFiles.{IsAuditFault, IsAudited, IsReport, base_of};
+ghost use Rattle.cargo_toml_audit.specs.AuditedFiles.{found_beside, found_in_lists, is_astray};
 ghost use Rattle.cargo_toml_audit.specs.{MemberFolders.OnDisks, Oddities.oddities_of};
 
 mod above;
@@ -117,8 +116,8 @@ fn read_lists<R: Files + AllocGlobal>(
     Ok((first, known))
 }
 
-/// Finds that the place that is asked for is no member's, default members that aren't, and what
-/// couldn't be looked at.
+/// Finds that the place asked for is no member's, entries of `default-members` that lead to more
+/// than members and what is listed and excluded, and what couldn't be looked at.
 fn find_beside<R: Files + AllocGlobal>(
     looking: &mut Looking<'_, R>,
     root: Root<'_>,
@@ -132,7 +131,12 @@ fn find_beside<R: Files + AllocGlobal>(
     let (known, asked) = by;
     let is_unlisted = !known.members.contains(asked);
     find_if(findings, Code::Unlisted, is_unlisted, asked)?;
-    find_astray(looking, root, known, findings)?;
+    for entry in root.workspace.default_members.as_slice() {
+        let entry = entry.as_str();
+        let places = looking.places_of_entry(root.place, entry)?;
+        let is_astray = any_astray(known, places.as_slice());
+        find_if(findings, Code::DefaultMember, is_astray, entry)?;
+    }
     let unseen = unseen(looking.rt.alloc(), &looking.looks)?;
     find_all(findings, Code::Unseen, unseen.as_slice())
 }
@@ -162,27 +166,6 @@ struct Known {
     listed: BTreeSet<String>,
     entered: BTreeSet<String>,
     members: BTreeSet<String>,
-}
-
-/// Finds the entries of `default-members` that don't lead to members alone, or to what is listed
-/// and excluded.
-fn find_astray<R: Files + AllocGlobal>(
-    looking: &mut Looking<'_, R>,
-    root: Root<'_>,
-    known: &Known,
-    findings: &mut Vec<Finding>,
-) -> AllocResult<()>
-    ensures { OnOk result (OnDisks (λ d. oddities_of findings.new ≡ oddities_of findings.old
-        ++ flat_map (astray (base_of root.entry) d (known_of known.now))
-        (default_entries (base_of root.entry))) looking.old.looks looking.new.looks) }
-{
-    for entry in root.workspace.default_members.as_slice() {
-        let entry = entry.as_str();
-        let places = looking.places_of_entry(root.place, entry)?;
-        let is_astray = any_astray(known, places.as_slice());
-        find_if(findings, Code::DefaultMember, is_astray, entry)?;
-    }
-    Ok(())
 }
 
 /// Whether one of these places is none of a member, nor listed and excluded.

@@ -10,8 +10,7 @@ use Rattle.cargo_toml.specs.{InheritableValues.value_of, Manifests.ManifestMeani
 use Rattle.cargo_toml.specs.{Packages.PackageMeaning}
 use Rattle.cargo_toml_audit.specs.declared.audit.Member.{Member}
 
--- where a package may be published: the names of registries have a comma between each two, and none
--- at all is `no`
+-- where a package may be published: the names of registries with commas between; none is `no`
 abbrev pub publish_text : Registries → Text
 publish_text (everywhere true) = codes "yes"
 publish_text (everywhere false) = codes "no"

@@ -39,9 +39,8 @@ pub data Made : Type 0 where
   told : Manifest Value → Member → Made
 
 -- What was read at a place: nothing, for a fault; a manifest that is none of the workspace's, with
--- the fault of completing it, if any; the root's, which has no package; or that of a member. Of a
--- member: whether it lies in the workspace's folder or leads there, and whether its features have
--- errors.
+-- the fault of completing it, if any; the root's, without a package; or a member's. Of that also
+-- whether it lies in the workspace's folder or leads there, and whether its features have errors.
 pub data Content : Type 0 where
   unread : Error → Content
   foreign : Option Error → Content

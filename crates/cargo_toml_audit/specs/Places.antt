@@ -56,8 +56,7 @@ manifest_path folder = path_join folder (codes "Cargo.toml")
 abbrev pub lies_in : Text → Text → Bool
 lies_in place outer = bytes_eq place outer || starts_with nat_eq place (path_join outer [])
 
--- the paths of the entries of a list in a folder, as places are compared with them: each `..` of an
--- entry stays, as Cargo has it
+-- the paths of the entries of a list in a folder, as Cargo compares them: each `..` stays
 abbrev pub outer_paths : Text → List Text → List Text
 outer_paths root entries = map (λ e. normalized true (path_join root e)) entries
 

@@ -7,7 +7,7 @@ ghost use Rattle.cargo_toml.specs.{Dependencies.dependency_meaning, Templates.te
 ghost use Rattle.cargo_toml.specs.{Manifests.held, Packages.held_package, Settings.edition_text};
 ghost use Rattle.cargo_toml_package.specs.Replacing.{entries_meaning};
 ghost use Rattle.cargo_toml_audit.specs.Oddities.{found_each, found_if, found_in, oddities_of};
-ghost use Rattle.cargo_toml_audit.specs.Oddities.{differences, has_given, has_no_target, other_of};
+ghost use Rattle.cargo_toml_audit.specs.Oddities.{differences, has_no_target, other_of};
 ghost use Rattle.cargo_toml_audit.specs.Oddities.{is_bare, is_false, is_not_inherited, refusals};
 ghost use Rattle.cargo_toml_audit.specs.Oddities.{leads_elsewhere, named_by, shared_oddities};
 ghost use Rattle.cargo_toml_audit.specs.{Entries.entries_of, Oddities.lacks_targets};
@@ -114,7 +114,7 @@ fn add_other(
     let Some(given) = given else {
         return Ok(());
     };
-    if has_given(own, given) {
+    if own.is_some_and(|own| given == own) {
         return Ok(());
     }
     let alloc = *findings.allocator();
@@ -131,13 +131,6 @@ fn edition_text(alloc: Global, edition: Option<Edition>) -> AllocResult<Option<S
         Some(edition) => Ok(Some(format!(in alloc; "{edition}")?)),
         None => Ok(None),
     }
-}
-
-/// Whether a member has what the workspace gives.
-fn has_given(own: Option<&str>, given: &str) -> bool
-    ensures { result ≡ has_given (option_copied own.entry) given.now }
-{
-    own.is_some_and(|own| given == own)
 }
 
 /// Adds the dependencies of the workspace that no member inherits, and those that are optional.

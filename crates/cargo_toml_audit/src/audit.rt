@@ -100,7 +100,7 @@ impl Code {
     fn told(self) -> (&'static str, &'static str) {
         match self {
             Code::Absent => ("absent", "there is no manifest"),
-            Code::BadPattern => ("bad-pattern", "Cargo takes it for no pattern"),
+            Code::BadPattern => ("bad-pattern", "it is no pattern, or longer than a path"),
             Code::DefaultMember => ("default-member", "it leads to no member"),
             Code::Features => ("features", "`lint` finds errors in its features"),
             Code::Incomplete => ("incomplete", ""),

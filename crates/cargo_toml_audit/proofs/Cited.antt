@@ -2,7 +2,7 @@
 pub use Rattle.cargo_toml.specs.RealFiles.{any_root, real_folders, real_roots}
 pub use Rattle.cargo_toml_audit.specs.AuditedFiles.{AreRead, Base, HasErrors, IsCompletedThere, IsReport, Reading, Reads, Takes, astray, base_of, belongs, ended, entered_places, foreign, found_beside, found_in_lists, gain_of, gain_of_all, held_in, incomplete, is_astray, is_excluded, is_member, is_rootless, listed_places, looked, member_places, need_by, none_found, passed, places_read, refusal, refusals_at, rootless, targets_found, told, unread, untold}
 pub use Rattle.cargo_toml_audit.specs.Entries.{asked_in, asking_of, entries_of, in_target, inherited_in, left_dependency, left_keys, listed_of, named_if, with_kind}
-pub use Rattle.cargo_toml_audit.specs.MemberFolders.{Agrees, Disk, OnDisks, Tells, below, disk_of, further, further_in, is_folder, is_wrong, is_wrong_name, led, named_so, picked, place_if, places_if_right, places_once, subfolders, unread_in, unseen, unseen_in, with_itself}
+pub use Rattle.cargo_toml_audit.specs.MemberFolders.{Agrees, Disk, OnDisks, Tells, below, disk_of, further, further_in, has_wrong_name, is_folder, is_wrong, is_wrong_name, led, named_so, picked, place_if, places_if_right, places_once, subfolders, unread_in, unseen, unseen_in, with_itself}
 pub use Rattle.cargo_toml_audit.specs.Oddities.{Gain, Oddity, both, found_each, found_if, found_in, further_from, further_of, is_bare, is_not_inherited, leads_elsewhere, named_by, oddities_of, oddity_of, only_found, overall_oddities, shared_oddities}
 pub use Rattle.cargo_toml_audit.specs.Patterns.{Part, accepts, after_any, after_one, begins, is_among, is_empty, is_many, matches, next, part_of, read_all, read_more, read_of}
 pub use Rattle.cargo_toml_audit.specs.Places.{excluded_by, included, is_in, lies_in_some, one_further, outer_paths, pieces}

@@ -1,7 +1,7 @@
 -- The folders that entries of `members` lead to, by what the system answers of paths.
 use Rattle.std.specs.Prelude.{◌≡◌, ◌++◌, ◌&&◌, ◌||◌, ◌==◌, ℕ, suc, zero, Bool, true, false, List}
 use Rattle.std.specs.Prelude.{[], Some, ◌∷◌, Err, Ok, Result, String, codes, filter, if◌then◌else◌}
-use Rattle.std.specs.Prelude.{is_none, length, map, nat_eq, not, string_bytes, unwrap_or}
+use Rattle.std.specs.Prelude.{is_none, length, map, nat_eq, nat_lt, not, string_bytes, unwrap_or}
 use Rattle.std.specs.declared.io.Error.{Error as IoError}
 use Rattle.std.specs.{Bool.beq, BTreeMap.get_by_text, Fs.file_type, IoError.error_kind}
 use Rattle.std.specs.{List.flat_map, List.list_any, Option.option_map_or, Path.path_join, Str.chars}
@@ -146,9 +146,12 @@ Tells of old new value = OnDisks (λ d. value ≡ of d) old new
 abbrev pub is_wrong_name : Text → Bool
 is_wrong_name name = not (is_deep name) && is_none (parts_of (chars name))
 
--- Cargo can't read a name of the entry
+abbrev pub has_wrong_name : Text → Bool
+has_wrong_name entry = list_any is_wrong_name (pieces entry)
+
+-- Cargo can't read a name of the entry, or it is longer than any path
 abbrev pub is_wrong : Text → Bool
-is_wrong entry = list_any is_wrong_name (pieces entry)
+is_wrong entry = nat_lt 4096 (length entry) || has_wrong_name entry
 
 abbrev pub places_if_right : Disk → Text → Text → List Text
 places_if_right d root entry = if is_wrong entry then [] else places_of d root entry

@@ -1,6 +1,6 @@
 //! The places that the lists of a workspace lead to, and that it excludes, as Cargo finds them.
 ghost use Rattle.std.specs.Prelude.{◌≡◌, IfOk, filter, map, string_bytes};
-ghost use Rattle.cargo_toml_audit.specs.MemberFolders.{is_wrong, unseen};
+ghost use Rattle.cargo_toml_audit.specs.MemberFolders.{has_wrong_name, is_wrong, unseen};
 ghost use Rattle.cargo_toml_audit.specs.Places.{included};
 
 mod patterns;
@@ -18,9 +18,23 @@ pub use sets::{note, picked, set_of};
 use std::alloc::Global;
 pub use walk::{Listing, Looking, Looks, There, is_absent};
 
-/// Whether Cargo can't read an entry as a pattern.
+/// The bytes that a path has at most.
+const MAX_PATH: usize = 4096;
+
+/// Whether Cargo can't read an entry as a pattern, or it is longer than any path: what follows the
+/// names of an entry calls itself for each.
 fn is_wrong(alloc: Global, entry: &str) -> AllocResult<bool>
     ensures { IfOk result (λ b. b ≡ is_wrong entry.now) }
+{
+    if entry.len() > MAX_PATH {
+        return Ok(true);
+    }
+    has_wrong_name(alloc, entry)
+}
+
+/// Whether Cargo can't read some name of an entry.
+fn has_wrong_name(alloc: Global, entry: &str) -> AllocResult<bool>
+    ensures { IfOk result (λ b. b ≡ has_wrong_name entry.now) }
 {
     let names = pieces(alloc, entry)?;
     for name in names.as_slice() {
@@ -31,7 +45,7 @@ fn is_wrong(alloc: Global, entry: &str) -> AllocResult<bool>
     Ok(false)
 }
 
-/// The entries that Cargo can't read.
+/// The entries that Cargo can't read, or that are longer than any path.
 pub fn wrong_entries(alloc: Global, entries: &[String]) -> AllocResult<Vec<String>>
     ensures { IfOk result
         (λ all. map string_bytes all.items ≡ filter is_wrong (map string_bytes entries.now)) }

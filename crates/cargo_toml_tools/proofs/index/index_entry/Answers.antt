@@ -11,9 +11,9 @@ returns-in-Some-package_refusal-clause-refused g c =
     let there = ap (option_map (package_meaning (λ m. m))) c.in-Some.is in
     let tables = ap (map table_of) c.as_slice-sections.ensures.value ∙ c.in_ok-sections.ensures in
     let whole =
-        ap₂ (λ d o. option_map_or (package_refusal w findings d (dependency_tables d m)) o (Some (NoPackage, []))) document there
-        ∙ sym (ap (λ ts. package_refusal w findings (table_view c.in_ok-document.document) ts p) tables)
-        ∙ sym c.package_refusal.ensures ∙ ap (option_map refused) c.in-Some-package_refusal.is in
+    ap₂ (λ d o. option_map_or (package_refusal w findings d (dependency_tables d m)) o (Some (NoPackage, []))) document there
+    ∙ sym (ap (λ ts. package_refusal w findings (table_view c.in_ok-document.document) ts p) tables)
+    ∙ sym c.package_refusal.ensures ∙ ap (option_map refused) c.in-Some-package_refusal.is in
     search (rules, whole)
 
 pub returns : goal.returns

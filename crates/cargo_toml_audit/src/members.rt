@@ -21,8 +21,8 @@ pub use walk::{Listing, Looking, Looks, There, is_absent};
 /// The bytes that a path has at most.
 const MAX_PATH: usize = 4096;
 
-/// Whether Cargo can't read an entry as a pattern, or it is longer than any path: what follows the
-/// names of an entry calls itself for each.
+/// Whether Cargo can't read an entry as a pattern, or it is longer than any path. What follows its
+/// names calls itself for each, so that the length bounds the stack.
 fn is_wrong(alloc: Global, entry: &str) -> AllocResult<bool>
     ensures { IfOk result (λ b. b ≡ is_wrong entry.now) }
 {

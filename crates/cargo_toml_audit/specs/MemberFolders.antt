@@ -143,13 +143,15 @@ Tells of old new value = OnDisks (λ d. value ≡ of d) old new
 
 -- ---- entries that are no patterns, and what stands twice
 
+-- Cargo can't read the name: it is no `**`, and has no parts
 abbrev pub is_wrong_name : Text → Bool
 is_wrong_name name = not (is_deep name) && is_none (parts_of (chars name))
 
+-- Cargo can't read one of the entry's names
 abbrev pub has_wrong_name : Text → Bool
 has_wrong_name entry = list_any is_wrong_name (pieces entry)
 
--- Cargo can't read a name of the entry, or it is longer than any path
+-- the entry has such a name, or is longer than any path
 abbrev pub is_wrong : Text → Bool
 is_wrong entry = nat_lt 4096 (length entry) || has_wrong_name entry
 

@@ -5,7 +5,7 @@ ghost use Rattle.cargo_toml_check.specs.Judged.{counts, is_odd};
 
 use crate::alone::Step;
 use crate::check::{faults_in, push_place};
-use crate::places::{Paths, Place, places};
+use crate::places::{Paths, Place, cut, places};
 use cargo_toml::{DepsSet, Error, Manifest, Product, Value};
 use cargo_toml_lint::{Code, Finding, Level};
 use cargo_toml_manifest::HeldManifest;
@@ -346,6 +346,9 @@ fn push_line(
     json: bool,
 ) -> Result<(), AllocError> {
     let (level, code, feature, text, words) = cells;
+    let feature = cut(alloc, feature)?;
+    let text = cut(alloc, text)?;
+    let (feature, text) = (feature.as_str(), text.as_str());
     if json {
         let mut object = Map::new(alloc);
         put_text(alloc, &mut object, "file", Some(file))?;

@@ -128,6 +128,8 @@ fn is_allowed<'a>(allowed: &[Allowed<'a>], code: &'a str, feature: &'a str) -> b
 enum Owner {
     Feature,
     Dependency,
+    /// An optional dependency.
+    Optional,
     /// An optional dev-dependency.
     Dev,
     Product,
@@ -144,7 +146,7 @@ fn keys_of<'m>(finding: &Finding<'m>) -> [(Owner, Option<&'m str>); 3] {
         Code::BadRequest => (Owner::Dependency, text),
         Code::BadRequired | Code::Missing => (Owner::Product, text),
         Code::OptionalDev => (Owner::Dev, None),
-        Code::Implied => (Owner::Dependency, None),
+        Code::Implied => (Owner::Optional, None),
         // where none is listed, its dependency stands for it
         _ => (Owner::Feature, None),
     };
@@ -255,8 +257,11 @@ impl<'m> Keys<'m> {
                 let at = (path, Step::Key(key));
                 let texts = dependency.req_features();
                 self.add((Owner::Dependency, key), at, "features", texts)?;
-                if *kind == "dev-dependencies" && dependency.optional() {
-                    self.add((Owner::Dev, key), at, "features", &[])?;
+                if dependency.optional() {
+                    self.add((Owner::Optional, key), at, "features", &[])?;
+                    if *kind == "dev-dependencies" {
+                        self.add((Owner::Dev, key), at, "features", &[])?;
+                    }
                 }
             }
         }

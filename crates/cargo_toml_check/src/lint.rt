@@ -176,7 +176,10 @@ fn told<'m>(
     let found = places(alloc, text, &keys.paths)?;
     let mut told = Vec::new(alloc);
     for finding in findings {
-        told.push((cells_of(finding), keys.place_of(&found, finding)))?;
+        let code = finding.code;
+        let (level, words) = (code.level().name(), code.words());
+        let cells: Cells<'m> = (level, code.name(), finding.feature, finding.text, words);
+        told.push((cells, keys.place_of(&found, finding)))?;
     }
     for (name, path) in &keys.others {
         if let Some(place) = found.get(path) {
@@ -189,18 +192,6 @@ fn told<'m>(
     told.sort_unstable();
     told.dedup_by_key(|line| line.0);
     Ok(told)
-}
-
-fn cells_of<'m>(finding: &Finding<'m>) -> Cells<'m> {
-    let code = finding.code;
-    let level = code.level().name();
-    (
-        level,
-        code.name(),
-        finding.feature,
-        finding.text,
-        code.words(),
-    )
 }
 
 /// The keys that findings may stand at.

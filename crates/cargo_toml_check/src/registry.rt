@@ -82,8 +82,7 @@ fn place_of(alloc: Global, folder: &str, name: &str) -> Result<(String, String),
     let name = name.to_ascii_lowercase(alloc)?;
     let text = name.as_str();
     let above = match text.len() {
-        0 | 1 => format!(in alloc; "{folder}/1")?,
-        2 => format!(in alloc; "{folder}/2")?,
+        1 | 2 => format!(in alloc; "{folder}/{}", text.len())?,
         3 => format!(in alloc; "{folder}/3/{}", text.get(..1).unwrap_or("_"))?,
         _ => {
             let first = text.get(..2).unwrap_or("__");

@@ -25,9 +25,6 @@ type Cells<'a> = (&'a str, &'a str, &'a str, &'a str, &'a str);
 /// What is passed over: a code, of one feature or of any.
 type Allowed<'a> = (&'a str, Option<&'a str>);
 
-/// The tables of dependencies that Cargo reads up to edition 2021 alone, and not the library.
-const OTHER_TABLES: [&str; 2] = ["build_dependencies", "dev_dependencies"];
-
 /// What is amiss with the features of the manifest in this text of a file, a line each, and whether
 /// something counts. A manifest that doesn't read has the finding `unreadable` for each part at
 /// fault. The manifest's own `package.metadata.cargo-toml-tools.allow` is heeded, too. Refused
@@ -236,7 +233,8 @@ impl<'m> Keys<'m> {
     }
 
     fn add_tables(&mut self, above: usize, tables: [&'m DepsSet; 3]) -> Result<(), AllocError> {
-        for name in &OTHER_TABLES {
+        // Cargo reads these up to edition 2021 alone
+        for name in &["build_dependencies", "dev_dependencies"] {
             let path = self.paths.step(above, Step::Key(*name))?;
             self.others.push((*name, path))?;
         }

@@ -1,6 +1,7 @@
 -- Which parts of a manifest are at fault.
 use Rattle.std.specs.Prelude.{List, ◌∷◌, ◌++◌, map, Bool, if◌then◌else◌, Option, false, is_some}
-use Rattle.std.specs.{Option.option_map_or, Prelude.ℕ, Prelude.[], Prelude.suc}
+use Rattle.std.specs.Prelude.{ℕ, [], length, nat_lt, suc}
+use Rattle.std.specs.Option.{option_map_or}
 use Rattle.toml.specs.Data.{Data, Items, Members, array, item, member, no_items, no_members, table}
 use Rattle.cargo_toml.specs.Manifests.{ManifestMeaning, manifest_reads}
 use Rattle.cargo_toml.specs.{Floats.without_floats, Texts.any_tree}
@@ -25,9 +26,14 @@ abbrev pub or_own : List Part → List (List Part) → List (List Part)
 or_own path [] = path ∷ []
 or_own path (inner ∷ more) = inner ∷ more
 
--- the paths in the parts of a part count where it reads emptied
+-- a path of so many parts that nothing is told of what is in its part
+unfoldable pub is_deep : List Part → Bool
+is_deep path = nat_lt 32 (length path)
+
+-- the paths in the parts of a part count where it isn't deep, and reads emptied
 abbrev pub inner_paths : List Part → Data → List (List Part) → List (List Part)
-inner_paths path d inner = if reads_emptied path d then inner else []
+inner_paths path d inner =
+    if is_deep path then [] else (if reads_emptied path d then inner else [])
 
 -- the paths at fault in the part at a path, of which these are in its parts: none where it reads by
 -- itself, and its own where no other counts

@@ -5,7 +5,7 @@ ghost use Rattle.cargo_toml_check.specs.Judged.{counts, is_odd};
 
 use crate::alone::Step;
 use crate::check::{faults_in, push_place};
-use crate::places::{Paths, Place, places};
+use crate::places::{Paths, Place, cut, places};
 use cargo_toml::{DepsSet, Error, Manifest, Product, Value};
 use cargo_toml_lint::{Code, Finding, Level};
 use cargo_toml_manifest::HeldManifest;
@@ -24,9 +24,6 @@ type Cells<'a> = (&'a str, &'a str, &'a str, &'a str, &'a str);
 
 /// What is passed over: a code, of one feature or of any.
 type Allowed<'a> = (&'a str, Option<&'a str>);
-
-/// The tables of dependencies that Cargo reads up to edition 2021 alone, and not the library.
-const OTHER_TABLES: [&str; 2] = ["build_dependencies", "dev_dependencies"];
 
 /// What is amiss with the features of the manifest in this text of a file, a line each, and whether
 /// something counts. A manifest that doesn't read has the finding `unreadable` for each part at
@@ -128,6 +125,8 @@ fn is_allowed<'a>(allowed: &[Allowed<'a>], code: &'a str, feature: &'a str) -> b
 enum Owner {
     Feature,
     Dependency,
+    /// An optional dependency.
+    Optional,
     /// An optional dev-dependency.
     Dev,
     Product,
@@ -144,7 +143,7 @@ fn keys_of<'m>(finding: &Finding<'m>) -> [(Owner, Option<&'m str>); 3] {
         Code::BadRequest => (Owner::Dependency, text),
         Code::BadRequired | Code::Missing => (Owner::Product, text),
         Code::OptionalDev => (Owner::Dev, None),
-        Code::Implied => (Owner::Dependency, None),
+        Code::Implied => (Owner::Optional, None),
         // where none is listed, its dependency stands for it
         _ => (Owner::Feature, None),
     };
@@ -174,7 +173,10 @@ fn told<'m>(
     let found = places(alloc, text, &keys.paths)?;
     let mut told = Vec::new(alloc);
     for finding in findings {
-        told.push((cells_of(finding), keys.place_of(&found, finding)))?;
+        let code = finding.code;
+        let (level, words) = (code.level().name(), code.words());
+        let cells: Cells<'m> = (level, code.name(), finding.feature, finding.text, words);
+        told.push((cells, keys.place_of(&found, finding)))?;
     }
     for (name, path) in &keys.others {
         if let Some(place) = found.get(path) {
@@ -187,18 +189,6 @@ fn told<'m>(
     told.sort_unstable();
     told.dedup_by_key(|line| line.0);
     Ok(told)
-}
-
-fn cells_of<'m>(finding: &Finding<'m>) -> Cells<'m> {
-    let code = finding.code;
-    let level = code.level().name();
-    (
-        level,
-        code.name(),
-        finding.feature,
-        finding.text,
-        code.words(),
-    )
 }
 
 /// The keys that findings may stand at.
@@ -243,7 +233,8 @@ impl<'m> Keys<'m> {
     }
 
     fn add_tables(&mut self, above: usize, tables: [&'m DepsSet; 3]) -> Result<(), AllocError> {
-        for name in &OTHER_TABLES {
+        // Cargo reads these up to edition 2021 alone
+        for name in &["build_dependencies", "dev_dependencies"] {
             let path = self.paths.step(above, Step::Key(*name))?;
             self.others.push((*name, path))?;
         }
@@ -255,8 +246,11 @@ impl<'m> Keys<'m> {
                 let at = (path, Step::Key(key));
                 let texts = dependency.req_features();
                 self.add((Owner::Dependency, key), at, "features", texts)?;
-                if *kind == "dev-dependencies" && dependency.optional() {
-                    self.add((Owner::Dev, key), at, "features", &[])?;
+                if dependency.optional() {
+                    self.add((Owner::Optional, key), at, "features", &[])?;
+                    if *kind == "dev-dependencies" {
+                        self.add((Owner::Dev, key), at, "features", &[])?;
+                    }
                 }
             }
         }
@@ -346,6 +340,9 @@ fn push_line(
     json: bool,
 ) -> Result<(), AllocError> {
     let (level, code, feature, text, words) = cells;
+    let feature = cut(alloc, feature)?;
+    let text = cut(alloc, text)?;
+    let (feature, text) = (feature.as_str(), text.as_str());
     if json {
         let mut object = Map::new(alloc);
         put_text(alloc, &mut object, "file", Some(file))?;

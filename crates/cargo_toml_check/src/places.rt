@@ -11,8 +11,11 @@ use toml_parser::{quoted, starts_string, unquoted};
 /// A line and a column of a text, both from 1. A column counts characters.
 pub type Place = (usize, usize);
 
-/// A path as a text: keys with dots between them, those that aren't bare between quotes, and the
-/// numbers of items between brackets.
+/// The most bytes that a line has of a path or a name: each of many lines may have a long one.
+const MAX_NAME: usize = 200;
+
+/// A path as a text that is cut: keys with dots between them, those that aren't bare between
+/// quotes, and the numbers of items between brackets.
 pub fn path_text(alloc: Global, path: &[Step<'_>]) -> Result<String, AllocError> {
     let mut text = String::new(alloc);
     for step in path {
@@ -21,7 +24,14 @@ pub fn path_text(alloc: Global, path: &[Step<'_>]) -> Result<String, AllocError>
             Step::Item(index) => write!(text, "[{index}]")?,
         }
     }
-    Ok(text)
+    cut(alloc, text.as_str())
+}
+
+/// What a line has of a text: its beginning, and `..` in place of the rest.
+pub fn cut(alloc: Global, text: &str) -> Result<String, AllocError> {
+    let end = text.floor_char_boundary(MAX_NAME);
+    let rest = if end < text.len() { ".." } else { "" };
+    format!(in alloc; "{}{rest}", text.get(..end).unwrap_or(text))
 }
 
 /// A step that owns its key.
@@ -118,8 +128,10 @@ fn start_of(text: &str) -> usize {
     if text.starts_with('\u{feff}') { 3 } else { 0 }
 }
 
-/// Adds a key to a path.
+/// Adds a key to a path, or so much of it that the path is cut there.
 fn push_key(text: &mut String, key: &str) -> Result<(), AllocError> {
+    let end = key.floor_char_boundary(MAX_NAME.saturating_add(4));
+    let key = key.get(..end).unwrap_or(key);
     if !text.is_empty() {
         text.push_str(".")?;
     }

@@ -3,7 +3,7 @@ use cargo_toml_tools::files::Indexed;
 use cargo_toml_tools::is_checksum;
 use std::alloc::{AllocError, Global};
 use std::collections::BTreeMap;
-use std::io::{ErrorKind, Write};
+use std::io::ErrorKind;
 use std::rt::Files;
 use std::{fs, io};
 use toml_parser::bytes::is_bare;
@@ -26,14 +26,15 @@ pub fn checksums<'t>(
 }
 
 /// Adds a line to the file that the index in a folder has of a crate. The file is written anew
-/// beside the old one, and then takes its place. A name that could lead elsewhere is refused.
+/// beside the old one, and then takes its place. No name, or one that could lead elsewhere, is
+/// refused.
 pub fn add_to_index<R: Files + AllocGlobal>(
     rt: &R,
     folder: &str,
     indexed: &Indexed,
 ) -> io::Result<()> {
     let alloc = rt.alloc();
-    if !indexed.name.bytes().all(is_bare) {
+    if indexed.name.is_empty() || !indexed.name.bytes().all(is_bare) {
         return Err(io::Error::from(ErrorKind::InvalidInput));
     }
     let (above, name) = place_of(alloc, folder, indexed.name.as_str())?;
@@ -49,18 +50,31 @@ pub fn add_to_index<R: Files + AllocGlobal>(
         text.push_str("\n")?;
     }
     text.push_str(indexed.line.as_str())?;
+    let (above, fresh) = (above.as_str(), fresh.as_str());
+    let done = replace(rt, above, fresh, path.as_str(), text.as_str());
+    if done.is_err() {
+        let _ = fs::remove_file(rt, fresh);
+    }
+    done
+}
+
+/// Writes a fresh file in a folder, and puts it in the place of another.
+fn replace<R: Files + AllocGlobal>(
+    rt: &R,
+    folder: &str,
+    fresh: &str,
+    path: &str,
+    text: &str,
+) -> io::Result<()> {
     // of most crates the folder is there
-    let mut file = match fs::create(rt, fresh.as_str()) {
-        Ok(file) => file,
-        Err(fault) if fault.kind() == ErrorKind::NotFound => {
-            fs::create_dir_all(rt, above.as_str())?;
-            fs::create(rt, fresh.as_str())?
+    if let Err(fault) = fs::write(rt, fresh, text) {
+        if fault.kind() != ErrorKind::NotFound {
+            return Err(fault);
         }
-        Err(fault) => return Err(fault),
-    };
-    file.write_all(text.as_bytes())?;
-    file.flush()?;
-    fs::rename(rt, fresh.as_str(), path.as_str())
+        fs::create_dir_all(rt, folder)?;
+        fs::write(rt, fresh, text)?;
+    }
+    fs::rename(rt, fresh, path)
 }
 
 /// The folder in which an index has the file of a crate, and the name of the file.
@@ -68,8 +82,7 @@ fn place_of(alloc: Global, folder: &str, name: &str) -> Result<(String, String),
     let name = name.to_ascii_lowercase(alloc)?;
     let text = name.as_str();
     let above = match text.len() {
-        0 | 1 => format!(in alloc; "{folder}/1")?,
-        2 => format!(in alloc; "{folder}/2")?,
+        1 | 2 => format!(in alloc; "{folder}/{}", text.len())?,
         3 => format!(in alloc; "{folder}/3/{}", text.get(..1).unwrap_or("_"))?,
         _ => {
             let first = text.get(..2).unwrap_or("__");

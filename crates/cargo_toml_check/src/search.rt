@@ -3,7 +3,7 @@ ghost use Rattle.std.specs.Prelude.{◌≡◌, ◌++◌, ◌↔◌, [], IfOk, Is
 ghost use Rattle.toml.specs.View.{array_view, view, table_view};
 ghost use Rattle.cargo_toml_check.specs.Alone.{part_of};
 ghost use Rattle.cargo_toml_check.specs.Blamed.{blamed, blamed_items, blamed_members, blamed_parts};
-ghost use Rattle.cargo_toml_check.specs.Blamed.{inner_paths, path_of, reads, reads_alone};
+ghost use Rattle.cargo_toml_check.specs.Blamed.{inner_paths, is_deep, path_of, reads, reads_alone};
 
 use crate::alone::{Around, Step, alone, emptied};
 use cargo_toml::Error;
@@ -22,8 +22,8 @@ pub struct Fault<'t> {
 }
 
 /// The parts of a manifest that are at fault: each that doesn't read by itself, unless it does so
-/// emptied, and parts in it are at fault in its place. They stand in the order of their paths.
-/// There is none just where the manifest reads.
+/// emptied, and parts in it are at fault in its place. They stand in the order of their paths, none
+/// of which has over 33 parts. There is none just where the manifest reads.
 pub fn faults(alloc: Global, tree: &Value) -> Result<Vec<Fault<'_>>, AllocError>
     ensures found { IfOk result (λ v. map path_of v.items ≡ blamed [] (view tree.now)) }
     ensures silent { IfOk result (λ v. v.items ≡ [] ↔ IsSome (reads (view tree.now))) }
@@ -60,7 +60,8 @@ fn blame<'t>(
     Ok(())
 }
 
-/// Adds what is at fault in the parts of the part at this path, if it reads emptied.
+/// Adds what is at fault in the parts of the part at this path, if that isn't deep, and the part
+/// reads emptied.
 #[cycle(blame)]
 fn blame_parts<'t>(
     alloc: Global,
@@ -73,6 +74,9 @@ fn blame_parts<'t>(
         ++ inner_paths (map part_of path.old.items) (view part.now)
         (blamed_parts (map part_of path.old.items) (view part.now))) }
 {
+    if is_deep(path.as_slice()) {
+        return Ok(());
+    }
     let Some(emptied) = emptied(alloc, path.as_slice(), part)? else {
         return Ok(());
     };
@@ -122,6 +126,15 @@ fn blame_members<'t>(
         path.pop();
     }
     Ok(())
+}
+
+/// Whether a path has so many parts that nothing is told of what is in its part. Each further one
+/// takes stack, and reads what is there once more.
+#[tactic(auto, unfolding(crate::specs::Blamed::is_deep))]
+fn is_deep(path: &[Step<'_>]) -> bool
+    ensures { result ≡ is_deep (map part_of path.now) }
+{
+    path.len() > 32
 }
 
 /// Why the part at this path doesn't read by itself, if it doesn't.

@@ -40,7 +40,7 @@ pub enum There {
 pub struct Listing {
     /// The names.
     pub names: Vec<String>,
-    /// Whether it could be read to its end.
+    /// Whether all could be read.
     pub is_whole: bool,
 }
 
@@ -322,7 +322,7 @@ pub fn is_absent(kind: io::ErrorKind) -> bool
     matches!(kind, io::ErrorKind::NotFound | io::ErrorKind::NotADirectory)
 }
 
-/// Reads the names of what lies in a folder. A name that is no UTF-8 is passed over.
+/// Reads the names of what lies in a folder. One that is no UTF-8 can't be read.
 fn listed_in<R: Files + AllocGlobal>(rt: &R, folder: &str) -> AllocResult<Listing> {
     let mut names = Vec::new(rt.alloc());
     let mut is_whole = true;
@@ -335,7 +335,6 @@ fn listed_in<R: Files + AllocGlobal>(rt: &R, folder: &str) -> AllocResult<Listin
     for entry in entries {
         match entry {
             Ok(entry) => names.push(String::from_str(rt.alloc(), entry.file_name())?)?,
-            Err(fault) if fault.kind() == io::ErrorKind::InvalidFilename => {}
             Err(_) => is_whole = false,
         }
     }

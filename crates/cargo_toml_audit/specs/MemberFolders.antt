@@ -48,13 +48,14 @@ named_so folder pattern names =
 abbrev pub with_dots : Bool → List Text → List Text
 with_dots wanted names = names ++ (if wanted then codes "." ∷ codes ".." ∷ [] else [])
 
--- a name that stands for itself; and one that leads no further: `**`, or the empty one right
--- behind that
+-- a name that stands for itself; and one that leads no further: `**`, or the empty one right behind
+-- that where no other follows
 abbrev pub is_plain : Bool → Text → Bool
 is_plain behind_deep name = not behind_deep && not (is_pattern name)
 
-abbrev pub skips : Bool → Text → Bool
-skips behind_deep name = is_deep name || (behind_deep && (length name == 0))
+abbrev pub skips : Bool → Text → List Text → Bool
+skips behind_deep name others =
+    is_deep name || ((behind_deep && (length name == 0)) && (length others == 0))
 
 -- a folder, and those that lie below it
 abbrev pub with_itself : (Text → List Text) → Text → List Text
@@ -102,7 +103,7 @@ module _ (d : Disk) where
   abbrev pub led : Bool → List Text → Text → List Text
   led behind_deep [] folder = ended behind_deep folder
   led behind_deep (name ∷ names) folder =
-      if skips behind_deep name then led true names folder
+      if skips behind_deep name names then led true names folder
       else flat_map (led false names) (further behind_deep name folder)
 
   abbrev pub led_to : Text → Text → List Text

@@ -147,7 +147,7 @@ impl<'a, R: Files + AllocGlobal> Looking<'a, R> {
     }
 
     /// What names lead to from a path, right behind `**` where that is set. `**` leads no further,
-    /// nor does the empty name right behind it.
+    /// nor does the empty name right behind it where no other follows.
     fn led(&mut self, from: (&str, bool), names: &[&str]) -> AllocResult<Vec<String>>
         ensures { IfOk result (λ paths. Tells
             (λ d. led d from.entry.1 (map (λ t. t.now) names.now) from.entry.0.now)
@@ -156,7 +156,7 @@ impl<'a, R: Files + AllocGlobal> Looking<'a, R> {
         let Some((name, others)) = names.split_first() else {
             return self.ended(from);
         };
-        if is_deep(*name) || (from.1 && name.is_empty()) {
+        if is_deep(*name) || (from.1 && name.is_empty() && others.is_empty()) {
             return self.led((from.0, true), others);
         }
         let next = self.further(from, *name)?;

@@ -9,7 +9,7 @@ use Rattle.std.specs.{declared.alloc.Global.Global, declared.fs.attrs.Metadata.M
 use Rattle.cargo_toml.specs.{Action.Text, RealFiles.is_absent}
 use Rattle.cargo_toml_audit.specs.Places.{begins_at, is_in, normalized, pieces, place_of}
 use Rattle.cargo_toml_audit.specs.declared.members.walk.There.TheVariants.{Folder, Nothing, Other}
-use Rattle.cargo_toml_audit.specs.declared.members.walk.There.TheVariants.{Unseen}
+use Rattle.cargo_toml_audit.specs.declared.members.walk.There.TheVariants.{Unknown, Unseen}
 use Rattle.cargo_toml_audit.specs.{Patterns.begins_with_dot, declared.members.walk.Listing.Listing}
 use Rattle.cargo_toml_audit.specs.{Patterns.is_pattern, declared.members.walk.Looks.Looks}
 use Rattle.cargo_toml_audit.specs.{Patterns.parts_of, declared.members.walk.There.There}
@@ -23,7 +23,7 @@ by_found found = if nat_eq (file_type found).bits 0o040000 then Folder else Othe
 abbrev pub by_link : Bool → Result Metadata IoError → There
 by_link true (Ok link) = Other
 by_link false (Ok link) = Unseen
-by_link none (Err fault) = if is_absent (error_kind fault) then Nothing else Unseen
+by_link none (Err fault) = if is_absent (error_kind fault) then Nothing else Unknown
 
 -- a disk: what lies at a path, and the names of what lies in a folder
 pub record Disk : Type 0 where
@@ -34,8 +34,10 @@ abbrev pub is_folder : There → Bool
 is_folder Folder = true
 is_folder _ = false
 
+-- a name that is no pattern leads nowhere, by what lies there
 abbrev pub is_nothing : There → Bool
 is_nothing Nothing = true
+is_nothing Unknown = true
 is_nothing _ = false
 
 -- ---- where an entry leads
@@ -175,6 +177,7 @@ places_once d root entry = picked false [] (places_if_right d root entry)
 -- what couldn't be looked at, or read to its end
 abbrev pub is_unseen : There → Bool
 is_unseen Unseen = true
+is_unseen Unknown = true
 is_unseen _ = false
 
 abbrev pub unseen_in : List (String Global × There) → List Text

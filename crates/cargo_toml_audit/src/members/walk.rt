@@ -6,9 +6,10 @@ ghost use Rattle.std.specs.Prelude.{◌≡◌, ◌&&◌, IfOk, map, not, string_
 ghost use Rattle.std.specs.{BTreeMap.IsEmpty, List.flat_map};
 ghost use Rattle.cargo_toml.specs.RealFiles.{is_absent};
 ghost use Rattle.cargo_toml_audit.specs.MemberFolders.{Tells, all_below, below, by_found, by_link};
-ghost use Rattle.cargo_toml_audit.specs.MemberFolders.{ended, further, further_in, led, matched};
-ghost use Rattle.cargo_toml_audit.specs.MemberFolders.{named_so, places_if_right, places_once};
-ghost use Rattle.cargo_toml_audit.specs.MemberFolders.{subfolders, with_dots};
+ghost use Rattle.cargo_toml_audit.specs.MemberFolders.{ended, further, further_in, is_nothing};
+ghost use Rattle.cargo_toml_audit.specs.MemberFolders.{is_unseen, led, matched, named_so};
+ghost use Rattle.cargo_toml_audit.specs.MemberFolders.{places_if_right, places_once, subfolders};
+ghost use Rattle.cargo_toml_audit.specs.MemberFolders.{with_dots};
 ghost use Rattle.cargo_toml_audit.specs.Patterns.{begins_with_dot, part_of};
 
 use super::is_wrong;
@@ -31,8 +32,10 @@ pub enum There {
     Other,
     /// Nothing.
     Nothing,
-    /// It can't be looked at, as a link that leads to itself.
+    /// A link that can't be followed, as one that leads to itself.
     Unseen,
+    /// It can't even be told whether something lies there, as in a folder that is denied.
+    Unknown,
 }
 
 /// What lies in a folder, as far as it could be read.
@@ -209,7 +212,7 @@ impl<'a, R: Files + AllocGlobal> Looking<'a, R> {
         let mut all = Vec::new(self.rt.alloc());
         if !from.1 && !is_pattern(name) {
             let path = join(self.rt.alloc(), from.0, name)?;
-            if self.look_at(path.as_str())? != There::Nothing {
+            if !is_nothing(self.look_at(path.as_str())?) {
                 all.push(path)?;
             }
             return Ok(all);
@@ -311,8 +314,22 @@ fn of_link(kind: io::ErrorKind, link: io::Result<fs::Metadata>) -> There
         Ok(_) if is_absent(kind) => There::Other,
         Ok(_) => There::Unseen,
         Err(fault) if is_absent(fault.kind()) => There::Nothing,
-        Err(_) => There::Unseen,
+        Err(_) => There::Unknown,
     }
+}
+
+/// Whether a name that is no pattern leads nowhere, by what lies there.
+fn is_nothing(there: There) -> bool
+    ensures { result ≡ is_nothing there }
+{
+    matches!(there, There::Nothing | There::Unknown)
+}
+
+/// Whether what is there can't be looked at.
+pub fn is_unseen(there: There) -> bool
+    ensures { result ≡ is_unseen there }
+{
+    matches!(there, There::Unseen | There::Unknown)
 }
 
 /// Whether nothing lies at a path that fails so: a name is missing, or it leads through a file.

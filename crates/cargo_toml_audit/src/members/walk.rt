@@ -18,7 +18,7 @@ use super::places::{begins_at, normalized, pieces, place_of};
 use super::sets::picked;
 use crate::AllocResult;
 use cargo_toml_parts::paths::join;
-use std::alloc::Global;
+use std::alloc::{AllocError, Global};
 use std::collections::BTreeMap;
 use std::rt::Files;
 use std::{fs, io};
@@ -63,6 +63,9 @@ pub struct Looking<'a, R> {
     pub rt: &'a R,
     /// What was answered.
     pub looks: Looks,
+    /// How many steps are left: one for a byte of a path, and for a name that is compared 256, and
+    /// one for each part of the pattern.
+    pub left: usize,
 }
 
 impl<'a, R: Files + AllocGlobal> Looking<'a, R> {
@@ -75,13 +78,18 @@ impl<'a, R: Files + AllocGlobal> Looking<'a, R> {
             there: BTreeMap::new(rt.alloc()),
             names: BTreeMap::new(rt.alloc()),
         };
-        Looking { rt, looks }
+        let left = MAX_STEPS;
+        Looking { rt, looks, left }
     }
 
-    /// What lies at a path.
+    /// What lies at a path. Where no step is left it ends as if out of memory.
     pub fn look_at(&mut self, path: &str) -> AllocResult<There>
         ensures { IfOk result (λ t. Tells (λ d. d.there path.now) self.old.looks self.new.looks t) }
     {
+        self.left = self.left.saturating_sub(path.len());
+        if self.left == 0 {
+            return Err(AllocError);
+        }
         if let Some(there) = self.looks.there.get(path) {
             return Ok(*there);
         }
@@ -233,6 +241,8 @@ impl<'a, R: Files + AllocGlobal> Looking<'a, R> {
             return Ok(Vec::new(self.rt.alloc()));
         }
         let names = self.names_in(from.0)?;
+        let steps = pattern.len().saturating_add(256);
+        self.left = self.left.saturating_sub(names.len().saturating_mul(steps));
         let names = with_dots(self.rt.alloc(), names, pattern, from.1)?;
         named_so(self.rt.alloc(), from.0, pattern, names.as_slice())
     }
@@ -287,6 +297,9 @@ impl<'a, R: Files + AllocGlobal> Looking<'a, R> {
 
 /// How many folders deep `**` looks. The system takes no path that goes deeper.
 const MAX_DEPTH: usize = 2048;
+
+/// The steps of all entries. Patterns that lead up again, as `*/../*/..`, would take them for ever.
+const MAX_STEPS: usize = 128 * 1024 * 1024;
 
 fn asked<R: Files>(rt: &R, path: &str) -> There {
     match fs::metadata(rt, path) {

@@ -9,7 +9,7 @@ use Rattle.std.specs.{declared.alloc.Global.Global, declared.fs.attrs.Metadata.M
 use Rattle.cargo_toml.specs.{Action.Text, RealFiles.is_absent}
 use Rattle.cargo_toml_audit.specs.Places.{begins_at, is_in, normalized, pieces, place_of}
 use Rattle.cargo_toml_audit.specs.declared.members.walk.There.TheVariants.{Folder, Nothing, Other}
-use Rattle.cargo_toml_audit.specs.declared.members.walk.There.TheVariants.{Unseen}
+use Rattle.cargo_toml_audit.specs.declared.members.walk.There.TheVariants.{Unknown, Unseen}
 use Rattle.cargo_toml_audit.specs.{Patterns.begins_with_dot, declared.members.walk.Listing.Listing}
 use Rattle.cargo_toml_audit.specs.{Patterns.is_pattern, declared.members.walk.Looks.Looks}
 use Rattle.cargo_toml_audit.specs.{Patterns.parts_of, declared.members.walk.There.There}
@@ -23,7 +23,7 @@ by_found found = if nat_eq (file_type found).bits 0o040000 then Folder else Othe
 abbrev pub by_link : Bool → Result Metadata IoError → There
 by_link true (Ok link) = Other
 by_link false (Ok link) = Unseen
-by_link none (Err fault) = if is_absent (error_kind fault) then Nothing else Unseen
+by_link none (Err fault) = if is_absent (error_kind fault) then Nothing else Unknown
 
 -- a disk: what lies at a path, and the names of what lies in a folder
 pub record Disk : Type 0 where
@@ -34,8 +34,10 @@ abbrev pub is_folder : There → Bool
 is_folder Folder = true
 is_folder _ = false
 
+-- a name that is no pattern leads nowhere, by what lies there
 abbrev pub is_nothing : There → Bool
 is_nothing Nothing = true
+is_nothing Unknown = true
 is_nothing _ = false
 
 -- ---- where an entry leads
@@ -48,13 +50,14 @@ named_so folder pattern names =
 abbrev pub with_dots : Bool → List Text → List Text
 with_dots wanted names = names ++ (if wanted then codes "." ∷ codes ".." ∷ [] else [])
 
--- a name that stands for itself; and one that leads no further: `**`, or the empty one right
--- behind that
+-- a name that stands for itself; and one that leads no further: `**`, or the empty one right behind
+-- that where no other follows
 abbrev pub is_plain : Bool → Text → Bool
 is_plain behind_deep name = not behind_deep && not (is_pattern name)
 
-abbrev pub skips : Bool → Text → Bool
-skips behind_deep name = is_deep name || (behind_deep && (length name == 0))
+abbrev pub skips : Bool → Text → List Text → Bool
+skips behind_deep name others =
+    is_deep name || ((behind_deep && (length name == 0)) && (length others == 0))
 
 -- a folder, and those that lie below it
 abbrev pub with_itself : (Text → List Text) → Text → List Text
@@ -102,7 +105,7 @@ module _ (d : Disk) where
   abbrev pub led : Bool → List Text → Text → List Text
   led behind_deep [] folder = ended behind_deep folder
   led behind_deep (name ∷ names) folder =
-      if skips behind_deep name then led true names folder
+      if skips behind_deep name names then led true names folder
       else flat_map (led false names) (further behind_deep name folder)
 
   abbrev pub led_to : Text → Text → List Text
@@ -174,6 +177,7 @@ places_once d root entry = picked false [] (places_if_right d root entry)
 -- what couldn't be looked at, or read to its end
 abbrev pub is_unseen : There → Bool
 is_unseen Unseen = true
+is_unseen Unknown = true
 is_unseen _ = false
 
 abbrev pub unseen_in : List (String Global × There) → List Text

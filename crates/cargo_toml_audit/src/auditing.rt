@@ -26,8 +26,8 @@ use walk::add_members;
 /// The report on the workspace around a folder. Where `shows` is set, a long one tells on standard
 /// error how far it is.
 ///
-/// Refused where the folder isn't there, no workspace is found at or above it, or a manifest on the
-/// way there can't be read. A member that is refused is a finding.
+/// Refused where the folder isn't there, no workspace is found at or above it, a manifest on the way
+/// there can't be read, or patterns lead too far. A member that is refused is a finding.
 pub fn audit<R: Files + Eprint + RandomSource + AllocGlobal>(
     rt: &R,
     folder: &str,
@@ -41,12 +41,18 @@ pub fn audit<R: Files + Eprint + RandomSource + AllocGlobal>(
     let Some(found) = workspace else {
         return Err(Error::Other("there is no workspace"));
     };
-    report_at(rt, found.root.as_str(), found.asked.as_str(), shows)
+    let mut looking = Looking::new(rt);
+    let (root, asked) = (found.root.as_str(), found.asked.as_str());
+    let made = report_at(&mut looking, root, asked, shows);
+    if looking.left == 0 {
+        return Err(Error::Other("there are too many places"));
+    }
+    made
 }
 
 /// The report on the workspace that lies at a place, in which another one is asked for.
 fn report_at<R: Files + Eprint + RandomSource + AllocGlobal>(
-    rt: &R,
+    looking: &mut Looking<'_, R>,
     place: &str,
     asked: &str,
     shows: bool,
@@ -54,8 +60,8 @@ fn report_at<R: Files + Eprint + RandomSource + AllocGlobal>(
     ensures audited { IfOk result IsAudited }
     ensures refused { IfErr result IsAuditFault }
 {
-    let path = manifest_path(rt.alloc(), place)?;
-    let held = manifest_in(rt, path.as_str())?;
+    let path = manifest_path(looking.rt.alloc(), place)?;
+    let held = manifest_in(looking.rt, path.as_str())?;
     let manifest = &*held.manifest;
     let Some(workspace) = &manifest.workspace else {
         return Err(Error::Other("there is no workspace"));
@@ -66,13 +72,13 @@ fn report_at<R: Files + Eprint + RandomSource + AllocGlobal>(
         manifest,
         workspace,
     };
-    let report = report_on(rt, root, asked, shows)?;
+    let report = report_on(looking, root, asked, shows)?;
     Ok(report)
 }
 
 /// The report on a workspace, in which this place is asked for.
 fn report_on<R: Files + Eprint + RandomSource + AllocGlobal>(
-    rt: &R,
+    looking: &mut Looking<'_, R>,
     root: Root<'_>,
     asked: &str,
     shows: bool,
@@ -81,13 +87,12 @@ fn report_on<R: Files + Eprint + RandomSource + AllocGlobal>(
     ensures place { IfOk result (λ a. string_bytes a.root ≡ root.entry.place.now) }
     ensures refused { IfErr result IsAuditFault }
 {
-    let alloc = rt.alloc();
-    let mut looking = Looking::new(rt);
-    let mut audit = Audit::new(String::from_str(alloc, root.place)?);
-    let lists = read_lists(&mut looking, root, &mut audit.findings)?;
+    let rt = looking.rt;
+    let mut audit = Audit::new(String::from_str(rt.alloc(), root.place)?);
+    let lists = read_lists(looking, root, &mut audit.findings)?;
     let (first, mut known) = lists;
     known.members = add_members(rt, root, first, &mut audit, shows)?;
-    find_beside(&mut looking, root, (&known, asked), &mut audit.findings)?;
+    find_beside(looking, root, (&known, asked), &mut audit.findings)?;
     audit.finish(root.workspace)?;
     Ok(audit)
 }

@@ -16,6 +16,7 @@ pub use places::{Exclusion, lies_in, manifest_path, place_of, seen_from};
 use sets::push_if;
 pub use sets::{note, picked, set_of};
 use std::alloc::Global;
+use walk::is_unseen;
 pub use walk::{Listing, Looking, Looks, There, is_absent};
 
 /// The bytes that a path has at most.
@@ -83,7 +84,7 @@ pub fn unseen(alloc: Global, looks: &Looks) -> AllocResult<Vec<String>>
 {
     let mut all = Vec::new(alloc);
     for (path, there) in &looks.there {
-        push_if(&mut all, path.as_str(), *there == There::Unseen)?;
+        push_if(&mut all, path.as_str(), is_unseen(*there))?;
     }
     for (folder, listing) in &looks.names {
         push_if(&mut all, folder.as_str(), !listing.is_whole)?;

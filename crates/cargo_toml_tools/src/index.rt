@@ -27,6 +27,7 @@ use features::put_features;
 pub use refusals::Fault;
 use refusals::{Refusal, package_refusal};
 pub use registries::{CRATES_IO, Named};
+pub use sections::table_name;
 use sections::{Section, sections};
 use serde_json::{Map, Value, put};
 use std::alloc::{AllocError, Global};

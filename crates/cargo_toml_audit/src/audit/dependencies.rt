@@ -6,7 +6,6 @@ ghost use Rattle.cargo_toml.specs.InheritedPackages.{is_left_there};
 ghost use Rattle.cargo_toml.specs.{Manifests.held, Reads.map_meaning, Targets.target_meaning};
 ghost use Rattle.cargo_toml.specs.{Dependencies.dependency_meaning, InheritedDependencies.is_left};
 ghost use Rattle.cargo_toml_package.specs.Replacing.{entries_meaning};
-ghost use Rattle.cargo_toml_tools.specs.Indexed.{table_name};
 ghost use Rattle.cargo_toml_audit.specs.Entries.{asked_in, asking_of, entries_of, in_target};
 ghost use Rattle.cargo_toml_audit.specs.Entries.{inherited_in, left_dependency, left_fields};
 ghost use Rattle.cargo_toml_audit.specs.Entries.{listed_of, named_if, with_kind};
@@ -19,6 +18,7 @@ use crate::members::note;
 use cargo_toml::features::Kind;
 use cargo_toml::{Dependency, DepsSet, Inheritable, Manifest, TargetDepsSet};
 use cargo_toml_package::inheriting::leavable_rows;
+use cargo_toml_tools::index::table_name;
 use cargo_toml_tools::requirement::required_version;
 use cargo_toml_write::write::requirement::requirement_text;
 use std::alloc::Global;
@@ -128,16 +128,6 @@ pub fn add_inherited(
         }
     }
     Ok(())
-}
-
-fn table_name(kind: Kind) -> &'static str
-    ensures { result.now ≡ table_name kind }
-{
-    match kind {
-        Kind::Normal => "dependencies",
-        Kind::Dev => "dev-dependencies",
-        Kind::Build => "build-dependencies",
-    }
 }
 
 /// Whether a dependency is left to the workspace.

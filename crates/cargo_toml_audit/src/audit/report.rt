@@ -72,20 +72,23 @@ fn shown_members<'a>(alloc: Global, audit: &'a Audit) -> AllocResult<BTreeMap<St
     Ok(all)
 }
 
-/// What was found, each once. A place is told as it is seen from the workspace, and of a crate with
-/// several requirements all that ask for it.
+/// What was found, each once. A place is told as it is seen from the workspace, and with the first
+/// finding of a crate with several requirements all that ask for it.
 fn shown_findings(alloc: Global, audit: &Audit) -> AllocResult<BTreeSet<Finding>> {
-    let asked = requirements(alloc, audit)?;
+    let mut asked = requirements(alloc, audit)?;
     let mut all = BTreeSet::new(alloc);
     for finding in &audit.findings {
+        let words = match finding.code {
+            Code::SeveralRequirements => asked.remove(finding.subject.as_str()),
+            _ => Some(finding.words.clone()?),
+        };
+        let Some(words) = words else {
+            continue;
+        };
         let subject = if finding.code.is_of_place() {
             seen_from(alloc, audit.root.as_str(), finding.subject.as_str())?
         } else {
             finding.subject.clone()?
-        };
-        let words = match asked.get(finding.subject.as_str()) {
-            Some(words) if finding.code == Code::SeveralRequirements => words.clone()?,
-            _ => finding.words.clone()?,
         };
         all.insert(Finding {
             code: finding.code,

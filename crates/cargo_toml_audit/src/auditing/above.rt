@@ -5,7 +5,7 @@ ghost use Rattle.cargo_toml_audit.specs.Places.{lies_in};
 
 use crate::AllocResult;
 use crate::audit::named_by;
-use crate::members::{Exclusion, Looking, There, lies_in, manifest_path, place_of};
+use crate::members::{Exclusion, lies_in, manifest_path, place_of};
 use cargo_toml::{Error, Manifest};
 use cargo_toml_parts::paths::ancestors;
 use cargo_toml_tools::files::manifest_in;
@@ -44,7 +44,6 @@ pub fn workspace_of<R: Files + AllocGlobal>(rt: &R, start: &str) -> Result<Optio
     ensures refused { IfErr result IsUnreadable }
 {
     let alloc = rt.alloc();
-    let mut looking = Looking::new(rt);
     let mut asked: Option<String> = None;
     for above in ancestors(start) {
         let place = above.as_str();
@@ -52,7 +51,8 @@ pub fn workspace_of<R: Files + AllocGlobal>(rt: &R, start: &str) -> Result<Optio
             break;
         }
         let path = manifest_path(alloc, place)?;
-        if looking.look_at(path.as_str())? == There::Nothing {
+        // a link that leads nowhere is passed over too
+        if fs::metadata(rt, path.as_str()).is_err() {
             continue;
         }
         let held = manifest_in(rt, path.as_str())?;

@@ -6,9 +6,10 @@ ghost use Rattle.std.specs.Prelude.{◌≡◌, ◌&&◌, IfOk, map, not, string_
 ghost use Rattle.std.specs.{BTreeMap.IsEmpty, List.flat_map};
 ghost use Rattle.cargo_toml.specs.RealFiles.{is_absent};
 ghost use Rattle.cargo_toml_audit.specs.MemberFolders.{Tells, all_below, below, by_found, by_link};
-ghost use Rattle.cargo_toml_audit.specs.MemberFolders.{ended, further, further_in, led, matched};
-ghost use Rattle.cargo_toml_audit.specs.MemberFolders.{named_so, places_if_right, places_once};
-ghost use Rattle.cargo_toml_audit.specs.MemberFolders.{subfolders, with_dots};
+ghost use Rattle.cargo_toml_audit.specs.MemberFolders.{ended, further, further_in, is_nothing};
+ghost use Rattle.cargo_toml_audit.specs.MemberFolders.{is_unseen, led, matched, named_so};
+ghost use Rattle.cargo_toml_audit.specs.MemberFolders.{places_if_right, places_once, subfolders};
+ghost use Rattle.cargo_toml_audit.specs.MemberFolders.{with_dots};
 ghost use Rattle.cargo_toml_audit.specs.Patterns.{begins_with_dot, part_of};
 
 use super::is_wrong;
@@ -17,7 +18,7 @@ use super::places::{begins_at, normalized, pieces, place_of};
 use super::sets::picked;
 use crate::AllocResult;
 use cargo_toml_parts::paths::join;
-use std::alloc::Global;
+use std::alloc::{AllocError, Global};
 use std::collections::BTreeMap;
 use std::rt::Files;
 use std::{fs, io};
@@ -31,8 +32,10 @@ pub enum There {
     Other,
     /// Nothing.
     Nothing,
-    /// It can't be looked at, as a link that leads to itself.
+    /// A link that can't be followed, as one that leads to itself.
     Unseen,
+    /// It can't even be told whether something lies there, as in a folder that is denied.
+    Unknown,
 }
 
 /// What lies in a folder, as far as it could be read.
@@ -40,7 +43,7 @@ pub enum There {
 pub struct Listing {
     /// The names.
     pub names: Vec<String>,
-    /// Whether it could be read to its end.
+    /// Whether all could be read.
     pub is_whole: bool,
 }
 
@@ -60,6 +63,9 @@ pub struct Looking<'a, R> {
     pub rt: &'a R,
     /// What was answered.
     pub looks: Looks,
+    /// How many steps are left: one for a byte of a path, and for a name that is compared 256, and
+    /// one for each part of the pattern.
+    pub left: usize,
 }
 
 impl<'a, R: Files + AllocGlobal> Looking<'a, R> {
@@ -72,13 +78,18 @@ impl<'a, R: Files + AllocGlobal> Looking<'a, R> {
             there: BTreeMap::new(rt.alloc()),
             names: BTreeMap::new(rt.alloc()),
         };
-        Looking { rt, looks }
+        let left = MAX_STEPS;
+        Looking { rt, looks, left }
     }
 
-    /// What lies at a path.
+    /// What lies at a path. Where no step is left it ends as if out of memory.
     pub fn look_at(&mut self, path: &str) -> AllocResult<There>
         ensures { IfOk result (λ t. Tells (λ d. d.there path.now) self.old.looks self.new.looks t) }
     {
+        self.left = self.left.saturating_sub(path.len());
+        if self.left == 0 {
+            return Err(AllocError);
+        }
         if let Some(there) = self.looks.there.get(path) {
             return Ok(*there);
         }
@@ -147,7 +158,7 @@ impl<'a, R: Files + AllocGlobal> Looking<'a, R> {
     }
 
     /// What names lead to from a path, right behind `**` where that is set. `**` leads no further,
-    /// nor does the empty name right behind it.
+    /// nor does the empty name right behind it where no other follows.
     fn led(&mut self, from: (&str, bool), names: &[&str]) -> AllocResult<Vec<String>>
         ensures { IfOk result (λ paths. Tells
             (λ d. led d from.entry.1 (map (λ t. t.now) names.now) from.entry.0.now)
@@ -156,7 +167,7 @@ impl<'a, R: Files + AllocGlobal> Looking<'a, R> {
         let Some((name, others)) = names.split_first() else {
             return self.ended(from);
         };
-        if is_deep(*name) || (from.1 && name.is_empty()) {
+        if is_deep(*name) || (from.1 && name.is_empty() && others.is_empty()) {
             return self.led((from.0, true), others);
         }
         let next = self.further(from, *name)?;
@@ -209,7 +220,7 @@ impl<'a, R: Files + AllocGlobal> Looking<'a, R> {
         let mut all = Vec::new(self.rt.alloc());
         if !from.1 && !is_pattern(name) {
             let path = join(self.rt.alloc(), from.0, name)?;
-            if self.look_at(path.as_str())? != There::Nothing {
+            if !is_nothing(self.look_at(path.as_str())?) {
                 all.push(path)?;
             }
             return Ok(all);
@@ -230,6 +241,8 @@ impl<'a, R: Files + AllocGlobal> Looking<'a, R> {
             return Ok(Vec::new(self.rt.alloc()));
         }
         let names = self.names_in(from.0)?;
+        let steps = pattern.len().saturating_add(256);
+        self.left = self.left.saturating_sub(names.len().saturating_mul(steps));
         let names = with_dots(self.rt.alloc(), names, pattern, from.1)?;
         named_so(self.rt.alloc(), from.0, pattern, names.as_slice())
     }
@@ -285,6 +298,9 @@ impl<'a, R: Files + AllocGlobal> Looking<'a, R> {
 /// How many folders deep `**` looks. The system takes no path that goes deeper.
 const MAX_DEPTH: usize = 2048;
 
+/// The steps of all entries. Patterns that lead up again, as `*/../*/..`, would take them for ever.
+const MAX_STEPS: usize = 128 * 1024 * 1024;
+
 fn asked<R: Files>(rt: &R, path: &str) -> There {
     match fs::metadata(rt, path) {
         Ok(found) => of_found(&found),
@@ -311,8 +327,22 @@ fn of_link(kind: io::ErrorKind, link: io::Result<fs::Metadata>) -> There
         Ok(_) if is_absent(kind) => There::Other,
         Ok(_) => There::Unseen,
         Err(fault) if is_absent(fault.kind()) => There::Nothing,
-        Err(_) => There::Unseen,
+        Err(_) => There::Unknown,
     }
+}
+
+/// Whether a name that is no pattern leads nowhere, by what lies there.
+fn is_nothing(there: There) -> bool
+    ensures { result ≡ is_nothing there }
+{
+    matches!(there, There::Nothing | There::Unknown)
+}
+
+/// Whether what is there can't be looked at.
+pub fn is_unseen(there: There) -> bool
+    ensures { result ≡ is_unseen there }
+{
+    matches!(there, There::Unseen | There::Unknown)
 }
 
 /// Whether nothing lies at a path that fails so: a name is missing, or it leads through a file.
@@ -322,7 +352,7 @@ pub fn is_absent(kind: io::ErrorKind) -> bool
     matches!(kind, io::ErrorKind::NotFound | io::ErrorKind::NotADirectory)
 }
 
-/// Reads the names of what lies in a folder. A name that is no UTF-8 is passed over.
+/// Reads the names of what lies in a folder. One that is no UTF-8 can't be read.
 fn listed_in<R: Files + AllocGlobal>(rt: &R, folder: &str) -> AllocResult<Listing> {
     let mut names = Vec::new(rt.alloc());
     let mut is_whole = true;
@@ -335,7 +365,6 @@ fn listed_in<R: Files + AllocGlobal>(rt: &R, folder: &str) -> AllocResult<Listin
     for entry in entries {
         match entry {
             Ok(entry) => names.push(String::from_str(rt.alloc(), entry.file_name())?)?,
-            Err(fault) if fault.kind() == io::ErrorKind::InvalidFilename => {}
             Err(_) => is_whole = false,
         }
     }

@@ -93,7 +93,8 @@ pub(super) fn table_in<'a>(table: &'a Table, key: &str) -> Option<&'a Table>
     member(table, key)?.as_table()
 }
 
-fn table_name(kind: Kind) -> &'static str
+/// The name of the table of a kind.
+pub fn table_name(kind: Kind) -> &'static str
     ensures { result.now ≡ table_name kind }
 {
     match kind {

@@ -53,7 +53,7 @@ class Judge:
 def of_package(package, root):
     publish = package["publish"]
     if publish is not None:
-        publish = "in " + ", ".join(publish) if publish else "no"
+        publish = ", ".join(publish) or "no"
     folder = os.path.relpath(os.path.dirname(package["manifest_path"]), root)
     values = {key: package[key] for key in KEYS if key not in ("folder", "publish")}
     return values | {"folder": folder, "publish": publish or "yes"}

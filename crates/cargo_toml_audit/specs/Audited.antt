@@ -1,6 +1,6 @@
 -- What is told of a member.
-use Rattle.std.specs.Prelude.{◌≡◌, ◌++◌, ◌||◌, ◌==◌, Bool, false, true, List, Option, Some}
-use Rattle.std.specs.Prelude.{String, codes, if◌then◌else◌, length, map, option_map, string_bytes}
+use Rattle.std.specs.Prelude.{◌≡◌, ◌||◌, ◌==◌, Bool, false, true, List, Option, Some, String}
+use Rattle.std.specs.Prelude.{codes, if◌then◌else◌, length, map, option_map, string_bytes}
 use Rattle.std.specs.{List.join_by, Option.option_map_or, declared.alloc.Global.Global}
 use Rattle.semver.specs.Identifiers.{parts_text}
 use Rattle.cargo_toml.specs.InheritedPackages.{field_is_left, is_left_there}
@@ -10,13 +10,12 @@ use Rattle.cargo_toml.specs.{InheritableValues.value_of, Manifests.ManifestMeani
 use Rattle.cargo_toml.specs.{Packages.PackageMeaning}
 use Rattle.cargo_toml_audit.specs.declared.audit.Member.{Member}
 
--- where a package may be published: `in` names of registries with commas between; none is `no`
+-- where a package may be published: the names of registries with commas between; none is `no`
 abbrev pub publish_text : Registries → Text
 publish_text (everywhere true) = codes "yes"
 publish_text (everywhere false) = codes "no"
 publish_text (among names) =
-    if length names == 0 then codes "no"
-    else codes "in " ++ join_by (λ text. text) (codes ", ") names
+    if length names == 0 then codes "no" else join_by (λ text. text) (codes ", ") names
 
 -- a text that may be missing, and that isn't left to the workspace
 abbrev pub stated : Option (String Global) → Option (Inheritable Text)

@@ -37,7 +37,7 @@ pub struct Member {
     pub rust_version: Option<String>,
     /// The licence.
     pub license: Option<String>,
-    /// Where it may be published: `yes`, `no`, or `in` names of registries.
+    /// Where it may be published: `yes`, `no` or the names of registries.
     pub publish: String,
     /// What it leaves to the workspace, by key.
     pub inherits: Vec<String>,

@@ -96,11 +96,6 @@ fn place(alloc: Global, publish: &Publish) -> AllocResult<String>
         Publish::Flag(true) => String::from_str(alloc, "yes"),
         Publish::Flag(false) => String::from_str(alloc, "no"),
         Publish::Registry(names) if names.is_empty() => String::from_str(alloc, "no"),
-        Publish::Registry(names) => {
-            let mut text = String::from_str(alloc, "in ")?;
-            let joined = names.as_slice().join(alloc, ", ")?;
-            text.push_str(joined.as_str())?;
-            Ok(text)
-        }
+        Publish::Registry(names) => names.as_slice().join(alloc, ", "),
     }
 }

@@ -1,11 +1,11 @@
 //! What comes of requests about files and folders.
-use crate::workspace::{members, report_text, unread_above};
+use crate::workspace::{members, path_of, report_text, unread_above};
 use cargo_toml::Error;
 use cargo_toml_check::check::{check_lines, refusal_lines};
 use cargo_toml_check::files::{features_of, json_of, toml_of};
 use cargo_toml_check::lint::lint_lines;
 use cargo_toml_check::registry::{add_to_index, checksums};
-use cargo_toml_tools::escape::{Format, push_escaped};
+use cargo_toml_tools::escape::{Escaped, Format, push_escaped};
 use cargo_toml_tools::files::{document_text, index_of, text_in};
 use cargo_toml_tools::{Inputs, Outcome, Request, Wanted};
 use std::collections::BTreeMap;
@@ -124,7 +124,8 @@ impl<'a, R: Files + Input + Print + Eprint + RandomSource + Clock + AllocGlobal>
         file: &str,
         text: &str,
     ) -> io::Result<Outcome> {
-        let made = match index_of(self.rt, file, text, wanted.options(), sums) {
+        let path = path_of(self.rt, file)?;
+        let made = match index_of(self.rt, path.as_str(), text, wanted.options(), sums) {
             Ok(made) => made,
             Err(fault) => return self.refuse(file, text, fault),
         };
@@ -223,11 +224,22 @@ fn made_of<R: Files + RandomSource + AllocGlobal>(
     file: &str,
     text: &str,
 ) -> Result<(String, bool), Error> {
+    let path = path_of(rt, file)?;
+    let path = path.as_str();
     match request {
-        Request::Check(_) => Ok(check_lines(rt, file, text)?),
-        Request::Show(_, true) => as_line(json_of(rt, file, text)?),
-        Request::Show(_, false) => Ok((toml_of(rt, file, text)?, false)),
-        Request::Features(_) => as_line(features_of(rt, file, text)?),
+        Request::Check(_) => {
+            let (lines, odd) = check_lines(rt, path, text)?;
+            // each line begins with the path, in whose place the name stands
+            let path = format!(in rt.alloc(); "\n{}:", Escaped(path, Format::Line))?;
+            let file = format!(in rt.alloc(); "\n{}:", Escaped(file, Format::Line))?;
+            let lines = format!(in rt.alloc(); "\n{lines}")?;
+            let lines = lines.replace(rt.alloc(), path.as_str(), file.as_str())?;
+            let lines = lines.as_str().trim_start_matches('\n');
+            Ok((String::from_str(rt.alloc(), lines)?, odd))
+        }
+        Request::Show(_, true) => as_line(json_of(rt, path, text)?),
+        Request::Show(_, false) => Ok((toml_of(rt, path, text)?, false)),
+        Request::Features(_) => as_line(features_of(rt, path, text)?),
         Request::Lint(_, judging) => lint_lines(rt, file, text, judging),
         Request::Document(_, dot) => Ok((document_text(rt, text, *dot)?, false)),
         _ => Ok((String::new(rt.alloc()), false)),

@@ -2,7 +2,7 @@
 use cargo_toml::Error;
 use cargo_toml_audit::audit::{Code, Finding, json, lines};
 use cargo_toml_audit::auditing::audit;
-use cargo_toml_audit::members::{manifest_path, seen_from};
+use cargo_toml_audit::members::{manifest_path, place_of, seen_from};
 use cargo_toml_check::check::faults_in;
 use cargo_toml_tools::files::text_in;
 use std::alloc::{AllocError, Global};
@@ -20,7 +20,7 @@ pub(crate) fn report_text<R: Files + Eprint + RandomSource + AllocGlobal>(
     shows: bool,
 ) -> Result<(String, bool), Error> {
     let alloc = rt.alloc();
-    let here = here(rt)?;
+    let here = path_of(rt, ".")?;
     let mut report = audit(rt, folder, shows)?;
     let found = mem::replace(&mut report.findings, Vec::new(alloc));
     for finding in found {
@@ -73,7 +73,7 @@ pub(crate) fn members<R: Files + Eprint + RandomSource + AllocGlobal>(
     shows: bool,
 ) -> Result<BTreeSet<String>, Error> {
     let alloc = rt.alloc();
-    let here = here(rt)?;
+    let here = path_of(rt, ".")?;
     let report = audit(rt, folder, shows)?;
     let mut files = BTreeSet::new(alloc);
     for member in &report.members {
@@ -93,7 +93,7 @@ pub(crate) fn unread_above<R: Files + AllocGlobal>(
     folder: &str,
 ) -> io::Result<Option<(String, String)>> {
     let alloc = rt.alloc();
-    let here = here(rt)?;
+    let here = path_of(rt, ".")?;
     let start = fs::canonicalize(rt, folder)?;
     for above in start.as_path().ancestors() {
         let file = file_of(alloc, here.as_str(), above.as_str())?;
@@ -106,10 +106,20 @@ pub(crate) fn unread_above<R: Files + AllocGlobal>(
     Ok(None)
 }
 
-/// The folder that the program runs in.
-fn here<R: Files + AllocGlobal>(rt: &R) -> io::Result<String> {
-    let here = fs::canonicalize(rt, ".")?;
-    Ok(String::from_str(rt.alloc(), here.to_str().unwrap_or(""))?)
+/// The path of a file, in which all folders above it are written. What ends with the last `..` is
+/// looked up, since it may lead back from behind a link. A name stays where that has no path.
+pub(crate) fn path_of<R: Files + AllocGlobal>(rt: &R, file: &str) -> io::Result<String> {
+    let start = if file.starts_with('/') { "/" } else { "." };
+    let (up, name) = match file.rsplit_once("../") {
+        Some((_, name)) => (file.strip_suffix(name).unwrap_or(file), name),
+        None => (start, file),
+    };
+    let name = name.trim_start_matches('/');
+    match fs::canonicalize(rt, up) {
+        Ok(folder) => Ok(place_of(rt.alloc(), folder.as_str(), name)?),
+        Err(fault) if fault.kind() == io::ErrorKind::OutOfMemory => Err(fault),
+        Err(_) => Ok(String::from_str(rt.alloc(), file)?),
+    }
 }
 
 /// The manifest at a place, as it is seen from a folder.

@@ -88,7 +88,10 @@ impl<'a, R: Files + Input + Print + Eprint + RandomSource + Clock + AllocGlobal>
         if let Some(folder) = inputs.workspace {
             match members(self.rt, folder, self.began.is_some()) {
                 Ok(found) => files.extend(found)?,
-                Err(fault) => *outcome = self.refuse_folder(folder, fault)?,
+                Err(fault) => match unread_above(self.rt, folder, &fault)? {
+                    Some((file, _text)) => files.push(file)?,
+                    None => *outcome = self.refuse(folder, "", fault)?,
+                },
             }
         }
         Ok(files)
@@ -148,7 +151,10 @@ impl<'a, R: Files + Input + Print + Eprint + RandomSource + Clock + AllocGlobal>
     pub(crate) fn audit(&mut self, folder: &str, as_json: bool) -> io::Result<Outcome> {
         match report_text(self.rt, folder, as_json, self.began.is_some()) {
             Ok((text, odd)) => self.put(text.as_str(), odd),
-            Err(fault) => self.refuse_folder(folder, fault),
+            Err(fault) => match unread_above(self.rt, folder, &fault)? {
+                Some((file, text)) => self.refuse(file.as_str(), text.as_str(), fault),
+                None => self.refuse(folder, "", fault),
+            },
         }
     }
 
@@ -172,16 +178,6 @@ impl<'a, R: Files + Input + Print + Eprint + RandomSource + Clock + AllocGlobal>
         let lines = refusal_lines(alloc, file, text, words.as_str())?;
         eprint!(self.rt; "{lines}")?;
         Ok(Outcome::Refused)
-    }
-
-    /// Tells why there is no report on the workspace around a folder.
-    fn refuse_folder(&mut self, folder: &str, fault: Error) -> io::Result<Outcome> {
-        if !matches!(fault, Error::Io(_) | Error::Memory) {
-            if let Some((file, text)) = unread_above(self.rt, folder)? {
-                return self.refuse(file.as_str(), text.as_str(), fault);
-            }
-        }
-        self.refuse(folder, "", fault)
     }
 
     /// Tells a terminal how many files are done, where that lasts over a second.

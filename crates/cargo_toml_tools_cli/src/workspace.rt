@@ -87,11 +87,16 @@ pub(crate) fn members<R: Files + Eprint + RandomSource + AllocGlobal>(
     Ok(files)
 }
 
-/// The nearest manifest at or above a folder in which something is at fault, and its text.
+/// The nearest manifest at or above a folder in which something is at fault, and its text, where
+/// this is why there is no report on the workspace around it.
 pub(crate) fn unread_above<R: Files + AllocGlobal>(
     rt: &R,
     folder: &str,
+    fault: &Error,
 ) -> io::Result<Option<(String, String)>> {
+    if !matches!(fault, Error::Parse(_)) {
+        return Ok(None);
+    }
     let alloc = rt.alloc();
     let here = path_of(rt, ".")?;
     let start = fs::canonicalize(rt, folder)?;

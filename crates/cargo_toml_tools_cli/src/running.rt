@@ -135,7 +135,7 @@ impl<'a, R: Files + Input + Print + Eprint + RandomSource + Clock + AllocGlobal>
         if let Some(folder) = wanted.layout {
             return match add_to_index(self.rt, folder, &made) {
                 Ok(()) => Ok(Outcome::Done),
-                Err(fault) => self.refuse(folder, "", fault),
+                Err(fault) => self.refuse(file, "", fault),
             };
         }
         let mut line = String::new(self.rt.alloc());

@@ -89,7 +89,7 @@ impl<'a, R: Files + Input + Print + Eprint + RandomSource + Clock + AllocGlobal>
             match members(self.rt, folder, self.began.is_some()) {
                 Ok(found) => files.extend(found)?,
                 Err(fault) => match unread_above(self.rt, folder, &fault)? {
-                    Some((file, _text)) => files.push(file)?,
+                    Some(file) => files.push(file)?,
                     None => *outcome = self.refuse(folder, "", fault)?,
                 },
             }
@@ -152,7 +152,11 @@ impl<'a, R: Files + Input + Print + Eprint + RandomSource + Clock + AllocGlobal>
         match report_text(self.rt, folder, as_json, self.began.is_some()) {
             Ok((text, odd)) => self.put(text.as_str(), odd),
             Err(fault) => match unread_above(self.rt, folder, &fault)? {
-                Some((file, text)) => self.refuse(file.as_str(), text.as_str(), fault),
+                Some(file) => {
+                    let nothing = String::new(self.rt.alloc());
+                    let text = text_of(self.rt, file.as_str()).unwrap_or(nothing);
+                    self.refuse(file.as_str(), text.as_str(), fault)
+                }
                 None => self.refuse(folder, "", fault),
             },
         }

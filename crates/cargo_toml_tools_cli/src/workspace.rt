@@ -1,12 +1,13 @@
 //! The workspace around a folder.
 use cargo_toml::Error;
-use cargo_toml_audit::audit::{Code, Finding, json, lines};
+use cargo_toml_audit::audit::{Code, Finding, json, lines, named_by};
 use cargo_toml_audit::auditing::audit;
 use cargo_toml_audit::members::{manifest_path, place_of, seen_from};
 use cargo_toml_check::check::faults_in;
-use cargo_toml_tools::files::text_in;
+use cargo_toml_tools::files::{manifest_in, text_in};
 use std::alloc::{AllocError, Global};
 use std::collections::BTreeSet;
+use std::path::Path;
 use std::random::RandomSource;
 use std::rt::Files;
 use std::{fs, io, mem};
@@ -87,25 +88,32 @@ pub(crate) fn members<R: Files + Eprint + RandomSource + AllocGlobal>(
     Ok(files)
 }
 
-/// The nearest manifest at or above a folder in which something is at fault, and its text, where
-/// this is why there is no report on the workspace around it.
+/// The manifest on the way from a folder to its workspace that doesn't read, where this is why no
+/// report is there. It lies at or above the folder, or is the root that one there names.
 pub(crate) fn unread_above<R: Files + AllocGlobal>(
     rt: &R,
     folder: &str,
     fault: &Error,
-) -> io::Result<Option<(String, String)>> {
+) -> io::Result<Option<String>> {
     if !matches!(fault, Error::Parse(_)) {
         return Ok(None);
     }
     let alloc = rt.alloc();
     let here = path_of(rt, ".")?;
-    let start = fs::canonicalize(rt, folder)?;
-    for above in start.as_path().ancestors() {
+    let start = place_of(alloc, here.as_str(), folder)?;
+    for above in Path::new(start.as_str()).ancestors() {
         let file = file_of(alloc, here.as_str(), above.as_str())?;
-        if let Ok(text) = text_in(rt, file.as_str()) {
-            if !faults_in(alloc, text.as_str())?.is_empty() {
-                return Ok(Some((file, text)));
+        match manifest_in(rt, file.as_str()) {
+            Ok(held) => {
+                let manifest = &*held.manifest;
+                let has_none = manifest.workspace.is_none();
+                if let Some(path) = named_by(&manifest.package).filter(|_| has_none) {
+                    let root = place_of(alloc, above.as_str(), path)?;
+                    return Ok(Some(file_of(alloc, here.as_str(), root.as_str())?));
+                }
             }
+            Err(Error::Parse(_)) => return Ok(Some(file)),
+            Err(_) => {}
         }
     }
     Ok(None)

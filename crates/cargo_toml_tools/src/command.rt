@@ -3,8 +3,8 @@ use clap::builder::ValueParser;
 use clap::{Arg, ArgAction, Command};
 use std::alloc::{AllocError, Global};
 
-const STATUSES: &str = "Statuses: 0 all is well; 1 a file can't be read, or the output can't be \
-    written; 2 the words are no command; 3 something is found by check, lint or audit.";
+const STATUSES: &str = "Statuses: 0 all is well; 1 a file can't be read or is refused, or the \
+    output can't be written; 2 no command; 3 check, lint or audit found something. 1 outranks 3.";
 
 /// The tools. Each has its name and what it does, and then its options: a name, what the option
 /// takes unless it is a flag, and its help.

@@ -221,13 +221,14 @@ def entry(key, kind, target, value, own, names):
 
 
 CONTROLS = (
-    "\0-\x1f\x7f-\x9f\xad\u061c\u180e\u200b-\u200f\u2028-\u202e\u2060-\u206f\ufeff"
-    "\ufff9-\ufffb\U000e0001\U000e0020-\U000e007f"
+    "\0-\x1f\x7f-\x9f\xad\u034f\u061c\u115f\u1160\u17b4\u17b5\u180b-\u180f\u200b-\u200f"
+    "\u2028-\u202e\u2060-\u206f\u3164\ufe00-\ufe0f\ufeff\uffa0\ufff0-\ufffb"
+    "\U0001bca0-\U0001bca3\U0001d173-\U0001d17a\U000e0000-\U000e0fff"
 )
 
 
 def is_control(c):
-    """No sign: a line's end, another control, what takes no place or turns the direction."""
+    """No sign: a line's end, another control, or what Unicode lets be ignored."""
     return bool(re.match(f"[{CONTROLS}]", c))
 
 

@@ -9,9 +9,9 @@
 #   is_command    a function: whether its arguments are a command of the program
 # and is_command sets
 #   looks         `alone` where the command reads its files and nothing else; `named` where it
-#                 also writes their names, as they were given (unproved: their absolute paths);
-#                 `around` where it looks at other files too, by the paths of its files, and
-#                 `within` where it does so by the path of a folder, with a manifest in it
+#                 gets their names, as they were given (unproved: their absolute paths); `around`
+#                 where it looks at other files too, by the absolute path of its file, and `within`
+#                 where it does so by the path of a folder, with a manifest in it
 #   files         how many of the last words are its files: 1 if it isn't set
 #
 # - Words that are no command print the usage line on standard error, with status 2.

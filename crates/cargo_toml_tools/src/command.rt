@@ -1,9 +1,10 @@
 //! The command line as `clap` has it.
+use clap::builder::ValueParser;
 use clap::{Arg, ArgAction, Command};
 use std::alloc::{AllocError, Global};
 
-const STATUSES: &str = "Statuses: 0 all is well; 1 a file can't be read, or the output can't be \
-    written; 2 the words are no command; 3 something is found by check, lint or audit.";
+const STATUSES: &str = "Statuses: 0 all is well; 1 a file can't be read or is refused, or the \
+    output can't be written; 2 no command; 3 check, lint or audit found something. 1 outranks 3.";
 
 /// The tools. Each has its name and what it does, and then its options: a name, what the option
 /// takes unless it is a flag, and its help.
@@ -66,6 +67,7 @@ fn tool<'a>(alloc: Global, lines: &'a [&'a str]) -> Result<Command<'a>, AllocErr
     }
     if name == "audit" {
         let folder = Arg::new(alloc, "folder").value_name("FOLDER");
+        let folder = folder.value_parser(ValueParser::NonEmptyString);
         return tool.arg(folder.help("The folder").required(true));
     }
     let from = "files-from LIST: A file with the name of a manifest a line; `-` too";
@@ -88,6 +90,7 @@ fn option<'a>(alloc: Global, tool: &str, line: &'a str) -> Result<Arg<'a>, Alloc
         return Ok(flag.required(tool == "features"));
     }
     let option = option.value_name(value);
+    let option = option.value_parser(ValueParser::NonEmptyString);
     match name {
         "registry-name" | "allow" => Ok(option.action(ArgAction::Append)),
         "checksums" => option.conflicts_with("checksum"),
@@ -100,6 +103,7 @@ fn option<'a>(alloc: Global, tool: &str, line: &'a str) -> Result<Arg<'a>, Alloc
 fn files<'a>(alloc: Global, tool: &str) -> Result<Arg<'a>, AllocError> {
     let files = Arg::new(alloc, "files")
         .value_name("FILE")
+        .value_parser(ValueParser::NonEmptyString)
         .help("Manifests; `-` is standard input")
         .action(ArgAction::Append)
         .num_args(1..)

@@ -151,6 +151,9 @@ fn request_of<'a>(alloc: Global, matches: &ArgMatches<'a>) -> Result<Request<'a>
         from: matches.get_str("files-from"),
         workspace: matches.get_str("workspace"),
     };
+    if is_read_twice(&inputs, matches.get_str("checksums")) {
+        return refused(alloc, "standard input, `-`, is read once");
+    }
     match name {
         "check" => Ok(Request::Check(inputs)),
         "show" => Ok(Request::Show(inputs, matches.get_flag("json"))),
@@ -159,6 +162,13 @@ fn request_of<'a>(alloc: Global, matches: &ArgMatches<'a>) -> Result<Request<'a>
         "lint" => Ok(Request::Lint(inputs, judging_of(alloc, matches)?)),
         _ => Ok(Request::Document(inputs, matches.get_flag("dot"))),
     }
+}
+
+/// Whether standard input is named more than once.
+fn is_read_twice(inputs: &Inputs<'_>, sums: Option<&str>) -> bool {
+    let files = inputs.files.iter().filter(|file| **file == "-").count();
+    let (list, sums) = (inputs.from == Some("-"), sums == Some("-"));
+    files > 1 || (files == 1 && (list || sums)) || (list && sums)
 }
 
 fn refused<'a>(alloc: Global, words: &str) -> Result<Request<'a>, AllocError>

@@ -1,11 +1,11 @@
 //! What comes of requests about files and folders.
-use crate::workspace::{members, report_text, unread_above};
+use crate::workspace::{members, path_of, report_text, unread_above};
 use cargo_toml::Error;
 use cargo_toml_check::check::{check_lines, refusal_lines};
 use cargo_toml_check::files::{features_of, json_of, toml_of};
 use cargo_toml_check::lint::lint_lines;
 use cargo_toml_check::registry::{add_to_index, checksums};
-use cargo_toml_tools::escape::{Format, push_escaped};
+use cargo_toml_tools::escape::{Escaped, Format, push_escaped};
 use cargo_toml_tools::files::{document_text, index_of, text_in};
 use cargo_toml_tools::{Inputs, Outcome, Request, Wanted};
 use std::collections::BTreeMap;
@@ -88,7 +88,10 @@ impl<'a, R: Files + Input + Print + Eprint + RandomSource + Clock + AllocGlobal>
         if let Some(folder) = inputs.workspace {
             match members(self.rt, folder, self.began.is_some()) {
                 Ok(found) => files.extend(found)?,
-                Err(fault) => *outcome = self.refuse_folder(folder, fault)?,
+                Err(fault) => match unread_above(self.rt, folder, &fault)? {
+                    Some(file) => files.push(file)?,
+                    None => *outcome = self.refuse(folder, "", fault)?,
+                },
             }
         }
         Ok(files)
@@ -124,14 +127,15 @@ impl<'a, R: Files + Input + Print + Eprint + RandomSource + Clock + AllocGlobal>
         file: &str,
         text: &str,
     ) -> io::Result<Outcome> {
-        let made = match index_of(self.rt, file, text, wanted.options(), sums) {
+        let path = path_of(self.rt, file)?;
+        let made = match index_of(self.rt, path.as_str(), text, wanted.options(), sums) {
             Ok(made) => made,
             Err(fault) => return self.refuse(file, text, fault),
         };
         if let Some(folder) = wanted.layout {
             return match add_to_index(self.rt, folder, &made) {
                 Ok(()) => Ok(Outcome::Done),
-                Err(fault) => self.refuse(folder, "", fault),
+                Err(fault) => self.refuse(file, "", fault),
             };
         }
         let mut line = String::new(self.rt.alloc());
@@ -147,7 +151,14 @@ impl<'a, R: Files + Input + Print + Eprint + RandomSource + Clock + AllocGlobal>
     pub(crate) fn audit(&mut self, folder: &str, as_json: bool) -> io::Result<Outcome> {
         match report_text(self.rt, folder, as_json, self.began.is_some()) {
             Ok((text, odd)) => self.put(text.as_str(), odd),
-            Err(fault) => self.refuse_folder(folder, fault),
+            Err(fault) => match unread_above(self.rt, folder, &fault)? {
+                Some(file) => {
+                    let nothing = String::new(self.rt.alloc());
+                    let text = text_of(self.rt, file.as_str()).unwrap_or(nothing);
+                    self.refuse(file.as_str(), text.as_str(), fault)
+                }
+                None => self.refuse(folder, "", fault),
+            },
         }
     }
 
@@ -171,16 +182,6 @@ impl<'a, R: Files + Input + Print + Eprint + RandomSource + Clock + AllocGlobal>
         let lines = refusal_lines(alloc, file, text, words.as_str())?;
         eprint!(self.rt; "{lines}")?;
         Ok(Outcome::Refused)
-    }
-
-    /// Tells why there is no report on the workspace around a folder.
-    fn refuse_folder(&mut self, folder: &str, fault: Error) -> io::Result<Outcome> {
-        if !matches!(fault, Error::Io(_) | Error::Memory) {
-            if let Some((file, text)) = unread_above(self.rt, folder)? {
-                return self.refuse(file.as_str(), text.as_str(), fault);
-            }
-        }
-        self.refuse(folder, "", fault)
     }
 
     /// Tells a terminal how many files are done, where that lasts over a second.
@@ -223,11 +224,22 @@ fn made_of<R: Files + RandomSource + AllocGlobal>(
     file: &str,
     text: &str,
 ) -> Result<(String, bool), Error> {
+    let path = path_of(rt, file)?;
+    let path = path.as_str();
     match request {
-        Request::Check(_) => Ok(check_lines(rt, file, text)?),
-        Request::Show(_, true) => as_line(json_of(rt, file, text)?),
-        Request::Show(_, false) => Ok((toml_of(rt, file, text)?, false)),
-        Request::Features(_) => as_line(features_of(rt, file, text)?),
+        Request::Check(_) => {
+            let (lines, odd) = check_lines(rt, path, text)?;
+            // each line begins with the path, in whose place the name stands
+            let path = format!(in rt.alloc(); "\n{}:", Escaped(path, Format::Line))?;
+            let file = format!(in rt.alloc(); "\n{}:", Escaped(file, Format::Line))?;
+            let lines = format!(in rt.alloc(); "\n{lines}")?;
+            let lines = lines.replace(rt.alloc(), path.as_str(), file.as_str())?;
+            let lines = lines.as_str().trim_start_matches('\n');
+            Ok((String::from_str(rt.alloc(), lines)?, odd))
+        }
+        Request::Show(_, true) => as_line(json_of(rt, path, text)?),
+        Request::Show(_, false) => Ok((toml_of(rt, path, text)?, false)),
+        Request::Features(_) => as_line(features_of(rt, path, text)?),
         Request::Lint(_, judging) => lint_lines(rt, file, text, judging),
         Request::Document(_, dot) => Ok((document_text(rt, text, *dot)?, false)),
         _ => Ok((String::new(rt.alloc()), false)),

@@ -1,12 +1,13 @@
 //! The workspace around a folder.
 use cargo_toml::Error;
-use cargo_toml_audit::audit::{Code, Finding, json, lines};
+use cargo_toml_audit::audit::{Code, Finding, json, lines, named_by};
 use cargo_toml_audit::auditing::audit;
-use cargo_toml_audit::members::{manifest_path, seen_from};
+use cargo_toml_audit::members::{manifest_path, place_of, seen_from};
 use cargo_toml_check::check::faults_in;
-use cargo_toml_tools::files::text_in;
+use cargo_toml_tools::files::{manifest_in, text_in};
 use std::alloc::{AllocError, Global};
 use std::collections::BTreeSet;
+use std::path::Path;
 use std::random::RandomSource;
 use std::rt::Files;
 use std::{fs, io, mem};
@@ -20,7 +21,7 @@ pub(crate) fn report_text<R: Files + Eprint + RandomSource + AllocGlobal>(
     shows: bool,
 ) -> Result<(String, bool), Error> {
     let alloc = rt.alloc();
-    let here = here(rt)?;
+    let here = path_of(rt, ".")?;
     let mut report = audit(rt, folder, shows)?;
     let found = mem::replace(&mut report.findings, Vec::new(alloc));
     for finding in found {
@@ -73,7 +74,7 @@ pub(crate) fn members<R: Files + Eprint + RandomSource + AllocGlobal>(
     shows: bool,
 ) -> Result<BTreeSet<String>, Error> {
     let alloc = rt.alloc();
-    let here = here(rt)?;
+    let here = path_of(rt, ".")?;
     let report = audit(rt, folder, shows)?;
     let mut files = BTreeSet::new(alloc);
     for member in &report.members {
@@ -87,29 +88,51 @@ pub(crate) fn members<R: Files + Eprint + RandomSource + AllocGlobal>(
     Ok(files)
 }
 
-/// The nearest manifest at or above a folder in which something is at fault, and its text.
+/// The manifest on the way from a folder to its workspace that doesn't read, where this is why no
+/// report is there. It lies at or above the folder, or is the root that one there names.
 pub(crate) fn unread_above<R: Files + AllocGlobal>(
     rt: &R,
     folder: &str,
-) -> io::Result<Option<(String, String)>> {
+    fault: &Error,
+) -> io::Result<Option<String>> {
+    if !matches!(fault, Error::Parse(_)) {
+        return Ok(None);
+    }
     let alloc = rt.alloc();
-    let here = here(rt)?;
-    let start = fs::canonicalize(rt, folder)?;
-    for above in start.as_path().ancestors() {
+    let here = path_of(rt, ".")?;
+    let start = place_of(alloc, here.as_str(), folder)?;
+    for above in Path::new(start.as_str()).ancestors() {
         let file = file_of(alloc, here.as_str(), above.as_str())?;
-        if let Ok(text) = text_in(rt, file.as_str()) {
-            if !faults_in(alloc, text.as_str())?.is_empty() {
-                return Ok(Some((file, text)));
+        match manifest_in(rt, file.as_str()) {
+            Ok(held) => {
+                let manifest = &*held.manifest;
+                let has_none = manifest.workspace.is_none();
+                if let Some(path) = named_by(&manifest.package).filter(|_| has_none) {
+                    let root = place_of(alloc, above.as_str(), path)?;
+                    return Ok(Some(file_of(alloc, here.as_str(), root.as_str())?));
+                }
             }
+            Err(Error::Parse(_)) => return Ok(Some(file)),
+            Err(_) => {}
         }
     }
     Ok(None)
 }
 
-/// The folder that the program runs in.
-fn here<R: Files + AllocGlobal>(rt: &R) -> io::Result<String> {
-    let here = fs::canonicalize(rt, ".")?;
-    Ok(String::from_str(rt.alloc(), here.to_str().unwrap_or(""))?)
+/// The path of a file, in which all folders above it are written. What ends with the last `..` is
+/// looked up, since it may lead back from behind a link. A name stays where that has no path.
+pub(crate) fn path_of<R: Files + AllocGlobal>(rt: &R, file: &str) -> io::Result<String> {
+    let start = if file.starts_with('/') { "/" } else { "." };
+    let (up, name) = match file.rsplit_once("../") {
+        Some((_, name)) => (file.strip_suffix(name).unwrap_or(file), name),
+        None => (start, file),
+    };
+    let name = name.trim_start_matches('/');
+    match fs::canonicalize(rt, up) {
+        Ok(folder) => Ok(place_of(rt.alloc(), folder.as_str(), name)?),
+        Err(fault) if fault.kind() == io::ErrorKind::OutOfMemory => Err(fault),
+        Err(_) => Ok(String::from_str(rt.alloc(), file)?),
+    }
 }
 
 /// The manifest at a place, as it is seen from a folder.

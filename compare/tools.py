@@ -357,6 +357,8 @@ class Document(Features):
             text += f'    label="{for_dot(self.manifest["package"]["name"])}";\n'
         keys = set()
         for name in in_order(self.graph.names):
+            if name == "default" and name not in self.lists:
+                continue
             style = "bold" if name == "default" else "solid"
             style = "dashed" if self.is_private(name) else style
             front = f'    "feature:{for_dot(name)}"'

@@ -428,9 +428,9 @@ class Lint(Features):
     def __init__(self, manifest, limit=LIMIT):
         self.written = manifest.get("features", {})
         super().__init__(manifest, limit)
-        mentions = [mention(text) for texts in self.lists.values() for text in texts]
-        self.acted = {key for key, action in mentions if action}
-        self.reserved = {key for key, action in mentions if action and action[1]}
+        texts = [text for texts in self.lists.values() for text in texts]
+        self.acted = {key for key, action in map(mention, texts) if action}
+        self.reserved = {text[4:] for text in texts if text[:4] == "dep:" and not is_bad(text)}
         self.manifest, self.limit = manifest, limit
 
     def of_text(self, name, text):

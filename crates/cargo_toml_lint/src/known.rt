@@ -5,7 +5,9 @@ ghost use Rattle.cargo_toml.specs.{Manifests.held, Reads.map_meaning, Views.set_
 ghost use Rattle.cargo_toml_lint.specs.Known.{acted_by, acted_in, acted_keys, all_names};
 ghost use Rattle.cargo_toml_lint.specs.Known.{dependency_keys, has_key, keys_in};
 ghost use Rattle.cargo_toml_lint.specs.Names.{AddsKeys, key_of, held_names, listed_by};
+ghost use Rattle.cargo_toml_lint.specs.Taken.{is_bad_text};
 
+use crate::names::is_bad_text;
 use crate::tables::tables_of;
 use cargo_toml::{DepsSet, FeatureSet, Manifest};
 use cargo_toml_features::action::{add_text, read_action};
@@ -41,15 +43,16 @@ fn add_table<'m>(keys: &mut Vec<Key<'m>>, table: &'m DepsSet) -> Result<(), Allo
     Ok(())
 }
 
-// Adds the key on which a text acts, if it does: marked is one that it names by `dep:`.
+// Adds the key on which a text acts, if it does: marked by `dep:`, unless the text is bad.
 fn add_acted<'m>(keys: &mut Vec<Key<'m>>, text: &'m str) -> Result<(), AllocError>
-    ensures { OnOk result (AddsKeys (acted_in (item_of text.now)) keys.old.items keys.new.items) }
+    ensures { OnOk result (AddsKeys (acted_in (is_bad_text text.now) (item_of text.now))
+        keys.old.items keys.new.items) }
 {
     let action = read_action(text);
     if !action.acts() {
         return Ok(());
     }
-    keys.push((action.target, action.is_dep_only))?;
+    keys.push((action.target, action.is_dep_only & !is_bad_text(text)))?;
     Ok(())
 }
 

@@ -158,12 +158,8 @@ fn line_of<M>(
     put_text(alloc, &mut line, "vers", version.as_deref())?;
     put(&mut line, alloc, "yanked", Value::from(false))?;
     put_text(alloc, &mut line, "links", package.links.as_deref())?;
-    put_text(
-        alloc,
-        &mut line,
-        "rust_version",
-        stated(&package.rust_version),
-    )?;
+    let rust_version = stated(&package.rust_version);
+    put_text(alloc, &mut line, "rust_version", rust_version)?;
     let entries = entries(alloc, options, sections)?;
     put(&mut line, alloc, "deps", Value::from(entries))?;
     put_features(alloc, &mut line, sections, features)?;

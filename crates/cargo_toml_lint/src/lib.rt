@@ -17,6 +17,7 @@ pub use cargo_toml_features::admit::MAX_ITEMS;
 pub use finding::{Code, Finding, Level};
 pub use linking::Links;
 pub use linting::{lint, lint_limited};
+pub use names::may_name;
 
 /// What a call makes, unless it runs out of memory.
 pub type AllocResult<T> = Result<T, std::alloc::AllocError>;

@@ -180,6 +180,7 @@ def is_of_second_version(text):
 
 def entries(manifest, workspace, own, names):
     targets = manifest.get("target", {})
+    is_new = package_value("edition", manifest["package"], workspace) == "2024"
     # in the order of Cargo, which has build-dependencies of a target before its dev-dependencies
     every = [*list(tables(manifest))[:3], *list(tables_to_fill(manifest))[3:]]
     for name, kind, target, table in every:
@@ -190,7 +191,10 @@ def entries(manifest, workspace, own, names):
             value = filled(key, table[key], workspace)
             if "default_features" in value or "default_features" in detail(table[key]):
                 raise Refused(f"the dependency {key} has `default_features`")
-            if is_inherited(table[key]) and table[key].get("default-features") is True:
+            asked = table[key].get("default-features") if is_inherited(table[key]) else None
+            if asked is False and is_new and value.get("default-features", True):
+                raise Refused(f"{key} can't turn off its workspace's default features")
+            if asked is True:
                 value["default-features"] = True
             yield entry(key, kind, target, value, own, names)
 

@@ -76,6 +76,7 @@ impl fmt::Display for IndexError {
             Fault::Incomplete => write!(f, "{name} is left to the workspace"),
             Fault::OtherTable => write!(f, "the table {name} has `_` in its name"),
             Fault::OtherFlag => write!(f, "the dependency {name} has `default_features`"),
+            Fault::TurnsOff => write!(f, "{name} can't turn off its workspace's default features"),
             Fault::NoRequirement => write!(f, "the dependency {name} has no version"),
             Fault::NoAddress => {
                 write!(f, "the registry of the dependency {name} has no address")

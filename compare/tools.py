@@ -126,6 +126,8 @@ def index(path, options=None):
         raise Refused("there is no package")
     workspace = root_of(path, manifest)
     package = manifest["package"]
+    if not may_name(package["name"]):
+        raise Refused("Cargo doesn't take the package's name")
     version = package_value("version", package, workspace)
     if version is None:
         raise Refused("the package has no version")
@@ -166,6 +168,11 @@ def check_choices(manifest, publish, own, names):
         if WORDS_OF[code][0] == "error" and found[code]:
             name = in_order(name for name, _ in found[code])[0]
             raise Refused(f"lint finds an error of {name}")
+
+
+def may_name(text):
+    """Whether Cargo takes a text for the name of a package."""
+    return text[:1] != "-" and text.replace("-", "_").isidentifier()
 
 
 def kept_texts(texts, kept):

@@ -17,7 +17,8 @@ use Rattle.cargo_toml.specs.{Inheritable.Inheritable, Kind.Kind}
 use Rattle.cargo_toml.specs.{Packages.PackageMeaning, Targets.TargetMeaning, Versions.Parts}
 use Rattle.cargo_toml_parts.specs.declared.settings.Edition.{Edition, TheVariants.E2024}
 use Rattle.cargo_toml_lint.specs.{Findings.code_level, declared.finding.Finding.Finding}
-use Rattle.cargo_toml_lint.specs.declared.finding.Level.{Level, TheVariants.Error}
+use Rattle.cargo_toml_lint.specs.{Taken.may_name, declared.finding.Level.Level}
+use Rattle.cargo_toml_lint.specs.declared.finding.Level.TheVariants.{Error}
 use Rattle.cargo_toml_tools.specs.declared.index.refusals.Fault.{Fault}
 use Rattle.cargo_toml_tools.specs.declared.index.refusals.Fault.TheVariants as fault
 
@@ -269,7 +270,9 @@ abbrev pub package_refusal : {M : Type 0} → Wanted → List Finding → Member
 package_refusal w findings document ts p =
     option_or
     (option_or
-    (option_or (version_refusal document p.version)
+    (option_or
+    (option_or (refuse_if (not (may_name false p.name)) fault.BadName [])
+    (version_refusal document p.version))
     (first_refusal (table_refusal w (is_2024 p.edition)) ts))
     (rust_refusal p.rust_version))
     (if w.force then None

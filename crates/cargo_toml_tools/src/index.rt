@@ -72,6 +72,7 @@ impl fmt::Display for IndexError {
         };
         match fault {
             Fault::NoPackage => f.write_str("there is no package"),
+            Fault::BadName => f.write_str("Cargo doesn't take the package's name"),
             Fault::NoVersion => f.write_str("the package has no version"),
             Fault::Incomplete => write!(f, "{name} is left to the workspace"),
             Fault::OtherTable => write!(f, "the table {name} has `_` in its name"),

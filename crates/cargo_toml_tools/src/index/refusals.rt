@@ -19,7 +19,7 @@ use super::sections::{Section, flag_in, table_in};
 use crate::requirement::required_version;
 use cargo_toml::features::Kind;
 use cargo_toml::{Dependency, Edition, Inheritable, Package, Publish, SemVer};
-use cargo_toml_lint::{Finding, Level};
+use cargo_toml_lint::{Finding, Level, may_name};
 use cargo_toml_parts::read::member;
 use toml::{Table, Value};
 
@@ -28,6 +28,8 @@ use toml::{Table, Value};
 pub enum Fault {
     /// The manifest has no package.
     NoPackage,
+    /// Cargo doesn't take the package's name.
+    BadName,
     /// The package states no version.
     NoVersion,
     /// What has this key is left to the workspace: the manifest isn't completed.
@@ -71,6 +73,9 @@ pub(super) fn package_refusal<'a, M>(
         findings.now (table_view document.now) (map table_of sections.now)
         (held_package «package».now) }
 {
+    if !may_name(package.name.as_str(), false) {
+        return Some((Fault::BadName, ""));
+    }
     if let Some(refusal) = version_refusal(&package.version, document) {
         return Some(refusal);
     }

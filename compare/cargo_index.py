@@ -72,6 +72,9 @@ def answer_of(work, folder, seed):
     want, why = line_of(work, folder, "it")
     words = ["--registry-name", f"corp={CORP}", f"{folder}/it/Cargo.toml"]
     status, out, told = work.tool("index", *words)
+    if "isn't of crates.io" in told:
+        # Cargo packages it all the same, and refuses to publish it
+        status, out, told = work.tool("index", "--registry", "https://example.com/other", *words)
     if want and status == 0:
         found, want = of_line(json.loads(out)), of_line(want)
         return None if found == want else f"{found}\n{want}"

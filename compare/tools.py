@@ -214,7 +214,9 @@ def entry(key, kind, target, value, own, names):
         raise Refused(f"the dependency {key} has no version")
     registry = value.get("registry-index", names.get(value.get("registry", "crates-io")))
     if registry is None:
-        raise Refused(f"the registry of the dependency {key} has no address")
+        raise Refused(f"the registry of {key} has no address")
+    if own == CRATES_IO != registry:
+        raise Refused(f"the dependency {key} isn't of crates.io")
     made = {
         "name": key,
         "req": requirement(text),

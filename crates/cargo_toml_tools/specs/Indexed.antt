@@ -199,7 +199,9 @@ entry_refusal w in_2024 t e =
     else if in_2024 && turns_off t.written e.0 e.1 then Some (fault.TurnsOff, e.0)
     else if is_left_out t.kind e.1 then None
     else if is_none (required_version e.1) then Some (fault.NoRequirement, e.0)
-    else refuse_if (is_none (source_of w.names e.1)) fault.NoAddress e.0
+    else if is_none (source_of w.names e.1) then Some (fault.NoAddress, e.0)
+    else refuse_if (bytes_eq w.registry crates_io
+    && is_some (elsewhere crates_io (source_of w.names e.1))) fault.OtherRegistry e.0
 
 abbrev pub table_refusal : Wanted → Bool → DependencyTable → Option Refusal
 table_refusal w in_2024 t =

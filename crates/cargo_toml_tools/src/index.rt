@@ -79,9 +79,8 @@ impl fmt::Display for IndexError {
             Fault::OtherFlag => write!(f, "the dependency {name} has `default_features`"),
             Fault::TurnsOff => write!(f, "{name} can't turn off its workspace's default features"),
             Fault::NoRequirement => write!(f, "the dependency {name} has no version"),
-            Fault::NoAddress => {
-                write!(f, "the registry of the dependency {name} has no address")
-            }
+            Fault::NoAddress => write!(f, "the registry of {name} has no address"),
+            Fault::OtherRegistry => write!(f, "the dependency {name} isn't of crates.io"),
             Fault::OddRust => write!(f, "the rust-version {name} isn't a version like 1.70"),
             Fault::NotPublished => f.write_str("the package isn't published in this registry"),
             Fault::Features => write!(f, "lint finds an error of {name}"),

@@ -14,7 +14,7 @@ ghost use Rattle.cargo_toml_tools.specs.Sections.{names_of, refused, table_of, w
 
 use super::Options;
 use super::entry::has_default;
-use super::registries::{address_named, source_of};
+use super::registries::{CRATES_IO, address_named, elsewhere, source_of};
 use super::sections::{Section, flag_in, table_in};
 use crate::requirement::required_version;
 use cargo_toml::features::Kind;
@@ -45,6 +45,8 @@ pub enum Fault {
     /// The dependency of this key names its registry, and the address of that registry's index
     /// isn't known.
     NoAddress,
+    /// The dependency of this key is of another registry, which crates.io doesn't take.
+    OtherRegistry,
     /// The package's `rust-version` isn't one to three numbers, with dots between and no zeros in
     /// front.
     OddRust,
@@ -212,9 +214,12 @@ fn entry_refusal<'a>(
         None
     } else if required_version(dependency).is_none() {
         Some((Fault::NoRequirement, key))
+    } else if source_of(rules.0.names, dependency).is_none() {
+        Some((Fault::NoAddress, key))
     } else {
-        let is_unknown = source_of(rules.0.names, dependency).is_none();
-        is_unknown.then_some((Fault::NoAddress, key))
+        let source = source_of(rules.0.names, dependency);
+        let is_other = rules.0.registry == CRATES_IO && elsewhere(CRATES_IO, source).is_some();
+        is_other.then_some((Fault::OtherRegistry, key))
     }
 }
 

@@ -5,9 +5,9 @@ ghost use Rattle.cargo_toml.specs.{Views.set_has};
 ghost use Rattle.cargo_toml_lint.specs.Linked.{AreFound, AreLinks};
 ghost use Rattle.cargo_toml_tools.specs.Documented.{ActsOf, IsReachedFrom, is_beside};
 
-use super::listing::{FeatureMap, is_private};
+use super::listing::is_private;
 use cargo_toml::features::DepAction;
-use cargo_toml_lint::Links;
+use cargo_toml_lint::{FeatureMap, Links};
 use cargo_toml_resolve::joining::add_actions;
 use std::alloc::{AllocError, Global};
 use std::collections::{BTreeMap, BTreeSet};

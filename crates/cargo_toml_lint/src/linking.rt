@@ -163,7 +163,7 @@ impl<'m> Links<'m> {
         self.names[place]
     }
 
-    /// The features that the one in this place turns on in one step.
+    /// The places of what the feature in this one turns on in one step, though no clause says so.
     pub fn next(&self, place: usize) -> &[usize] {
         let row = self.reach.next.get(place);
         row.map_or(&[], |row| row.as_slice())

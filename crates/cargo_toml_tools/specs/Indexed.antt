@@ -104,8 +104,7 @@ abbrev pub written_flag : Option Members → Text → Text → Option Data
 written_flag table dependency key =
     option_and_then (get_member key) (option_and_then (table_in dependency) table)
 
--- whether the default features are asked for: where the rest is left to a workspace that says
--- otherwise, what is written of it counts
+-- the default features are asked for: by the dependency as it is completed, or as it is written
 abbrev pub has_default : Option Members → Text → DependencyMeaning → Bool
 has_default table key (detailed d) =
     d.default_features
@@ -180,8 +179,7 @@ keeps_other_flag other = false
 
 -- an entry turns off the default features that its workspace asks for
 abbrev pub turns_off : Option Members → Text → DependencyMeaning → Bool
-turns_off table key d =
-    has_default table key d && not (unwrap_or
+turns_off table key d = has_default table key d && not (unwrap_or
     (option_and_then as_bool (written_flag table key (codes "default-features"))) true)
 
 -- edition 2024, in which Cargo refuses that

@@ -58,7 +58,6 @@ pub enum Fault {
 
 /// A fault, and the key or the name that has it.
 pub(super) type Refusal<'a> = (Fault, &'a str);
-
 /// The options, and whether the package is of edition 2024.
 type Rules<'a> = (Options<'a>, bool);
 

@@ -126,7 +126,7 @@ def index(path, options=None):
         raise Refused("there is no package")
     workspace = root_of(path, manifest)
     package = manifest["package"]
-    if not may_name(package["name"]):
+    if package["name"][:1] == "-" or not package["name"].replace("-", "_").isidentifier():
         raise Refused("Cargo doesn't take the package's name")
     version = package_value("version", package, workspace)
     if version is None:
@@ -168,11 +168,6 @@ def check_choices(manifest, publish, own, names):
         if WORDS_OF[code][0] == "error" and found[code]:
             name = in_order(name for name, _ in found[code])[0]
             raise Refused(f"lint finds an error of {name}")
-
-
-def may_name(text):
-    """Whether Cargo takes a text for the name of a package."""
-    return text[:1] != "-" and text.replace("-", "_").isidentifier()
 
 
 def kept_texts(texts, kept):
@@ -349,12 +344,14 @@ class Document(Features):
         ]
         return "| " + " | ".join(cells) + " |\n"
 
+    def shown(self):
+        """The features, and `default` only where it is listed."""
+        return [it for it in in_order(self.graph.names) if it in self.lists or it != "default"]
+
     def page(self):
         name = self.manifest.get("package", {}).get("name")
         text = "# Features" + (f" of {code(name)}" if name is not None else "") + "\n"
-        shown = [name for name in in_order(self.graph.names) if not self.is_private(name)]
-        if "default" not in self.lists:
-            shown.remove("default")
+        shown = [name for name in self.shown() if not self.is_private(name)]
         for front, is_listed in ("", True), ("\n## Optional dependencies\n", False):
             rows = [name for name in shown if (name in self.graph.explicit) == is_listed]
             has_texts = any(self.text_of(name) is not None for name in rows)
@@ -369,9 +366,7 @@ class Document(Features):
         if "package" in self.manifest:
             text += f'    label="{for_dot(self.manifest["package"]["name"])}";\n'
         keys = set()
-        for name in in_order(self.graph.names):
-            if name == "default" and name not in self.lists:
-                continue
+        for name in self.shown():
             style = "bold" if name == "default" else "solid"
             style = "dashed" if self.is_private(name) else style
             front = f'    "feature:{for_dot(name)}"'

@@ -9,6 +9,7 @@ from judging import STUB, compare, package, put, put_crate
 from manifests import CORP, Manifests
 
 CRATES_IO = "https://github.com/rust-lang/crates.io-index"
+OTHER = "https://example.com/other"
 
 SAME = {"refused": "both refuse it"}
 MEANT = {
@@ -72,6 +73,10 @@ def answer_of(work, folder, seed):
     want, why = line_of(work, folder, "it")
     words = ["--registry-name", f"corp={CORP}", f"{folder}/it/Cargo.toml"]
     status, out, told = work.tool("index", *words)
+    if "isn't of crates.io" in told:
+        # Cargo packages it all the same, and refuses to publish it
+        words = ["--registry", OTHER, "--registry-name", f"crates-io={OTHER}", *words]
+        status, out, told = work.tool("index", *words)
     if want and status == 0:
         found, want = of_line(json.loads(out)), of_line(want)
         return None if found == want else f"{found}\n{want}"

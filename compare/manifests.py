@@ -48,8 +48,7 @@ class Manifests:
         if self.happens(0.3):
             is_old = self.edition != "2024" and self.happens(0.1)
             flag = "default_features" if is_old else "default-features"
-            value = "true" if parts[0].startswith("workspace") else self.one(["true", "false"])
-            parts.append(f"{flag} = {value}")
+            parts.append(f"{flag} = {self.one(['true', 'false'])}")
         is_optional = "dev" not in table and self.happens(0.4)
         if is_optional:
             parts.append("optional = true")

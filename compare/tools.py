@@ -126,6 +126,8 @@ def index(path, options=None):
         raise Refused("there is no package")
     workspace = root_of(path, manifest)
     package = manifest["package"]
+    if package["name"][:1] == "-" or not package["name"].replace("-", "_").isidentifier():
+        raise Refused("Cargo doesn't take the package's name")
     version = package_value("version", package, workspace)
     if version is None:
         raise Refused("the package has no version")
@@ -180,6 +182,7 @@ def is_of_second_version(text):
 
 def entries(manifest, workspace, own, names):
     targets = manifest.get("target", {})
+    is_new = package_value("edition", manifest["package"], workspace) == "2024"
     # in the order of Cargo, which has build-dependencies of a target before its dev-dependencies
     every = [*list(tables(manifest))[:3], *list(tables_to_fill(manifest))[3:]]
     for name, kind, target, table in every:
@@ -190,7 +193,10 @@ def entries(manifest, workspace, own, names):
             value = filled(key, table[key], workspace)
             if "default_features" in value or "default_features" in detail(table[key]):
                 raise Refused(f"the dependency {key} has `default_features`")
-            if is_inherited(table[key]) and table[key].get("default-features") is True:
+            asked = table[key].get("default-features") if is_inherited(table[key]) else None
+            if asked is False and is_new and value.get("default-features", True):
+                raise Refused(f"{key} can't turn off its workspace's default features")
+            if asked is True:
                 value["default-features"] = True
             yield entry(key, kind, target, value, own, names)
 
@@ -203,7 +209,9 @@ def entry(key, kind, target, value, own, names):
         raise Refused(f"the dependency {key} has no version")
     registry = value.get("registry-index", names.get(value.get("registry", "crates-io")))
     if registry is None:
-        raise Refused(f"the registry of the dependency {key} has no address")
+        raise Refused(f"the registry of {key} has no address")
+    if own == CRATES_IO != registry:
+        raise Refused(f"the dependency {key} isn't of crates.io")
     made = {
         "name": key,
         "req": requirement(text),
@@ -337,12 +345,14 @@ class Document(Features):
         ]
         return "| " + " | ".join(cells) + " |\n"
 
+    def shown(self):
+        """The features, and `default` only where it is listed."""
+        return [it for it in in_order(self.graph.names) if it in self.lists or it != "default"]
+
     def page(self):
         name = self.manifest.get("package", {}).get("name")
         text = "# Features" + (f" of {code(name)}" if name is not None else "") + "\n"
-        shown = [name for name in in_order(self.graph.names) if not self.is_private(name)]
-        if "default" not in self.lists:
-            shown.remove("default")
+        shown = [name for name in self.shown() if not self.is_private(name)]
         for front, is_listed in ("", True), ("\n## Optional dependencies\n", False):
             rows = [name for name in shown if (name in self.graph.explicit) == is_listed]
             has_texts = any(self.text_of(name) is not None for name in rows)
@@ -357,7 +367,7 @@ class Document(Features):
         if "package" in self.manifest:
             text += f'    label="{for_dot(self.manifest["package"]["name"])}";\n'
         keys = set()
-        for name in in_order(self.graph.names):
+        for name in self.shown():
             style = "bold" if name == "default" else "solid"
             style = "dashed" if self.is_private(name) else style
             front = f'    "feature:{for_dot(name)}"'
@@ -427,9 +437,9 @@ class Lint(Features):
     def __init__(self, manifest, limit=LIMIT):
         self.written = manifest.get("features", {})
         super().__init__(manifest, limit)
-        mentions = [mention(text) for texts in self.lists.values() for text in texts]
-        self.acted = {key for key, action in mentions if action}
-        self.reserved = {key for key, action in mentions if action and action[1]}
+        texts = [text for texts in self.lists.values() for text in texts]
+        self.acted = {key for key, action in map(mention, texts) if action}
+        self.reserved = {text[4:] for text in texts if text[:4] == "dep:" and not is_bad(text)}
         self.manifest, self.limit = manifest, limit
 
     def of_text(self, name, text):

@@ -15,7 +15,7 @@ pub use Rattle.cargo_toml_lint.specs.Linked.{AreLed, AreLinks, AreWalked, AreWal
 pub use Rattle.cargo_toml_lint.specs.Names.{held_names, key_of, listed_by, table_of}
 pub use Rattle.cargo_toml_lint.specs.Reached.{HasEdges, IsFinished, IsFlagged, IsInRing, IsWhole, Leads, Path, Searches, Stands, edges_left, row_at}
 pub use Rattle.cargo_toml_lint.specs.Steps.{CountsBy, Finds, explicit_at, implied_at, is_beyond, private_at, written_in}
-pub use Rattle.cargo_toml_lint.specs.Taken.{is_feature_name, may_follow, may_start}
+pub use Rattle.cargo_toml_lint.specs.Taken.{may_follow, may_name, may_start}
 pub use Rattle.cargo_toml_lint.specs.Turning.{turned, turning, turning_by, turns_to}
 pub use Rattle.cargo_toml_lint.specs.declared.finding.Code.TheVariants.{BadRequest, Cycle, FeatureTable, Implied, PrivateDefault, Unreachable}
 pub use Rattle.cargo_toml_package.specs.declared.dependency.Dependency.TheVariants.{Detailed, Inherited, Simple}

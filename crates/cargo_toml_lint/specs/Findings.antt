@@ -1,5 +1,5 @@
 -- What is found of a manifest.
-use Rattle.std.specs.Prelude.{◌≡◌, ◌≢◌, ◌⊎◌, ℕ, ◌-◌, ◌==◌, Bool, ◌&&◌, ◌||◌, not}
+use Rattle.std.specs.Prelude.{◌≡◌, ◌≢◌, ◌⊎◌, ℕ, ◌-◌, ◌==◌, Bool, true, ◌&&◌, ◌||◌, not}
 use Rattle.std.specs.Prelude.{if◌then◌else◌, nat_eq, nat_lt, length, List, [], ◌∷◌, ◌++◌, map}
 use Rattle.std.specs.Prelude.{IsTrue, IsFalse, bytes_eq, codes, Option, Some, None, unwrap_or}
 use Rattle.std.specs.List.{flat_map, starts_with}
@@ -12,7 +12,7 @@ use Rattle.cargo_toml.specs.{Dependencies.is_optional, Products.ProductMeaning, 
 use Rattle.cargo_toml.specs.{Marks.NamedDetails, Recursive.Enables, Action.Item.Name, Reach.Among}
 use Rattle.cargo_toml.specs.{Action.Item.On, Marks.marks_in, Graph.Edge, Recorded.is_implied}
 use Rattle.cargo_toml_lint.specs.Known.{Names, all_names, tables_of}
-use Rattle.cargo_toml_lint.specs.Taken.{is_bad_text, is_feature_name, is_never_required}
+use Rattle.cargo_toml_lint.specs.Taken.{is_bad_text, is_never_required, may_name}
 use Rattle.cargo_toml_lint.specs.declared.finding.Code.TheVariants as code
 use Rattle.cargo_toml_lint.specs.declared.finding.Level.TheVariants.{Error, Hint, Warning}
 use Rattle.cargo_toml_lint.specs.{declared.finding.Finding.Finding, declared.finding.Level.Level}
@@ -90,7 +90,7 @@ texts_findings fault f ts = flat_map (λ t. told f t (fault t)) ts
 -- of the listed feature f
 abbrev pub feature_findings : Names → Bool → Text → List Text → List About
 feature_findings n over f ts =
-    told f [] (when (not (is_feature_name f)) code.BadName)
+    told f [] (when (not (may_name true f)) code.BadName)
     ++ (told f [] (when (has_same_name n f) code.SameName)
     ++ (told f [] (when over code.OverLimit) ++ list_findings n f ts))
 
@@ -105,7 +105,7 @@ abbrev pub entry_findings : Bool → Bool → Text → DependencyMeaning → Lis
 entry_findings dev over k d =
     told k [] (when (dev && is_optional d) code.OptionalDev)
     ++ (told k [] (when over code.OverLimit)
-    ++ texts_findings (λ t. when (not (is_feature_name t)) code.BadRequest) k (asked_of d))
+    ++ texts_findings (λ t. when (not (may_name true t)) code.BadRequest) k (asked_of d))
 
 -- of a table, of which so many entries count
 abbrev pub table_findings : Bool → ℕ → Entries → List About

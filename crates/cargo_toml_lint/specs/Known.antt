@@ -5,6 +5,7 @@ use Rattle.cargo_toml.specs.Action.{Text, Item, item_of}
 use Rattle.cargo_toml.specs.{InheritedDependencies.Entries, InheritedManifests.own_tables}
 use Rattle.cargo_toml.specs.{Manifests.ManifestMeaning, Dependencies.is_optional, Action.Item.Name}
 use Rattle.cargo_toml.specs.{Action.Item.On, Targets.TargetMeaning, Admitted.Listed}
+use Rattle.cargo_toml_lint.specs.Taken.{is_bad_text}
 
 -- keys of dependencies, some of which are marked
 abbrev pub Marked : Type 0
@@ -31,14 +32,14 @@ tables_of m = flat_map (λ t. target_tables t.1) m.target ++ target_tables (own_
 abbrev pub dependency_keys : {M : Type 0} → ManifestMeaning M → Marked
 dependency_keys m = flat_map (λ t. keys_in t.0) (tables_of m)
 
--- the key on which an item acts; marked by `dep:`
-abbrev pub acted_in : Item → Marked
-acted_in (Name x) = []
-acted_in (On k a) = (k, a.is_dep_only) ∷ []
+-- the key on which the item of a text acts; marked by `dep:`, unless the text is bad
+abbrev pub acted_in : Bool → Item → Marked
+acted_in bad (Name x) = []
+acted_in bad (On k a) = (k, a.is_dep_only && not bad) ∷ []
 
 -- those of a list of texts, and of all lists
 abbrev pub acted_by : List Text → Marked
-acted_by texts = flat_map (λ t. acted_in (item_of t)) texts
+acted_by texts = flat_map (λ t. acted_in (is_bad_text t) (item_of t)) texts
 
 -- the keys on which the lists of a table of features act
 abbrev pub acted_keys : Listed → Marked

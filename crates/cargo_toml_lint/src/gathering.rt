@@ -8,13 +8,13 @@ ghost use Rattle.cargo_toml_lint.specs.declared.finding.Code.TheVariants.{Featur
 ghost use Rattle.cargo_toml_lint.specs.{Findings.product_findings, Names.held_names, Steps.Finds};
 ghost use Rattle.cargo_toml_lint.specs.{Names.listed_by, Steps.is_beyond};
 
+use crate::AllocResult;
 use crate::faults::{required_fault, text_fault};
 use crate::finding::{Code, Finding};
 use crate::known::Known;
 use crate::linking::FeatureMap;
-use crate::names::is_feature_name;
+use crate::names::may_name;
 use cargo_toml::{FeatureDetails, Manifest, Product};
-use std::alloc::AllocError;
 use std::hash::BuildHasher;
 
 /// Adds a finding of the code, if there is one.
@@ -23,7 +23,7 @@ pub(crate) fn add<'m>(
     fault: Option<Code>,
     feature: &'m str,
     text: &'m str,
-) -> Result<(), AllocError>
+) -> AllocResult<()>
     ensures { OnOk result (Finds (told feature.now text.now fault) found.old.items
         found.new.items) }
 {
@@ -43,7 +43,7 @@ pub(crate) fn add_if<'m>(
     holds: bool,
     code: Code,
     feature: &'m str,
-) -> Result<(), AllocError>
+) -> AllocResult<()>
     ensures { OnOk result (Finds (told feature.now [] (when holds code)) found.old.items
         found.new.items) }
 {
@@ -58,11 +58,11 @@ fn add_feature<'m>(
     name: &'m str,
     texts: &'m [String],
     is_over: bool,
-) -> Result<(), AllocError>
+) -> AllocResult<()>
     ensures { OnOk result (Finds (feature_findings (held_names known.now) is_over name.now
         (map string_bytes texts.now)) found.old.items found.new.items) }
 {
-    add_if(found, !is_feature_name(name), Code::BadName, name)?;
+    add_if(found, !may_name(name, true), Code::BadName, name)?;
     let is_left_alone = known.optional.contains(name) & !known.acted.contains(name);
     add_if(found, is_left_alone, Code::SameName, name)?;
     add_if(found, is_over, Code::OverLimit, name)?;
@@ -92,7 +92,7 @@ pub(crate) fn add_features<'m, S: BuildHasher>(
     known: &Known<'m>,
     features: &FeatureMap<'m, S>,
     limit: usize,
-) -> Result<(), AllocError>
+) -> AllocResult<()>
     ensures { OnOk result (Finds (flat_map (λ e. feature_findings (held_names known.now)
         (is_beyond features.now limit e.0 e.1) e.0 e.1) (listed_by known.now))
         found.old.items found.new.items) }
@@ -111,7 +111,7 @@ pub(crate) fn add_features<'m, S: BuildHasher>(
 pub(crate) fn add_details<'m>(
     found: &mut Vec<Finding<'m>>,
     details: &'m FeatureDetails,
-) -> Result<(), AllocError>
+) -> AllocResult<()>
     ensures { OnOk result (Finds (flat_map (λ e. told e.0 [] (Some FeatureTable))
         (map_meaning detail_of details.now)) found.old.items found.new.items) }
 {
@@ -127,7 +127,7 @@ fn add_product<'m>(
     found: &mut Vec<Finding<'m>>,
     known: &Known<'m>,
     product: &'m Product,
-) -> Result<(), AllocError>
+) -> AllocResult<()>
     ensures { OnOk result (Finds (product_findings (held_names known.now)
         (product_meaning product.now)) found.old.items found.new.items) }
 {
@@ -145,7 +145,7 @@ fn add_some<'m>(
     found: &mut Vec<Finding<'m>>,
     known: &Known<'m>,
     products: &'m [Product],
-) -> Result<(), AllocError>
+) -> AllocResult<()>
     ensures { OnOk result (Finds (flat_map (product_findings (held_names known.now))
         (map product_meaning products.now)) found.old.items found.new.items) }
 {
@@ -160,7 +160,7 @@ pub(crate) fn add_products<'m, M>(
     found: &mut Vec<Finding<'m>>,
     known: &Known<'m>,
     manifest: &'m Manifest<M>,
-) -> Result<(), AllocError>
+) -> AllocResult<()>
     ensures { OnOk result (Finds (products_findings (held_names known.now) (held manifest.now))
         found.old.items found.new.items) }
 {

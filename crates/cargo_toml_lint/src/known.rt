@@ -5,11 +5,14 @@ ghost use Rattle.cargo_toml.specs.{Manifests.held, Reads.map_meaning, Views.set_
 ghost use Rattle.cargo_toml_lint.specs.Known.{acted_by, acted_in, acted_keys, all_names};
 ghost use Rattle.cargo_toml_lint.specs.Known.{dependency_keys, has_key, keys_in};
 ghost use Rattle.cargo_toml_lint.specs.Names.{AddsKeys, key_of, held_names, listed_by};
+ghost use Rattle.cargo_toml_lint.specs.Taken.{is_bad_text};
 
+use crate::AllocResult;
+use crate::names::is_bad_text;
 use crate::tables::tables_of;
 use cargo_toml::{DepsSet, FeatureSet, Manifest};
 use cargo_toml_features::action::{add_text, read_action};
-use std::alloc::{AllocError, Global};
+use std::alloc::Global;
 use std::collections::BTreeSet;
 
 /// The names that a manifest has.
@@ -31,7 +34,7 @@ pub(crate) struct Known<'m> {
 type Key<'m> = (&'m str, bool);
 
 // Adds those of a table: marked are those of optional dependencies.
-fn add_table<'m>(keys: &mut Vec<Key<'m>>, table: &'m DepsSet) -> Result<(), AllocError>
+fn add_table<'m>(keys: &mut Vec<Key<'m>>, table: &'m DepsSet) -> AllocResult<()>
     ensures { OnOk result (AddsKeys (keys_in (map_meaning dependency_meaning table.now))
         keys.old.items keys.new.items) }
 {
@@ -41,21 +44,22 @@ fn add_table<'m>(keys: &mut Vec<Key<'m>>, table: &'m DepsSet) -> Result<(), Allo
     Ok(())
 }
 
-// Adds the key on which a text acts, if it does: marked is one that it names by `dep:`.
-fn add_acted<'m>(keys: &mut Vec<Key<'m>>, text: &'m str) -> Result<(), AllocError>
-    ensures { OnOk result (AddsKeys (acted_in (item_of text.now)) keys.old.items keys.new.items) }
+// Adds the key on which a text acts, if it does: marked by `dep:`, unless the text is bad.
+fn add_acted<'m>(keys: &mut Vec<Key<'m>>, text: &'m str) -> AllocResult<()>
+    ensures { OnOk result (AddsKeys (acted_in (is_bad_text text.now) (item_of text.now))
+        keys.old.items keys.new.items) }
 {
     let action = read_action(text);
     if !action.acts() {
         return Ok(());
     }
-    keys.push((action.target, action.is_dep_only))?;
+    keys.push((action.target, action.is_dep_only & !is_bad_text(text)))?;
     Ok(())
 }
 
 // Adds those on which the texts of a list act.
 #[tactic(auto, using(crate::proofs::Adding::mapped_next))]
-fn add_list<'m>(keys: &mut Vec<Key<'m>>, texts: &'m [String]) -> Result<(), AllocError>
+fn add_list<'m>(keys: &mut Vec<Key<'m>>, texts: &'m [String]) -> AllocResult<()>
     ensures { OnOk result
         (AddsKeys (acted_by (map string_bytes texts.now)) keys.old.items keys.new.items) }
 {
@@ -67,7 +71,7 @@ fn add_list<'m>(keys: &mut Vec<Key<'m>>, texts: &'m [String]) -> Result<(), Allo
 
 // The keys of all tables of dependencies of a manifest.
 #[tactic(auto, using(crate::proofs::Adding::mapped_next))]
-fn dependency_keys<M>(alloc: Global, manifest: &Manifest<M>) -> Result<Vec<Key<'_>>, AllocError>
+fn dependency_keys<M>(alloc: Global, manifest: &Manifest<M>) -> AllocResult<Vec<Key<'_>>>
     ensures { IfOk result (λ v. map key_of v.items ≡ dependency_keys (held manifest.now)) }
 {
     let mut keys = Vec::new(alloc);
@@ -79,7 +83,7 @@ fn dependency_keys<M>(alloc: Global, manifest: &Manifest<M>) -> Result<Vec<Key<'
 
 // The keys on which the texts of features act.
 #[tactic(auto, using(crate::proofs::Adding::left_next, crate::proofs::Adding::left_none))]
-fn acted_keys(alloc: Global, features: &FeatureSet) -> Result<Vec<Key<'_>>, AllocError>
+fn acted_keys(alloc: Global, features: &FeatureSet) -> AllocResult<Vec<Key<'_>>>
     ensures { IfOk result (λ v. map key_of v.items ≡ acted_keys
         (map_meaning (λ v. map string_bytes v.items) features.now)) }
 {
@@ -91,11 +95,7 @@ fn acted_keys(alloc: Global, features: &FeatureSet) -> Result<Vec<Key<'_>>, Allo
 }
 
 // Keys as a set: all, or those that are marked.
-fn set_of<'m>(
-    alloc: Global,
-    keys: &[Key<'m>],
-    marked: bool,
-) -> Result<BTreeSet<&'m str>, AllocError>
+fn set_of<'m>(alloc: Global, keys: &[Key<'m>], marked: bool) -> AllocResult<BTreeSet<&'m str>>
     ensures { IfOk result
         (λ s. (k : Text) → set_has s k ≡ has_key marked (map key_of keys.now) k) }
 {
@@ -109,10 +109,7 @@ fn set_of<'m>(
 }
 
 /// The names that a manifest has.
-pub(crate) fn known_names<'m, M>(
-    alloc: Global,
-    manifest: &'m Manifest<M>,
-) -> Result<Known<'m>, AllocError>
+pub(crate) fn known_names<'m, M>(alloc: Global, manifest: &'m Manifest<M>) -> AllocResult<Known<'m>>
     ensures names { IfOk result (λ known. held_names known
         ≡ all_names (held manifest.now)) }
     ensures listed { IfOk result (λ known. listed_by known

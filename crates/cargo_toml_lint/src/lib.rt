@@ -15,5 +15,9 @@ mod walks;
 
 pub use cargo_toml_features::admit::MAX_ITEMS;
 pub use finding::{Code, Finding, Level};
-pub use linking::Links;
+pub use linking::{FeatureMap, Links};
 pub use linting::{lint, lint_limited};
+pub use names::may_name;
+
+/// What a call makes, unless it runs out of memory.
+pub type AllocResult<T> = Result<T, std::alloc::AllocError>;

@@ -10,13 +10,14 @@ ghost use Rattle.cargo_toml_lint.specs.Linked.{AreFound, AreLinks, Passes, name_
 ghost use Rattle.cargo_toml_lint.specs.Turning.{turned, turning, turning_by, turns_to};
 ghost use Rattle.cargo_toml_lint.specs.{Names.held_names, Names.listed_by, Reached.Leads};
 
+use crate::AllocResult;
 use crate::known::{Known, known_names};
 use crate::reach::{Reach, reach_all};
 use cargo_toml::Manifest;
 use cargo_toml::features::Feature;
 use cargo_toml_features::action::read_action;
 use cargo_toml_features::texts::{in_order, keys_in_order, place_of};
-use std::alloc::{AllocError, Global};
+use std::alloc::Global;
 use std::collections::{BTreeSet, HashMap};
 use std::hash::BuildHasher;
 
@@ -34,12 +35,7 @@ pub struct Links<'m> {
 
 // Adds the place of what a text of a list turns on, if that is a feature: what it names, or an
 // optional dependency on which it acts, neither conditionally nor by `dep:`.
-fn add_edge(
-    row: &mut Vec<usize>,
-    known: &Known<'_>,
-    names: &[&str],
-    text: &str,
-) -> Result<(), AllocError>
+fn add_edge(row: &mut Vec<usize>, known: &Known<'_>, names: &[&str], text: &str) -> AllocResult<()>
     requires { Ascend (map (λ t. t.now) names.now) }
     ensures { OnOk result ((b : ℕ) → Among row.new.items b ↔ (Among row.old.items b ⊎ Passes
         names.now (λ x. turns_to (held_names known.now).optional x (item_of text.now)) b)) }
@@ -69,12 +65,7 @@ fn texts_of<'k>(known: &'k Known<'_>, name: &str) -> &'k [String]
 }
 
 // The places of what the texts in the list of the feature of this name turn on.
-fn row_of(
-    alloc: Global,
-    known: &Known<'_>,
-    names: &[&str],
-    name: &str,
-) -> Result<Vec<usize>, AllocError>
+fn row_of(alloc: Global, known: &Known<'_>, names: &[&str], name: &str) -> AllocResult<Vec<usize>>
     requires { Ascend (map (λ t. t.now) names.now) }
     ensures { IfOk result (λ row. (b : ℕ) → Among row.items b ↔ Passes names.now
         (turned (listed_by known.now) (held_names known.now).optional name.now) b) }
@@ -88,7 +79,7 @@ fn row_of(
 }
 
 // The same of each name.
-fn edges(alloc: Global, known: &Known<'_>, names: &[&str]) -> Result<Vec<Vec<usize>>, AllocError>
+fn edges(alloc: Global, known: &Known<'_>, names: &[&str]) -> AllocResult<Vec<Vec<usize>>>
     requires { Ascend (map (λ t. t.now) names.now) }
     ensures len { IfOk result (λ next. length next.items ≡ length names.now) }
     ensures exact { IfOk result (λ next. (a b : ℕ) → a < length names.now
@@ -106,7 +97,7 @@ fn edges(alloc: Global, known: &Known<'_>, names: &[&str]) -> Result<Vec<Vec<usi
 fn names_in_order<'m, S: BuildHasher>(
     alloc: Global,
     features: &FeatureMap<'m, S>,
-) -> Result<Vec<&'m str>, AllocError>
+) -> AllocResult<Vec<&'m str>>
     ensures all { IfOk result (λ names. (f : Text) → IsTrue ((table_in features.now).has f)
         ↔ Among (map (λ t. t.now) names.items) f) }
     ensures in_order { IfOk result (λ names. Ascend (map (λ t. t.now) names.items)) }
@@ -121,7 +112,7 @@ pub(crate) fn links_of<'m, S: BuildHasher>(
     alloc: Global,
     known: &Known<'_>,
     features: &FeatureMap<'m, S>,
-) -> Result<Links<'m>, AllocError>
+) -> AllocResult<Links<'m>>
     ensures { IfOk result (AreLinks (turning_by (listed_by known.now)
         (held_names known.now).optional (table_in features.now).has)) }
 {
@@ -137,7 +128,7 @@ impl<'m> Links<'m> {
         alloc: Global,
         manifest: &Manifest<M>,
         features: &FeatureMap<'m, S>,
-    ) -> Result<Links<'m>, AllocError>
+    ) -> AllocResult<Links<'m>>
         ensures { IfOk result
             (AreLinks (turning (held manifest.now) (table_in features.now).has)) }
     {
@@ -147,7 +138,7 @@ impl<'m> Links<'m> {
 
     /// The features that the one of this name turns on, itself too: none, where there is none of
     /// the name.
-    pub fn turned_on(&self, alloc: Global, name: &str) -> Result<BTreeSet<&'m str>, AllocError>
+    pub fn turned_on(&self, alloc: Global, name: &str) -> AllocResult<BTreeSet<&'m str>>
         requires { AreFound self.now }
         ensures { IfOk result (λ s. (t : Table) → AreLinks t self.now → (x : Text)
             → IsTrue (set_has s x) ↔ (IsTrue (t.has name.now) × Enables t name.now x)) }
@@ -172,7 +163,7 @@ impl<'m> Links<'m> {
         self.names[place]
     }
 
-    /// The features that the one in this place turns on in one step.
+    /// The places of what the feature in this one turns on in one step, though no clause says so.
     pub fn next(&self, place: usize) -> &[usize] {
         let row = self.reach.next.get(place);
         row.map_or(&[], |row| row.as_slice())

@@ -7,6 +7,7 @@ ghost use Rattle.cargo_toml_lint.specs.{Findings.HoldsOf, Findings.IsFound, Link
 ghost use Rattle.cargo_toml_lint.specs.{Linked.AreLinks, Steps.CountsBy};
 ghost use Rattle.cargo_toml_lint.specs.declared.finding.Code.{Code};
 
+use crate::AllocResult;
 use crate::finding::Finding;
 use crate::gathering::{add_details, add_features, add_products};
 use crate::known::known_names;
@@ -16,7 +17,7 @@ use crate::walks::{add_place, walks_of};
 use cargo_toml::features::{Features, Resolver};
 use cargo_toml::{Error, Manifest};
 use cargo_toml_features::admit::MAX_ITEMS;
-use std::alloc::{AllocError, Global};
+use std::alloc::Global;
 use std::hash::BuildHasher;
 
 fn keep_every(_name: &str) -> bool
@@ -48,7 +49,7 @@ fn add_counting<'m, S: BuildHasher>(
     found: &mut Vec<Finding<'m>>,
     links: &Links<'m>,
     features: &FeatureMap<'m, S>,
-) -> Result<(), AllocError>
+) -> AllocResult<()>
     requires { AreFound links.now }
     ensures { OnOk result ((t : Table) → AreLinks t links.now → ((f k : Text) → t.action f k ≡ None)
         → (c : Code) (f x : Text) → IsFound found.new.items c f x

@@ -2,31 +2,32 @@
 ghost use Rattle.std.specs.Prelude.{◌≡◌, IfSome, is_some};
 ghost use Rattle.std.specs.List.{after_first, before_first, list_any};
 ghost use Rattle.cargo_toml.specs.Action.{is_slash};
-ghost use Rattle.cargo_toml_lint.specs.Taken.{is_bad_text, is_feature_name, is_never_required};
-ghost use Rattle.cargo_toml_lint.specs.Taken.{may_follow, may_start};
+ghost use Rattle.cargo_toml_lint.specs.Taken.{is_bad_text, is_never_required, may_follow, may_name};
+ghost use Rattle.cargo_toml_lint.specs.Taken.{may_start};
 
 use unicode_ident::{is_xid_continue, is_xid_start};
 
-// Whether a feature's name may begin with the character.
-fn may_start(c: char) -> bool
-    ensures { result ≡ may_start c }
+// Whether a name may begin with the character: a feature's with a digit, too.
+fn may_start(c: char, of_feature: bool) -> bool
+    ensures { result ≡ may_start of_feature c }
 {
-    is_xid_start(c) || c == '_' || c.is_ascii_digit()
+    is_xid_start(c) || c == '_' || (of_feature && c.is_ascii_digit())
 }
 
-// Whether the character may stand in a feature's name.
-fn may_follow(c: char) -> bool
-    ensures { result ≡ may_follow c }
+// Whether the character may stand in a name: in a feature's `+` and `.`, too.
+fn may_follow(c: char, of_feature: bool) -> bool
+    ensures { result ≡ may_follow of_feature c }
 {
-    is_xid_continue(c) || c == '-' || c == '+' || c == '.'
+    is_xid_continue(c) || c == '-' || (of_feature && (c == '+' || c == '.'))
 }
 
-/// Whether Cargo takes the text for the name of a feature.
-pub(crate) fn is_feature_name(name: &str) -> bool
-    ensures { result ≡ is_feature_name name.now }
+/// Whether Cargo takes the text for a name: of a feature where that is set, and else of a package.
+pub fn may_name(name: &str, of_feature: bool) -> bool
+    ensures { result ≡ may_name of_feature name.now }
 {
-    let begins = name.chars().next().is_some_and(may_start);
-    begins & name.chars().all(may_follow)
+    let first = name.chars().next();
+    let begins = first.is_some_and(|c| may_start(c, of_feature));
+    begins & name.chars().all(|c| may_follow(c, of_feature))
 }
 
 // The text up to its first slash, and what follows that.
@@ -48,7 +49,7 @@ pub(crate) fn is_bad_text(text: &str) -> bool
     let parts = split_slash(text);
     let bytes = text.as_bytes();
     match parts.1 {
-        Some(feature) => bytes.starts_with(b"dep:".as_slice()) | !is_feature_name(feature),
+        Some(feature) => bytes.starts_with(b"dep:".as_slice()) | !may_name(feature, true),
         None => bytes.ends_with(b"?".as_slice()),
     }
 }

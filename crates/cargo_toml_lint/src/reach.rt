@@ -4,7 +4,8 @@ ghost use Rattle.std.specs.Prelude.{IsTrue, OnOk, length};
 ghost use Rattle.cargo_toml_lint.specs.Reached.{HasEdges, IsFinished, IsFlagged, IsInRing, IsWhole};
 ghost use Rattle.cargo_toml_lint.specs.Reached.{Leads, Path, Searches, Stands, edges_left, row_at};
 
-use std::alloc::{AllocError, Global};
+use crate::AllocResult;
+use std::alloc::Global;
 
 /// A graph of numbered vertices, and what each leads to.
 #[derive(Drop)]
@@ -28,12 +29,7 @@ fn join(flags: &mut Vec<bool>, other: &[bool])
 }
 
 // A vertex is met: what it leads to is flagged, or its edges are to be taken.
-fn meet(
-    row: &mut Vec<bool>,
-    waiting: &mut Vec<usize>,
-    reach: &Reach,
-    x: usize,
-) -> Result<(), AllocError>
+fn meet(row: &mut Vec<bool>, waiting: &mut Vec<usize>, reach: &Reach, x: usize) -> AllocResult<()>
     requires whole { IsWhole reach.now }
     requires inside { x < length reach.now.next.items }
     requires wide { length row.old.items ≡ length reach.now.next.items }
@@ -58,7 +54,7 @@ fn meet(
 }
 
 // What a vertex leads to, by what others do whose rows stand.
-fn row_of(alloc: Global, reach: &Reach, start: usize) -> Result<Vec<bool>, AllocError>
+fn row_of(alloc: Global, reach: &Reach, start: usize) -> AllocResult<Vec<bool>>
     requires whole { IsWhole reach.now }
     requires inside { start < length reach.now.next.items }
     ensures wide { IfOk result (λ row. length row.items ≡ length reach.now.next.items) }
@@ -74,7 +70,7 @@ fn row_of(alloc: Global, reach: &Reach, start: usize) -> Result<Vec<bool>, Alloc
 }
 
 // The row of a vertex is found, if it has edges.
-fn settle(alloc: Global, reach: &mut Reach, x: usize) -> Result<(), AllocError>
+fn settle(alloc: Global, reach: &mut Reach, x: usize) -> AllocResult<()>
     requires whole { IsWhole reach.old }
     requires inside { x < length reach.old.next.items }
     ensures whole { OnOk result (IsWhole reach.new) }
@@ -90,7 +86,7 @@ fn settle(alloc: Global, reach: &mut Reach, x: usize) -> Result<(), AllocError>
 }
 
 // No row stands.
-fn unsettled(alloc: Global, next: Vec<Vec<usize>>) -> Result<Reach, AllocError>
+fn unsettled(alloc: Global, next: Vec<Vec<usize>>) -> AllocResult<Reach>
     requires { (a b : ℕ) → Leads next.items a b → b < length next.items }
     ensures whole { IfOk result IsWhole }
     ensures next { IfOk result (λ r. r.next ≡ next) }
@@ -104,7 +100,7 @@ fn unsettled(alloc: Global, next: Vec<Vec<usize>>) -> Result<Reach, AllocError>
 
 // The vertices as a search in depth ends with them: each behind those that it leads to, but for
 // rings. It decides speed alone, so no clause says what it is.
-fn by_ends(alloc: Global, next: &[Vec<usize>]) -> Result<Vec<usize>, AllocError> {
+fn by_ends(alloc: Global, next: &[Vec<usize>]) -> AllocResult<Vec<usize>> {
     let mut order = Vec::with_capacity(alloc, next.len())?;
     let mut is_met = Vec::from_elem(alloc, false, next.len())?;
     let mut open = Vec::new(alloc);
@@ -127,7 +123,7 @@ fn open_if_new(
     is_met: &mut Vec<bool>,
     open: &mut Vec<(usize, bool)>,
     x: usize,
-) -> Result<(), AllocError> {
+) -> AllocResult<()> {
     if x < next.len() && x < is_met.len() && !is_met[x] {
         is_met[x] = true;
         open.push((x, true))?;
@@ -143,7 +139,7 @@ fn open_if_new(
 /// Whoever stands behind those that it leads to finds their rows whole. So a graph without rings
 /// takes edges times vertices steps at most, and each vertex in a ring up to as many again. A row
 /// is kept of each vertex with edges alone: the others lead but to themselves.
-pub fn reach_all(alloc: Global, next: Vec<Vec<usize>>) -> Result<Reach, AllocError>
+pub fn reach_all(alloc: Global, next: Vec<Vec<usize>>) -> AllocResult<Reach>
     requires { (a b : ℕ) → Leads next.items a b → b < length next.items }
     ensures finished { IfOk result IsFinished }
     ensures next { IfOk result (λ r. r.next ≡ next) }

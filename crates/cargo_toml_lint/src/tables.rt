@@ -5,18 +5,19 @@ ghost use Rattle.cargo_toml.specs.Reads.{map_meaning};
 ghost use Rattle.cargo_toml_lint.specs.Findings.{entry_findings, table_findings, tables_findings};
 ghost use Rattle.cargo_toml_lint.specs.{Known.tables_of, Names.table_of, Steps.Finds};
 
+use crate::AllocResult;
 use crate::finding::{Code, Finding};
 use crate::gathering::{add, add_if};
-use crate::names::is_feature_name;
+use crate::names::may_name;
 use cargo_toml::{Dependency, DepsSet, Manifest};
-use std::alloc::{AllocError, Global};
+use std::alloc::Global;
 
 /// All tables of dependencies of a manifest, each with whether it is of dev-dependencies.
 #[tactic(auto, using(crate::proofs::Adding::left_next, crate::proofs::Adding::left_none))]
 pub(crate) fn tables_of<M>(
     alloc: Global,
     manifest: &Manifest<M>,
-) -> Result<Vec<(&DepsSet, bool)>, AllocError>
+) -> AllocResult<Vec<(&DepsSet, bool)>>
     ensures { IfOk result (λ v. map table_of v.items ≡ tables_of (held manifest.now)) }
 {
     let mut tables = Vec::new(alloc);
@@ -39,7 +40,7 @@ fn add_entry<'m>(
     dependency: &'m Dependency,
     is_dev: bool,
     is_over: bool,
-) -> Result<(), AllocError>
+) -> AllocResult<()>
     ensures { OnOk result (Finds (entry_findings is_dev is_over key.now
         (dependency_meaning dependency.now)) found.old.items found.new.items) }
 {
@@ -49,7 +50,7 @@ fn add_entry<'m>(
     let texts = dependency.req_features();
     for text in texts {
         let text = text.as_str();
-        let fault = (!is_feature_name(text)).then_some(Code::BadRequest);
+        let fault = (!may_name(text, true)).then_some(Code::BadRequest);
         add(found, fault, key, text)?;
     }
     Ok(())
@@ -62,7 +63,7 @@ fn add_table<'m>(
     table: &'m DepsSet,
     is_dev: bool,
     limit: usize,
-) -> Result<(), AllocError>
+) -> AllocResult<()>
     ensures { OnOk result (Finds (table_findings is_dev limit
         (map_meaning dependency_meaning table.now)) found.old.items found.new.items) }
 {
@@ -80,7 +81,7 @@ pub(crate) fn add_tables<'m, M>(
     found: &mut Vec<Finding<'m>>,
     manifest: &'m Manifest<M>,
     limit: usize,
-) -> Result<(), AllocError>
+) -> AllocResult<()>
     ensures { OnOk result (Finds (tables_findings limit (held manifest.now))
         found.old.items found.new.items) }
 {

@@ -6,10 +6,11 @@ ghost use Rattle.cargo_toml_lint.specs.{Findings.IsFound, Findings.is_hidden, St
 ghost use Rattle.cargo_toml_lint.specs.{Steps.implied_at, Steps.private_at};
 ghost use Rattle.cargo_toml_lint.specs.declared.finding.Code.{Code};
 
+use crate::AllocResult;
 use crate::finding::{Code, Finding};
 use crate::gathering::add_if;
 use crate::linking::{FeatureMap, Links};
-use std::alloc::{AllocError, Global};
+use std::alloc::Global;
 use std::hash::BuildHasher;
 
 // Whether users aren't meant to ask for the feature, by its name.
@@ -45,7 +46,7 @@ pub(crate) struct Walks {
 }
 
 /// What features lead to.
-pub(crate) fn walks_of(alloc: Global, links: &Links<'_>) -> Result<Walks, AllocError>
+pub(crate) fn walks_of(alloc: Global, links: &Links<'_>) -> AllocResult<Walks>
     requires { AreFound links.now }
     ensures { IfOk result (AreWalks links.now) }
 {
@@ -74,7 +75,7 @@ pub(crate) fn add_place<'m, S: BuildHasher>(
     walks: &Walks,
     features: &FeatureMap<'m, S>,
     place: usize,
-) -> Result<(), AllocError>
+) -> AllocResult<()>
     requires found { AreFound links.now }
     requires walks { AreWalks links.now walks.now }
     requires inside { place < length links.now.names.items }

@@ -1,17 +1,17 @@
 -- The names that proofs of this crate cite of definitions and of other libraries. Declares nothing.
 pub use Rattle.cargo_toml.specs.Action.{Action, IsJoin, Text, item_of, join_option}
 pub use Rattle.cargo_toml.specs.Views.{action_at, answer_of, set_has, table_in, value_at}
-pub use Rattle.cargo_toml.specs.{Ascending.Ascend, Feature.Feature, Graph.Table, Limits.MAX_ITEMS, Manifests.held, Manifests.manifest_meaning}
-pub use Rattle.cargo_toml.specs.{Packages.package_meaning, Parsed.IsParsed, Reach.Among, Reached.IsKeyed, Reads.map_meaning, Targets.target_meaning}
+pub use Rattle.cargo_toml.specs.{Ascending.Ascend, Feature.Feature, Graph.Table, Limits.MAX_ITEMS, Manifests.ManifestMeaning, Manifests.held, Manifests.manifest_meaning}
+pub use Rattle.cargo_toml.specs.{Packages.PackageMeaning, Packages.package_meaning, Parsed.IsParsed, Reach.Among, Reached.IsKeyed, Reads.map_meaning, Targets.target_meaning}
 pub use Rattle.cargo_toml_discovery.proofs.Faults.{from_input}
 pub use Rattle.cargo_toml_features.proofs.{Pending.key_of, Thinning.has_filtered}
 pub use Rattle.cargo_toml_graph.proofs.Filtered.{filter_next, filter_past, those_among, those_ascend}
 pub use Rattle.cargo_toml_graph.proofs.{JoinLaws.join_option_none, Joins.join_alike, Joins.join_halves, Joins.join_one, Texts.bytes_eq_refl}
 pub use Rattle.cargo_toml_lint.proofs.Gathered.{any_map, at_head, has_in, list_of, listed_in}
-pub use Rattle.cargo_toml_lint.{proofs.Adding.asked_is, proofs.Adding.entry_of, proofs.Adding.target_of, proofs.Resolving.parsed_at, proofs.Resolving.tells_of, specs.Turning.turning}
+pub use Rattle.cargo_toml_lint.{specs.declared.finding.Finding.Finding, proofs.Adding.asked_is, proofs.Adding.entry_of, proofs.Adding.target_of, proofs.Resolving.parsed_at, proofs.Resolving.tells_of, specs.Turning.turning}
 pub use Rattle.cargo_toml_tools.specs.Documented.{ActsOf, AreRows, IsRowOf, is_beside, lists_default, told_at}
 pub use Rattle.cargo_toml_tools.specs.IndexEntries.{feature_rows, index_data, index_entries, is_extended, is_kept, is_newer, kept_lists, key_if, line_data, list_rows, lists_object, table_entries, table_keys, with_rows}
-pub use Rattle.cargo_toml_tools.specs.Indexed.{address_named, dependency_tables, entry_refusal, finding_refusal, first_refusal, is_named, is_number, package_refusal, table_refusal, target_tables}
+pub use Rattle.cargo_toml_tools.specs.Indexed.{DependencyTable, Wanted, address_named, dependency_tables, entry_refusal, finding_refusal, first_refusal, is_named, is_number, package_refusal, refusal_of, table_refusal, target_tables, written}
 pub use Rattle.cargo_toml_tools.specs.Sections.{lists_meaning, names_of, refused, table_of, wanted_of}
 pub use Rattle.cargo_toml_tools.specs.declared.{document.listing.Row.Row, index.refusals.Fault.TheVariants.NoPackage}
 pub use Rattle.serde_json.specs.Data.{Data, Members, number, put, string, unsigned}
@@ -23,4 +23,4 @@ pub use Rattle.std.proofs.lemmas.{Fn.filter_same, Iterator.YieldsList-from_slice
 pub use Rattle.std.proofs.lemmas.{List.append-nil, List.drop_all, List.map-append, List.Concat.flat_map-append, Map.Iter.rest_all, Map.Iter.rest_more, Map.Text.is_eq-slice_cmp}
 pub use Rattle.std.specs.List.{AllByRecursion, flat_map, list_any}
 pub use Rattle.std.specs.{HashMap.HashMap, Map.Iter.deref, Option.option_copied, Option.option_map_or, Option.option_or}
-pub use Rattle.toml.specs.View.{table_view}
+pub use Rattle.toml.specs.{Data.Members as TomlMembers, View.table_view}

@@ -1,22 +1,21 @@
 -- What the line of an index is: what it holds of a package, the entries of its dependencies, and
 -- what it holds of its features.
 use Rattle.std.specs.Prelude.{List, [], ◌∷◌, Option, Some, None, false, codes, map, option_and_then}
-use Rattle.std.specs.Prelude.{option_map, ◌++◌, ◌||◌, Bool, true, if◌then◌else◌, unwrap_or}
+use Rattle.std.specs.Prelude.{option_map, ◌++◌, ◌||◌, Bool, true, if◌then◌else◌}
 use Rattle.std.specs.Prelude.{bytes_eq, filter, is_some}
 use Rattle.std.specs.{List.flat_map, List.list_any, Option.option_map_or}
 use Rattle.semver.specs.{Identifiers.parts_text, Parse.Held}
 use Rattle.serde_json.specs.Data.{Data, Members, array, boolean, null, put, string, no_members}
 use Rattle.serde_json.specs.Data.{object, number, unsigned}
 use Rattle.serde_json.specs.View.{items_of}
-use Rattle.toml.specs.Data.{Members as TomlMembers, as_bool}
-use Rattle.cargo_toml.specs.Dependencies.{DependencyMeaning, detailed, is_optional, package_of}
+use Rattle.cargo_toml.specs.Dependencies.{DependencyMeaning, is_optional, package_of}
 use Rattle.cargo_toml.specs.Kind.TheVariants.{Build, Dev, Normal}
 use Rattle.cargo_toml.specs.{Action.Text, Action.Item, Action.item_of, InheritableValues.value_of}
 use Rattle.cargo_toml.specs.{Packages.PackageMeaning, Kind.Kind, Requirements.requirement_text}
 use Rattle.cargo_toml.specs.{Action.Item.Name, Action.Item.On, Manifests.ManifestMeaning}
 use Rattle.cargo_toml_lint.specs.Findings.{asked_of}
 use Rattle.cargo_toml_tools.specs.Indexed.{DependencyTable, Wanted, dependency_tables, elsewhere}
-use Rattle.cargo_toml_tools.specs.Indexed.{source_of, written, written_flag}
+use Rattle.cargo_toml_tools.specs.Indexed.{has_default, source_of, written}
 pub use Rattle.cargo_toml_tools.specs.Indexed.{required_version}
 
 -- an object with each of these members put in its place, in byte order of their names
@@ -36,14 +35,6 @@ text_array ts = array (items_of (map string ts))
 abbrev pub rows_if : Text → Option Text → List (Text × Data)
 rows_if key None = []
 rows_if key (Some text) = (key, string text) ∷ []
-
--- whether the default features are asked for: where the rest is left to a workspace that says
--- otherwise, what is written of it counts
-abbrev pub has_default : Option TomlMembers → Text → DependencyMeaning → Bool
-has_default table key (detailed d) =
-    d.default_features
-    || unwrap_or (option_and_then as_bool (written_flag table key (codes "default-features"))) false
-has_default table key other = true
 
 abbrev pub kind_text : Kind → Text
 kind_text Normal = codes "normal"

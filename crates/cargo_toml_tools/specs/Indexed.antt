@@ -15,8 +15,10 @@ use Rattle.cargo_toml.specs.{InheritedDependencies.Entries, InheritedDependencie
 use Rattle.cargo_toml.specs.{Manifests.ManifestMeaning, Manifests.is_zero, Action.Text}
 use Rattle.cargo_toml.specs.{Inheritable.Inheritable, Kind.Kind}
 use Rattle.cargo_toml.specs.{Packages.PackageMeaning, Targets.TargetMeaning, Versions.Parts}
+use Rattle.cargo_toml_parts.specs.declared.settings.Edition.{Edition, TheVariants.E2024}
 use Rattle.cargo_toml_lint.specs.{Findings.code_level, declared.finding.Finding.Finding}
-use Rattle.cargo_toml_lint.specs.declared.finding.Level.{Level, TheVariants.Error}
+use Rattle.cargo_toml_lint.specs.{Taken.may_name, declared.finding.Level.Level}
+use Rattle.cargo_toml_lint.specs.declared.finding.Level.TheVariants.{Error}
 use Rattle.cargo_toml_tools.specs.declared.index.refusals.Fault.{Fault}
 use Rattle.cargo_toml_tools.specs.declared.index.refusals.Fault.TheVariants as fault
 
@@ -102,6 +104,13 @@ abbrev pub written_flag : Option Members → Text → Text → Option Data
 written_flag table dependency key =
     option_and_then (get_member key) (option_and_then (table_in dependency) table)
 
+-- the default features are asked for: by the dependency as it is completed, or as it is written
+abbrev pub has_default : Option Members → Text → DependencyMeaning → Bool
+has_default table key (detailed d) =
+    d.default_features
+    || unwrap_or (option_and_then as_bool (written_flag table key (codes "default-features"))) false
+has_default table key other = true
+
 -- ---- registries
 
 abbrev pub crates_io : Text
@@ -168,21 +177,34 @@ abbrev pub keeps_other_flag : DependencyMeaning → Bool
 keeps_other_flag (detailed d) = list_any (λ e. bytes_eq other_flag e.0) d.unstable
 keeps_other_flag other = false
 
+-- an entry turns off the default features that its workspace asks for
+abbrev pub turns_off : Option Members → Text → DependencyMeaning → Bool
+turns_off table key d = has_default table key d && not (unwrap_or
+    (option_and_then as_bool (written_flag table key (codes "default-features"))) true)
+
+-- edition 2024, in which Cargo refuses that
+abbrev pub is_2024 : Inheritable Edition → Bool
+is_2024 (Set E2024) = true
+is_2024 other = false
+
 -- the refusal of a dependency, which stands under its key
-abbrev pub entry_refusal : List (Text × Text) → DependencyTable → Text × DependencyMeaning
+abbrev pub entry_refusal : Wanted → Bool → DependencyTable → Text × DependencyMeaning
     → Option Refusal
-entry_refusal names t e =
+entry_refusal w in_2024 t e =
     if is_left e.1 then Some (fault.Incomplete, e.0)
     else if is_some (written_flag t.written e.0 other_flag) || keeps_other_flag e.1
     then Some (fault.OtherFlag, e.0)
+    else if in_2024 && turns_off t.written e.0 e.1 then Some (fault.TurnsOff, e.0)
     else if is_left_out t.kind e.1 then None
     else if is_none (required_version e.1) then Some (fault.NoRequirement, e.0)
-    else refuse_if (is_none (source_of names e.1)) fault.NoAddress e.0
+    else if is_none (source_of w.names e.1) then Some (fault.NoAddress, e.0)
+    else refuse_if (bytes_eq w.registry crates_io
+    && is_some (elsewhere crates_io (source_of w.names e.1))) fault.OtherRegistry e.0
 
-abbrev pub table_refusal : List (Text × Text) → DependencyTable → Option Refusal
-table_refusal names t =
+abbrev pub table_refusal : Wanted → Bool → DependencyTable → Option Refusal
+table_refusal w in_2024 t =
     option_or (option_map (λ name. (fault.OtherTable, name)) t.other_name)
-    (first_refusal (entry_refusal names t) t.entries)
+    (first_refusal (entry_refusal w in_2024 t) t.entries)
 
 -- what the table `package` has under a key
 abbrev pub in_package : Text → Members → Option Data
@@ -248,7 +270,10 @@ abbrev pub package_refusal : {M : Type 0} → Wanted → List Finding → Member
 package_refusal w findings document ts p =
     option_or
     (option_or
-    (option_or (version_refusal document p.version) (first_refusal (table_refusal w.names) ts))
+    (option_or
+    (option_or (refuse_if (not (may_name false p.name)) fault.BadName [])
+    (version_refusal document p.version))
+    (first_refusal (table_refusal w (is_2024 p.edition)) ts))
     (rust_refusal p.rust_version))
     (if w.force then None
     else option_or (publish_refusal w document p.publish) (first_refusal finding_refusal findings))

@@ -8,10 +8,10 @@ mod reached;
 
 use crate::escape::{Code, Escaped, Format, comma_before};
 use cargo_toml::features::DepAction;
+use cargo_toml_lint::AllocResult;
 pub use dot::graph;
 pub use listing::{Row, TakesRows, rows};
 pub use reached::Reached;
-use std::alloc::AllocError;
 use std::collections::BTreeMap;
 use std::fmt::Write;
 
@@ -21,7 +21,7 @@ use std::fmt::Write;
 impl TakesRows for String {
     ghost took = { λ _ _ _. Unit {0} };
 
-    fn take(&mut self, name: Option<&str>, rows: &[Row<'_>]) -> Result<(), AllocError> {
+    fn take(&mut self, name: Option<&str>, rows: &[Row<'_>]) -> AllocResult<()> {
         self.push_str("# Features")?;
         if let Some(name) = name {
             write!(self, " of {}", Code(name))?;
@@ -34,13 +34,12 @@ impl TakesRows for String {
 
 /// The table of the features that are listed, or of those that are optional dependencies. It has
 /// texts where some row has one.
-fn push_table(page: &mut String, rows: &[Row<'_>], is_listed: bool) -> Result<(), AllocError> {
+fn push_table(page: &mut String, rows: &[Row<'_>], is_listed: bool) -> AllocResult<()> {
     if !rows.iter().any(|row| row.is_listed == is_listed) {
         return Ok(());
     }
-    let has_texts = rows
-        .iter()
-        .any(|row| row.is_listed == is_listed && row.doc.is_some());
+    // what isn't listed has none
+    let has_texts = is_listed && rows.iter().any(|row| row.doc.is_some());
     if !is_listed {
         page.push_str("\n## Optional dependencies\n")?;
     }
@@ -57,7 +56,7 @@ fn push_table(page: &mut String, rows: &[Row<'_>], is_listed: bool) -> Result<()
     Ok(())
 }
 
-fn push_row(page: &mut String, row: &Row<'_>, has_texts: bool) -> Result<(), AllocError> {
+fn push_row(page: &mut String, row: &Row<'_>, has_texts: bool) -> AllocResult<()> {
     write!(page, "| {} | ", Code(row.name))?;
     if has_texts {
         let text = Escaped(row.doc.unwrap_or(""), Format::Markdown);
@@ -74,10 +73,7 @@ fn push_row(page: &mut String, row: &Row<'_>, has_texts: bool) -> Result<(), All
 
 /// Actions as a feature's list says them: `log`, `log/std`, or `log?/std` where something else has
 /// to turn the dependency on.
-fn push_actions(
-    page: &mut String,
-    actions: &BTreeMap<&str, DepAction<'_>>,
-) -> Result<(), AllocError> {
+fn push_actions(page: &mut String, actions: &BTreeMap<&str, DepAction<'_>>) -> AllocResult<()> {
     let alloc = *page.allocator();
     for (i, (key, action)) in actions.iter().enumerate() {
         page.push_str(comma_before(i))?;

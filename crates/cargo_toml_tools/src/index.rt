@@ -73,14 +73,15 @@ impl fmt::Display for IndexError {
         };
         match fault {
             Fault::NoPackage => f.write_str("there is no package"),
+            Fault::BadName => f.write_str("Cargo doesn't take the package's name"),
             Fault::NoVersion => f.write_str("the package has no version"),
             Fault::Incomplete => write!(f, "{name} is left to the workspace"),
             Fault::OtherTable => write!(f, "the table {name} has `_` in its name"),
             Fault::OtherFlag => write!(f, "the dependency {name} has `default_features`"),
+            Fault::TurnsOff => write!(f, "{name} can't turn off its workspace's default features"),
             Fault::NoRequirement => write!(f, "the dependency {name} has no version"),
-            Fault::NoAddress => {
-                write!(f, "the registry of the dependency {name} has no address")
-            }
+            Fault::NoAddress => write!(f, "the registry of {name} has no address"),
+            Fault::OtherRegistry => write!(f, "the dependency {name} isn't of crates.io"),
             Fault::OddRust => write!(f, "the rust-version {name} isn't a version like 1.70"),
             Fault::NotPublished => f.write_str("the package isn't published in this registry"),
             Fault::Features => write!(f, "lint finds an error of {name}"),
@@ -159,12 +160,8 @@ fn line_of<M>(
     put_text(alloc, &mut line, "vers", version.as_deref())?;
     put(&mut line, alloc, "yanked", Value::from(false))?;
     put_text(alloc, &mut line, "links", package.links.as_deref())?;
-    put_text(
-        alloc,
-        &mut line,
-        "rust_version",
-        stated(&package.rust_version),
-    )?;
+    let rust_version = stated(&package.rust_version);
+    put_text(alloc, &mut line, "rust_version", rust_version)?;
     let entries = entries(alloc, options, sections)?;
     put(&mut line, alloc, "deps", Value::from(entries))?;
     put_features(alloc, &mut line, sections, features)?;

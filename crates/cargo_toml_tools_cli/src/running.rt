@@ -132,6 +132,12 @@ impl<'a, R: Files + Input + Print + Eprint + RandomSource + Clock + AllocGlobal>
             Ok(made) => made,
             Err(fault) => return self.refuse(file, text, fault),
         };
+        // a line begins with its checksum, since its keys stand in byte order
+        let is_summed = made.line.as_str().starts_with("{\"cksum\"");
+        if wanted.checksums.is_some() && !is_summed && !wanted.force {
+            let fault = Error::Other("the file of checksums has none of this crate");
+            return self.refuse(file, text, fault);
+        }
         if let Some(folder) = wanted.layout {
             return match add_to_index(self.rt, folder, &made) {
                 Ok(()) => Ok(Outcome::Done),

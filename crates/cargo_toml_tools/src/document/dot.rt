@@ -12,9 +12,9 @@ use std::hash::BuildHasher;
 
 /// The graph of all features, and of the dependencies that they act on, in Graphviz's language.
 ///
-/// Hidden and private features are dashed, `default` is bold, dependencies are boxes, and an action
-/// that counts only where something else turns the dependency on is dotted. What is resolved has
-/// hidden features.
+/// Hidden and private features are dashed, `default` is bold where it is listed, and else left out.
+/// Dependencies are boxes, and an action that counts only where something else turns the dependency
+/// on is dotted. What is resolved has hidden features.
 pub fn graph<M, S: BuildHasher>(
     alloc: Global,
     manifest: &Manifest<M>,
@@ -27,9 +27,11 @@ pub fn graph<M, S: BuildHasher>(
         let name = Escaped(package.name.as_str(), Format::Dot);
         writeln!(graph, "    label=\"{name}\";")?;
     }
+    let has_default = manifest.features.contains_key("default");
     let mut keys = BTreeSet::new(alloc);
     for place in 0..links.names.len() {
-        if let Some(feature) = resolved.features.get(links.names[place]) {
+        let feature = resolved.features.get(links.names[place]);
+        if let Some(feature) = feature.filter(|one| has_default || one.key != "default") {
             push_node(&mut graph, "feature", feature.key, style_of(feature))?;
             push_feature_edges(&mut graph, feature, &links, place)?;
             push_dependency_edges(&mut graph, feature)?;

@@ -9,13 +9,10 @@ ghost use Rattle.cargo_toml_tools.specs.Documented.{AreRowsOf, IsOn, IsRowOf, is
 use super::reached::{Reached, reach};
 use cargo_toml::Manifest;
 use cargo_toml::features::Feature;
-use cargo_toml_lint::Links;
+use cargo_toml_lint::{FeatureMap, Links};
 use std::alloc::{AllocError, Global};
-use std::collections::{BTreeSet, HashMap};
+use std::collections::BTreeSet;
 use std::hash::BuildHasher;
-
-/// The features of a manifest by name, as they are resolved.
-pub type FeatureMap<'m, S> = HashMap<&'m str, Feature<'m>, S>;
 
 /// A feature that users may ask for, and what is told of it.
 #[derive(Drop)]

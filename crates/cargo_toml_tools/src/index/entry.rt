@@ -3,8 +3,8 @@ ghost use Rattle.std.specs.Prelude.{◌≡◌, [], IfOk, map};
 ghost use Rattle.std.specs.List.{flat_map};
 ghost use Rattle.serde_json.specs.View.{members_view, view};
 ghost use Rattle.cargo_toml.specs.{Dependencies.dependency_meaning, Versions.requirement_meaning};
-ghost use Rattle.cargo_toml_tools.specs.IndexEntries.{has_default, index_rows, kind_text};
-ghost use Rattle.cargo_toml_tools.specs.IndexEntries.{table_entries, with_rows};
+ghost use Rattle.cargo_toml_tools.specs.IndexEntries.{index_rows, kind_text, table_entries};
+ghost use Rattle.cargo_toml_tools.specs.{IndexEntries.with_rows, Indexed.has_default};
 ghost use Rattle.cargo_toml_tools.specs.Sections.{table_of, wanted_of};
 
 use super::Options;
@@ -78,7 +78,7 @@ fn entry(
 
 /// Whether a dependency's default features are on: an entry may say so where it leaves the rest to
 /// a workspace that says otherwise.
-fn has_default(section: &Section<'_>, key: &str, dependency: &Dependency) -> bool
+pub(super) fn has_default(section: &Section<'_>, key: &str, dependency: &Dependency) -> bool
     ensures { result ≡ has_default (table_of section.now).written key.now
         (dependency_meaning dependency.now) }
 {

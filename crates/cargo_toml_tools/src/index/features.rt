@@ -13,8 +13,9 @@ use crate::requirement::required_version;
 use cargo_toml::FeatureSet;
 use cargo_toml_features::action::read_action;
 use cargo_toml_features::sets::set_of;
+use cargo_toml_lint::AllocResult;
 use serde_json::{Map, Value, put};
-use std::alloc::{AllocError, Global};
+use std::alloc::Global;
 use std::collections::BTreeSet;
 
 /// Puts the members that are of the features.
@@ -23,7 +24,7 @@ pub(super) fn put_features(
     line: &mut Map<String, Value>,
     sections: &[Section<'_>],
     features: &FeatureSet,
-) -> Result<(), AllocError>
+) -> AllocResult<()>
     ensures { OnOk result (members_view line.new.entries
         ≡ with_rows (feature_rows (kept_lists (stays (map table_of sections.now))
         (lists_meaning features.now))) (members_view line.old.entries)) }
@@ -48,7 +49,7 @@ fn put_lists(
     second: &mut Map<String, Value>,
     keys: &BTreeSet<&str>,
     features: &FeatureSet,
-) -> Result<bool, AllocError>
+) -> AllocResult<bool>
     ensures first { OnOk result (members_view first.new.entries
         ≡ with_rows (flat_map (list_rows false) (kept_lists (set_has keys.now)
         (lists_meaning features.now))) (members_view first.old.entries)) }
@@ -74,11 +75,7 @@ fn put_lists(
 }
 
 /// The texts of a list that stay: no text that acts on a dependency that the line hasn't.
-fn kept<'m>(
-    alloc: Global,
-    keys: &BTreeSet<&str>,
-    texts: &'m [String],
-) -> Result<Vec<&'m str>, AllocError>
+fn kept<'m>(alloc: Global, keys: &BTreeSet<&str>, texts: &'m [String]) -> AllocResult<Vec<&'m str>>
     ensures { IfOk result (λ v. map (λ t. t.now) v.items
         ≡ filter (is_kept (set_has keys.now)) (map string_bytes texts.now)) }
 {
@@ -101,10 +98,7 @@ fn is_kept(keys: &BTreeSet<&str>, text: &str) -> bool
 
 /// The keys of the dependencies that the line has.
 #[tactic(auto, using(crate::proofs::Placed::keyed))]
-fn kept_keys<'a>(
-    alloc: Global,
-    sections: &'a [Section<'a>],
-) -> Result<BTreeSet<&'a str>, AllocError>
+fn kept_keys<'a>(alloc: Global, sections: &'a [Section<'a>]) -> AllocResult<BTreeSet<&'a str>>
     ensures { IfOk result (λ keys. (x : Text)
         → set_has keys x ≡ stays (map table_of sections.now) x) }
 {

@@ -7,18 +7,19 @@ ghost use Rattle.cargo_toml.specs.{Dependencies.dependency_meaning, Inherits.inh
 ghost use Rattle.cargo_toml.specs.{Packages.held_package, Settings.publish_meaning};
 ghost use Rattle.cargo_toml_tools.specs.Indexed.{are_numbers, entry_refusal, finding_refusal};
 ghost use Rattle.cargo_toml_tools.specs.Indexed.{first_refusal, in_package, is_named, is_number};
-ghost use Rattle.cargo_toml_tools.specs.Indexed.{is_left_out, is_open, keeps_other_flag};
+ghost use Rattle.cargo_toml_tools.specs.Indexed.{is_2024, is_left_out, is_open, keeps_other_flag};
 ghost use Rattle.cargo_toml_tools.specs.Indexed.{package_refusal, publish_refusal, rust_refusal};
-ghost use Rattle.cargo_toml_tools.specs.Indexed.{table_refusal, version_refusal};
+ghost use Rattle.cargo_toml_tools.specs.Indexed.{table_refusal, turns_off, version_refusal};
 ghost use Rattle.cargo_toml_tools.specs.Sections.{names_of, refused, table_of, wanted_of};
 
 use super::Options;
-use super::registries::{Named, address_named, source_of};
+use super::entry::has_default;
+use super::registries::{CRATES_IO, address_named, elsewhere, source_of};
 use super::sections::{Section, flag_in, table_in};
 use crate::requirement::required_version;
 use cargo_toml::features::Kind;
-use cargo_toml::{Dependency, Inheritable, Package, Publish, SemVer};
-use cargo_toml_lint::{Finding, Level};
+use cargo_toml::{Dependency, Edition, Inheritable, Package, Publish, SemVer};
+use cargo_toml_lint::{Finding, Level, may_name};
 use cargo_toml_parts::read::member;
 use toml::{Table, Value};
 
@@ -27,6 +28,8 @@ use toml::{Table, Value};
 pub enum Fault {
     /// The manifest has no package.
     NoPackage,
+    /// Cargo doesn't take the package's name.
+    BadName,
     /// The package states no version.
     NoVersion,
     /// What has this key is left to the workspace: the manifest isn't completed.
@@ -35,11 +38,15 @@ pub enum Fault {
     OtherTable,
     /// The dependency of this key has `default_features`, which isn't read.
     OtherFlag,
+    /// The dependency of this key turns off its workspace's default features, in edition 2024.
+    TurnsOff,
     /// The dependency of this key has no version.
     NoRequirement,
     /// The dependency of this key names its registry, and the address of that registry's index
     /// isn't known.
     NoAddress,
+    /// The dependency of this key is of another registry, which crates.io doesn't take.
+    OtherRegistry,
     /// The package's `rust-version` isn't one to three numbers, with dots between and no zeros in
     /// front.
     OddRust,
@@ -51,6 +58,8 @@ pub enum Fault {
 
 /// A fault, and the key or the name that has it.
 pub(super) type Refusal<'a> = (Fault, &'a str);
+/// The options, and whether the package is of edition 2024.
+type Rules<'a> = (Options<'a>, bool);
 
 /// The first refusal of a package, which was read from this document, and of its tables of
 /// dependencies. `findings` is what lint finds of its features.
@@ -65,10 +74,14 @@ pub(super) fn package_refusal<'a, M>(
         findings.now (table_view document.now) (map table_of sections.now)
         (held_package «package».now) }
 {
+    if !may_name(package.name.as_str(), false) {
+        return Some((Fault::BadName, ""));
+    }
     if let Some(refusal) = version_refusal(&package.version, document) {
         return Some(refusal);
     }
-    if let Some(refusal) = tables_refusal(options.names, sections) {
+    let rules = (options, is_2024(&package.edition));
+    if let Some(refusal) = tables_refusal(rules, sections) {
         return Some(refusal);
     }
     if let Some(refusal) = rust_refusal(&package.rust_version) {
@@ -144,28 +157,35 @@ fn are_digits(bytes: &[u8]) -> bool
     bytes.iter().all(|byte| byte.is_ascii_digit())
 }
 
+/// Whether a package is of edition 2024.
+fn is_2024(edition: &Inheritable<Edition>) -> bool
+    ensures { result ≡ is_2024 (inheritable_map (λ x. x) edition.now) }
+{
+    matches!(edition, Inheritable::Set(Edition::E2024))
+}
+
 /// The first refusal of these tables.
-fn tables_refusal<'a>(names: &'a [Named<'a>], sections: &'a [Section<'a>]) -> Option<Refusal<'a>>
-    ensures { option_map refused result
-        ≡ first_refusal (table_refusal (names_of names.now)) (map table_of sections.now) }
+fn tables_refusal<'a>(rules: Rules<'a>, sections: &'a [Section<'a>]) -> Option<Refusal<'a>>
+    ensures { option_map refused result ≡ first_refusal
+        (table_refusal (wanted_of rules.entry.0) rules.entry.1) (map table_of sections.now) }
 {
     for section in sections {
-        if let Some(refusal) = table_refusal(names, section) {
+        if let Some(refusal) = table_refusal(rules, section) {
             return Some(refusal);
         }
     }
     None
 }
 
-fn table_refusal<'a>(names: &'a [Named<'a>], section: &'a Section<'a>) -> Option<Refusal<'a>>
+fn table_refusal<'a>(rules: Rules<'a>, section: &'a Section<'a>) -> Option<Refusal<'a>>
     ensures { option_map refused result
-        ≡ table_refusal (names_of names.now) (table_of section.now) }
+        ≡ table_refusal (wanted_of rules.entry.0) rules.entry.1 (table_of section.now) }
 {
     if let Some(name) = section.other_name {
         return Some((Fault::OtherTable, name));
     }
     for (key, dependency) in section.entries {
-        if let Some(refusal) = entry_refusal(names, section, key.as_str(), dependency) {
+        if let Some(refusal) = entry_refusal(rules, section, key.as_str(), dependency) {
             return Some(refusal);
         }
     }
@@ -174,27 +194,41 @@ fn table_refusal<'a>(names: &'a [Named<'a>], section: &'a Section<'a>) -> Option
 
 /// The refusal of a dependency.
 fn entry_refusal<'a>(
-    names: &'a [Named<'a>],
+    rules: Rules<'a>,
     section: &Section<'a>,
     key: &'a str,
     dependency: &'a Dependency,
 ) -> Option<Refusal<'a>>
     ensures { option_map refused result
-        ≡ entry_refusal (names_of names.now) (table_of section.now)
+        ≡ entry_refusal (wanted_of rules.entry.0) rules.entry.1 (table_of section.now)
         (key.now, dependency_meaning dependency.now) }
 {
     if matches!(dependency, Dependency::Inherited(_)) {
         Some((Fault::Incomplete, key))
     } else if flag_in(section, key, "default_features").is_some() || keeps_other_flag(dependency) {
         Some((Fault::OtherFlag, key))
+    } else if rules.1 & turns_off(section, key, dependency) {
+        Some((Fault::TurnsOff, key))
     } else if is_left_out(section.kind, dependency) {
         None
     } else if required_version(dependency).is_none() {
         Some((Fault::NoRequirement, key))
+    } else if source_of(rules.0.names, dependency).is_none() {
+        Some((Fault::NoAddress, key))
     } else {
-        let is_unknown = source_of(names, dependency).is_none();
-        is_unknown.then_some((Fault::NoAddress, key))
+        let source = source_of(rules.0.names, dependency);
+        let is_other = rules.0.registry == CRATES_IO && elsewhere(CRATES_IO, source).is_some();
+        is_other.then_some((Fault::OtherRegistry, key))
     }
+}
+
+/// Whether an entry turns off the default features that its workspace asks for.
+fn turns_off(section: &Section<'_>, key: &str, dependency: &Dependency) -> bool
+    ensures { result ≡ turns_off (table_of section.now).written key.now
+        (dependency_meaning dependency.now) }
+{
+    let flag = flag_in(section, key, "default-features");
+    has_default(section, key, dependency) & !flag.and_then(Value::as_bool).unwrap_or(true)
 }
 
 /// Whether what a dependency inherits has `default_features`.

@@ -6,4 +6,4 @@ pub returns-then-not-acts : goal.returns-then-not-acts
 returns-then-not-acts c = search (rules, naming, append-nil)
 
 pub returns : goal.returns
-returns c = search (rules, acting, map_push)
+returns c = rw (← c.is_bad_text.ensures) (search (rules, acting, map_push))

@@ -1,7 +1,7 @@
-use Rattle.cargo_toml_tools.proofs.Cited.{◌≡◌, drop, first_refusal, map, names_of, table_of, table_refusal}
+use Rattle.cargo_toml_tools.proofs.Cited.{◌≡◌, drop, first_refusal, map, table_of, table_refusal, wanted_of}
 use Rattle.cargo_toml_tools.proofs.index.refusals.tables_refusal.Given as goal
 
 abbrev pub invariant-loop-section : goal.invariant-loop-section
 invariant-loop-section l =
-    first_refusal (table_refusal (names_of l.names)) (map table_of (drop l.section-index l.sections))
-    ≡ first_refusal (table_refusal (names_of l.names)) (map table_of l.sections)
+    first_refusal (table_refusal (wanted_of l.rules.0) l.rules.1) (map table_of (drop l.section-index l.sections))
+    ≡ first_refusal (table_refusal (wanted_of l.rules.0) l.rules.1) (map table_of l.sections)

@@ -48,19 +48,20 @@ pub fn faults_in(alloc: Global, text: &str) -> Result<Vec<Told>, AllocError>
     placed(alloc, text, faults.as_slice())
 }
 
-/// The lines `FILE:LINE:COLUMN: KEY: words` of what keeps the manifest in this text of a file from
-/// being read and completed, and whether something does.
+/// The lines `NAME:LINE:COLUMN: KEY: words` of what keeps the manifest in this text of the file at a
+/// path from being read and completed, and whether something does.
 pub fn check_lines<R: Files + AllocGlobal>(
     rt: &R,
-    file: &str,
+    name: &str,
+    path: &str,
     text: &str,
 ) -> Result<(String, bool), AllocError>
-    ensures { IfOk result (λ told. IsChecked file.now text.now told.1) }
+    ensures { IfOk result (λ told. IsChecked path.now text.now told.1) }
 {
-    match completed_of(rt, file, text) {
+    match completed_of(rt, path, text) {
         Ok(_) => Ok((String::new(rt.alloc()), false)),
         Err(Error::Memory) => Err(AllocError),
-        Err(fault) => Ok((lines_of(rt.alloc(), file, text, &fault)?, true)),
+        Err(fault) => Ok((lines_of(rt.alloc(), name, text, &fault)?, true)),
     }
 }
 

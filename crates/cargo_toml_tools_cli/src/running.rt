@@ -5,7 +5,7 @@ use cargo_toml_check::check::{check_lines, refusal_lines};
 use cargo_toml_check::files::{features_of, json_of, toml_of};
 use cargo_toml_check::lint::lint_lines;
 use cargo_toml_check::registry::{add_to_index, checksums};
-use cargo_toml_tools::escape::{Escaped, Format, push_escaped};
+use cargo_toml_tools::escape::{Format, push_escaped};
 use cargo_toml_tools::files::{document_text, index_of, text_in};
 use cargo_toml_tools::{Inputs, Outcome, Request, Wanted};
 use std::collections::BTreeMap;
@@ -233,16 +233,7 @@ fn made_of<R: Files + RandomSource + AllocGlobal>(
     let path = path_of(rt, file)?;
     let path = path.as_str();
     match request {
-        Request::Check(_) => {
-            let (lines, odd) = check_lines(rt, path, text)?;
-            // each line begins with the path, in whose place the name stands
-            let path = format!(in rt.alloc(); "\n{}:", Escaped(path, Format::Line))?;
-            let file = format!(in rt.alloc(); "\n{}:", Escaped(file, Format::Line))?;
-            let lines = format!(in rt.alloc(); "\n{lines}")?;
-            let lines = lines.replace(rt.alloc(), path.as_str(), file.as_str())?;
-            let lines = lines.as_str().trim_start_matches('\n');
-            Ok((String::from_str(rt.alloc(), lines)?, odd))
-        }
+        Request::Check(_) => Ok(check_lines(rt, file, path, text)?),
         Request::Show(_, true) => as_line(json_of(rt, path, text)?),
         Request::Show(_, false) => Ok((toml_of(rt, path, text)?, false)),
         Request::Features(_) => as_line(features_of(rt, path, text)?),

@@ -127,7 +127,7 @@ fn answer_of_file<R: Files + RandomSource + AllocGlobal>(
     let text = read.as_str();
     match kind {
         "index" => told_of_index(rt, row, file, text),
-        "check" => reported(alloc, file, Ok(check_lines(rt, file, text)?)),
+        "check" => reported(alloc, file, Ok(check_lines(rt, file, file, text)?)),
         "lint" => reported(alloc, file, told_of_lint(rt, row, file, text)),
         "show" => told(alloc, file, text, toml_of(rt, file, text)),
         "json" => told(alloc, file, text, json_of(rt, file, text)),

@@ -28,7 +28,7 @@ pub enum Code {
     FeatureTable,
     /// The list of the feature has its own name.
     NamesItself,
-    /// The text is `d`, `dep:d` or `d?/f`, where `d` is a dependency that isn't optional.
+    /// The text is `dep:d`, `d?/f` or a `d` that isn't listed, of a dependency that isn't optional.
     NotOptional,
     /// A dev-dependency is optional.
     OptionalDev,
@@ -39,7 +39,7 @@ pub enum Code {
     SameName,
     /// The text names or acts on what the manifest doesn't have.
     Unknown,
-    /// An optional dependency that no text names by `dep:`, so that its key is a feature.
+    /// An optional dependency that isn't listed and no text names by `dep:`: its key is a feature.
     Implied,
     /// `default` enables the feature, which is hidden or private, and nothing else does.
     PrivateDefault,

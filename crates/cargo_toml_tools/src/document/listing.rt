@@ -19,7 +19,7 @@ use std::hash::BuildHasher;
 pub struct Row<'m> {
     /// Its name.
     pub name: &'m str,
-    /// Whether the manifest lists it; else it is an optional dependency, or `default`.
+    /// Whether the manifest lists it; else it is an optional dependency.
     pub is_listed: bool,
     /// Its text.
     pub doc: Option<&'m str>,

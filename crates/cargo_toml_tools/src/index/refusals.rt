@@ -42,8 +42,7 @@ pub enum Fault {
     TurnsOff,
     /// The dependency of this key has no version.
     NoRequirement,
-    /// The dependency of this key names its registry, and the address of that registry's index
-    /// isn't known.
+    /// The dependency of this key names its registry, whose index has no known address.
     NoAddress,
     /// The dependency of this key is of another registry, which crates.io doesn't take.
     OtherRegistry,

@@ -42,8 +42,7 @@ pub enum Fault {
     TurnsOff,
     /// The dependency of this key has no version.
     NoRequirement,
-    /// The dependency of this key names its registry, and the address of that registry's index
-    /// isn't known.
+    /// The dependency of this key names its registry, whose index has no known address.
     NoAddress,
     /// The dependency of this key is of another registry, which crates.io doesn't take.
     OtherRegistry,
@@ -59,7 +58,7 @@ pub enum Fault {
 /// A fault, and the key or the name that has it.
 pub(super) type Refusal<'a> = (Fault, &'a str);
 /// The options, and whether the package is of edition 2024.
-type Rules<'a> = (Options<'a>, bool);
+type Terms<'a> = (Options<'a>, bool);
 
 /// The first refusal of a package, which was read from this document, and of its tables of
 /// dependencies. `findings` is what lint finds of its features.
@@ -80,8 +79,8 @@ pub(super) fn package_refusal<'a, M>(
     if let Some(refusal) = version_refusal(&package.version, document) {
         return Some(refusal);
     }
-    let rules = (options, is_2024(&package.edition));
-    if let Some(refusal) = tables_refusal(rules, sections) {
+    let terms = (options, is_2024(&package.edition));
+    if let Some(refusal) = tables_refusal(terms, sections) {
         return Some(refusal);
     }
     if let Some(refusal) = rust_refusal(&package.rust_version) {
@@ -165,27 +164,27 @@ fn is_2024(edition: &Inheritable<Edition>) -> bool
 }
 
 /// The first refusal of these tables.
-fn tables_refusal<'a>(rules: Rules<'a>, sections: &'a [Section<'a>]) -> Option<Refusal<'a>>
+fn tables_refusal<'a>(terms: Terms<'a>, sections: &'a [Section<'a>]) -> Option<Refusal<'a>>
     ensures { option_map refused result ≡ first_refusal
-        (table_refusal (wanted_of rules.entry.0) rules.entry.1) (map table_of sections.now) }
+        (table_refusal (wanted_of terms.entry.0) terms.entry.1) (map table_of sections.now) }
 {
     for section in sections {
-        if let Some(refusal) = table_refusal(rules, section) {
+        if let Some(refusal) = table_refusal(terms, section) {
             return Some(refusal);
         }
     }
     None
 }
 
-fn table_refusal<'a>(rules: Rules<'a>, section: &'a Section<'a>) -> Option<Refusal<'a>>
+fn table_refusal<'a>(terms: Terms<'a>, section: &'a Section<'a>) -> Option<Refusal<'a>>
     ensures { option_map refused result
-        ≡ table_refusal (wanted_of rules.entry.0) rules.entry.1 (table_of section.now) }
+        ≡ table_refusal (wanted_of terms.entry.0) terms.entry.1 (table_of section.now) }
 {
     if let Some(name) = section.other_name {
         return Some((Fault::OtherTable, name));
     }
     for (key, dependency) in section.entries {
-        if let Some(refusal) = entry_refusal(rules, section, key.as_str(), dependency) {
+        if let Some(refusal) = entry_refusal(terms, section, key.as_str(), dependency) {
             return Some(refusal);
         }
     }
@@ -194,30 +193,30 @@ fn table_refusal<'a>(rules: Rules<'a>, section: &'a Section<'a>) -> Option<Refus
 
 /// The refusal of a dependency.
 fn entry_refusal<'a>(
-    rules: Rules<'a>,
+    terms: Terms<'a>,
     section: &Section<'a>,
     key: &'a str,
     dependency: &'a Dependency,
 ) -> Option<Refusal<'a>>
     ensures { option_map refused result
-        ≡ entry_refusal (wanted_of rules.entry.0) rules.entry.1 (table_of section.now)
+        ≡ entry_refusal (wanted_of terms.entry.0) terms.entry.1 (table_of section.now)
         (key.now, dependency_meaning dependency.now) }
 {
     if matches!(dependency, Dependency::Inherited(_)) {
         Some((Fault::Incomplete, key))
     } else if flag_in(section, key, "default_features").is_some() || keeps_other_flag(dependency) {
         Some((Fault::OtherFlag, key))
-    } else if rules.1 & turns_off(section, key, dependency) {
+    } else if terms.1 & turns_off(section, key, dependency) {
         Some((Fault::TurnsOff, key))
     } else if is_left_out(section.kind, dependency) {
         None
     } else if required_version(dependency).is_none() {
         Some((Fault::NoRequirement, key))
-    } else if source_of(rules.0.names, dependency).is_none() {
+    } else if source_of(terms.0.names, dependency).is_none() {
         Some((Fault::NoAddress, key))
     } else {
-        let source = source_of(rules.0.names, dependency);
-        let is_other = rules.0.registry == CRATES_IO && elsewhere(CRATES_IO, source).is_some();
+        let source = source_of(terms.0.names, dependency);
+        let is_other = terms.0.registry == CRATES_IO && elsewhere(CRATES_IO, source).is_some();
         is_other.then_some((Fault::OtherRegistry, key))
     }
 }

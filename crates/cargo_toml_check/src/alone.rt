@@ -4,6 +4,7 @@ ghost use Rattle.toml.specs.{Data.member, Data.no_members, Data.string, View.tab
 ghost use Rattle.cargo_toml.specs.Writes.{put_member};
 ghost use Rattle.cargo_toml_check.specs.Alone.{alone, beside, emptied, next, part_of, table_at};
 
+use cargo_toml_lint::AllocResult;
 use cargo_toml_write::write;
 use std::alloc::{AllocError, Global};
 use toml::{Table, Value};
@@ -39,12 +40,7 @@ pub enum Around {
 /// The part of a manifest at this path in a tree of its own, in which it stands at the same path.
 /// An item is the first there. Around it is nothing but what has to stand there: a package has a
 /// name, and a lint a level.
-pub fn alone(
-    alloc: Global,
-    around: Around,
-    path: &[Step<'_>],
-    part: &Value,
-) -> Result<Value, AllocError>
+pub fn alone(alloc: Global, around: Around, path: &[Step<'_>], part: &Value) -> AllocResult<Value>
     ensures { IfOk result (λ v. view v ≡ alone around (map part_of path.now) (view part.now)) }
 {
     let Some((step, inner)) = path.split_first() else {
@@ -65,11 +61,7 @@ pub fn alone(
 }
 
 /// An array or a table at this path with nothing in it but what has to stand there.
-pub(crate) fn emptied(
-    alloc: Global,
-    path: &[Step<'_>],
-    part: &Value,
-) -> Result<Option<Value>, AllocError>
+pub(crate) fn emptied(alloc: Global, path: &[Step<'_>], part: &Value) -> AllocResult<Option<Value>>
     ensures { IfOk result (λ o. option_map view o
         ≡ emptied (map part_of path.now) (view part.now)) }
 {
@@ -111,7 +103,7 @@ fn next(around: Around, key: &str) -> Around
 }
 
 /// What has to stand in a table beside any part.
-fn beside(alloc: Global, around: Around) -> Result<Table, AllocError>
+fn beside(alloc: Global, around: Around) -> AllocResult<Table>
     ensures { IfOk result (λ t. table_view t ≡ beside around) }
 {
     match around {
@@ -122,7 +114,7 @@ fn beside(alloc: Global, around: Around) -> Result<Table, AllocError>
 }
 
 /// A table with this text alone.
-fn with_text(alloc: Global, key: &str, text: &str) -> Result<Table, AllocError>
+fn with_text(alloc: Global, key: &str, text: &str) -> AllocResult<Table>
     ensures { IfOk result
         (λ t. table_view t ≡ member key.now (string text.now) no_members) }
 {
@@ -133,7 +125,7 @@ fn with_text(alloc: Global, key: &str, text: &str) -> Result<Table, AllocError>
 }
 
 /// Puts a value at a key.
-fn put(table: &mut Table, alloc: Global, key: &str, value: Value) -> Result<(), AllocError>
+fn put(table: &mut Table, alloc: Global, key: &str, value: Value) -> AllocResult<()>
     ensures { OnOk result (table_view table.new
         ≡ put_member key.now (view value) (table_view table.old)) }
 {

@@ -7,6 +7,7 @@ ghost use Rattle.cargo_toml_check.specs.FromFiles.{IsChecked};
 use crate::places::{Paths, Place, path_text, place_in, places};
 use crate::search::{Fault, faults};
 use cargo_toml::Error;
+use cargo_toml_lint::AllocResult;
 use cargo_toml_tools::escape::{Escaped, Format, fault_line};
 use cargo_toml_tools::files::completed_of;
 use std::alloc::{AllocError, Global};
@@ -27,7 +28,7 @@ pub struct Told {
 
 /// What is at fault in a text: why it isn't TOML, or else each part that doesn't read. There is
 /// nothing just where the text reads as a manifest.
-pub fn faults_in(alloc: Global, text: &str) -> Result<Vec<Told>, AllocError>
+pub fn faults_in(alloc: Global, text: &str) -> AllocResult<Vec<Told>>
     ensures silent { IfOk result (λ v. v.items ≡ []
         ↔ IsSome (document_reads (manifest_reads any_tree) (parse_document text.now))) }
 {
@@ -55,7 +56,7 @@ pub fn check_lines<R: Files + AllocGlobal>(
     name: &str,
     path: &str,
     text: &str,
-) -> Result<(String, bool), AllocError>
+) -> AllocResult<(String, bool)>
     ensures { IfOk result (λ told. IsChecked path.now text.now told.1) }
 {
     match completed_of(rt, path, text) {
@@ -66,7 +67,7 @@ pub fn check_lines<R: Files + AllocGlobal>(
 }
 
 /// The lines that tell what is at fault in a text, or else this fault, at its beginning.
-fn lines_of(alloc: Global, file: &str, text: &str, fault: &Error) -> Result<String, AllocError> {
+fn lines_of(alloc: Global, file: &str, text: &str, fault: &Error) -> AllocResult<String> {
     let mut all = faults_in(alloc, text)?;
     if all.is_empty() {
         all.push(Told {
@@ -80,12 +81,7 @@ fn lines_of(alloc: Global, file: &str, text: &str, fault: &Error) -> Result<Stri
 
 /// The lines that tell why the text of a file is refused: what is at fault in it, or else one line
 /// with these words.
-pub fn refusal_lines(
-    alloc: Global,
-    file: &str,
-    text: &str,
-    words: &str,
-) -> Result<String, AllocError> {
+pub fn refusal_lines(alloc: Global, file: &str, text: &str, words: &str) -> AllocResult<String> {
     let all = faults_in(alloc, text)?;
     if all.is_empty() {
         return fault_line(alloc, file, words);
@@ -93,7 +89,7 @@ pub fn refusal_lines(
     told_lines(alloc, file, all.as_slice())
 }
 
-fn told_lines(alloc: Global, file: &str, all: &[Told]) -> Result<String, AllocError> {
+fn told_lines(alloc: Global, file: &str, all: &[Told]) -> AllocResult<String> {
     let mut lines = String::new(alloc);
     for told in all {
         push_place(&mut lines, file, told.place)?;
@@ -107,13 +103,13 @@ fn told_lines(alloc: Global, file: &str, all: &[Told]) -> Result<String, AllocEr
 }
 
 /// Writes what a line begins with: a file, and a place in it.
-pub fn push_place(line: &mut String, file: &str, place: Place) -> Result<(), AllocError> {
+pub fn push_place(line: &mut String, file: &str, place: Place) -> AllocResult<()> {
     let file = Escaped(file, Format::Line);
     write!(line, "{file}:{}:{}: ", place.0, place.1)
 }
 
 /// These faults, each with its place.
-fn placed(alloc: Global, text: &str, faults: &[Fault<'_>]) -> Result<Vec<Told>, AllocError>
+fn placed(alloc: Global, text: &str, faults: &[Fault<'_>]) -> AllocResult<Vec<Told>>
     ensures { IfOk result (λ v. length v.items ≡ length faults.now) }
 {
     let mut wanted = Paths::new(alloc);

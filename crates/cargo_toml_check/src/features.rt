@@ -11,9 +11,10 @@ use cargo_toml::features::{DepAction, Feature, Features};
 use cargo_toml::{FeatureSet, Manifest, Target, TargetDepsSet};
 use cargo_toml_features::admit::MAX_ITEMS;
 use cargo_toml_features::texts::keys_in_order;
+use cargo_toml_lint::AllocResult;
 use cargo_toml_tools::json::{array, put_text};
 use serde_json::{Map, Value, put};
-use std::alloc::{AllocError, Global};
+use std::alloc::Global;
 use std::collections::{BTreeMap, BTreeSet, HashMap};
 use std::hash::BuildHasher;
 
@@ -24,7 +25,7 @@ pub fn features_json<M, S: BuildHasher>(
     alloc: Global,
     manifest: &Manifest<M>,
     features: &Features<'_, '_, S>,
-) -> Result<Value, AllocError>
+) -> AllocResult<Value>
     ensures { IfOk result (λ v. IsListing (is_cut (held manifest.now)) features.now (view v)) }
 {
     let left = all_of(alloc, &features.features)?;
@@ -44,7 +45,7 @@ trait ToJson {
     // the value that it has
     ghost json: { Self → Data };
 
-    fn to_json(&self, alloc: Global) -> Result<Value, AllocError>
+    fn to_json(&self, alloc: Global) -> AllocResult<Value>
         ensures { IfOk result (λ v. view v ≡ json self.now) };
 }
 
@@ -52,7 +53,7 @@ trait ToJson {
 impl ToJson for BTreeSet<&str> {
     ghost json = { stands_for_json };
 
-    fn to_json(&self, alloc: Global) -> Result<Value, AllocError> {
+    fn to_json(&self, alloc: Global) -> AllocResult<Value> {
         let texts: Vec<&str> = self.iter().copied().collect(alloc)?;
         array(alloc, texts.as_slice())
     }
@@ -62,7 +63,7 @@ impl ToJson for BTreeSet<&str> {
 fn all_of<X: ToJson, S: BuildHasher>(
     alloc: Global,
     found: &HashMap<&str, X, S>,
-) -> Result<Value, AllocError>
+) -> AllocResult<Value>
     ensures { IfOk result (λ v. AreMembers X.json found.now (view v)) }
 {
     let names = keys_in_order(alloc, found)?;
@@ -78,7 +79,7 @@ fn put_one<X: ToJson, S: BuildHasher>(
     members: &mut Map<String, Value>,
     found: &HashMap<&str, X, S>,
     name: &str,
-) -> Result<(), AllocError>
+) -> AllocResult<()>
     ensures { OnOk result (members_view members.new.entries
         ≡ with_rows (row_at X.json found.now name.now) (members_view members.old.entries)) }
 {
@@ -91,7 +92,7 @@ fn put_one<X: ToJson, S: BuildHasher>(
 impl ToJson for Feature<'_> {
     ghost json = { feature_json };
 
-    fn to_json(&self, alloc: Global) -> Result<Value, AllocError> {
+    fn to_json(&self, alloc: Global) -> AllocResult<Value> {
         let names = self.enables_features.to_json(alloc)?;
         let dependencies = actions_json(alloc, &self.enables_deps)?;
         let enabled_by = self.enabled_by.to_json(alloc)?;
@@ -109,7 +110,7 @@ impl ToJson for Feature<'_> {
 }
 
 /// What a feature does to dependencies, by their keys.
-fn actions_json(alloc: Global, actions: &BTreeMap<&str, DepAction<'_>>) -> Result<Value, AllocError>
+fn actions_json(alloc: Global, actions: &BTreeMap<&str, DepAction<'_>>) -> AllocResult<Value>
     ensures { IfOk result (λ v. view v ≡ actions_json actions.now) }
 {
     let mut members = Map::new(alloc);
@@ -119,7 +120,7 @@ fn actions_json(alloc: Global, actions: &BTreeMap<&str, DepAction<'_>>) -> Resul
     Ok(Value::from(members))
 }
 
-fn action_json(alloc: Global, action: &DepAction<'_>) -> Result<Value, AllocError>
+fn action_json(alloc: Global, action: &DepAction<'_>) -> AllocResult<Value>
     ensures { IfOk result (λ v. view v ≡ action_json action.now) }
 {
     let features = action.dep_features.to_json(alloc)?;

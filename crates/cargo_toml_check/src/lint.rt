@@ -7,14 +7,14 @@ use crate::alone::Step;
 use crate::check::{faults_in, push_place};
 use crate::places::{Paths, Place, cut, places};
 use cargo_toml::{DepsSet, Error, Manifest, Product, Value};
-use cargo_toml_lint::{Code, Finding, Level};
+use cargo_toml_lint::{AllocResult, Code, Finding, Level};
 use cargo_toml_manifest::HeldManifest;
 use cargo_toml_tools::Judging;
 use cargo_toml_tools::escape::{Escaped, Format};
 use cargo_toml_tools::files::findings_of;
 use cargo_toml_tools::json::put_text;
 use serde_json::{Map, Value as Json, put};
-use std::alloc::{AllocError, Global};
+use std::alloc::Global;
 use std::collections::BTreeMap;
 use std::fmt::Write;
 use std::random::RandomSource;
@@ -73,7 +73,7 @@ fn allowed<'m>(
     alloc: Global,
     manifest: &'m Manifest,
     allowed: &[&'m str],
-) -> Result<Vec<Allowed<'m>>, AllocError> {
+) -> AllocResult<Vec<Allowed<'m>>> {
     let mut texts = Vec::from_slice(alloc, allowed)?;
     if let Some(Value::Array(items)) = own_allow(manifest) {
         texts.extend(items.iter().filter_map(|item| item.as_str()))?;
@@ -157,7 +157,7 @@ fn told<'m>(
     manifest: &'m Manifest,
     allowed: &[Allowed<'m>],
     findings: &[Finding<'m>],
-) -> Result<Vec<(Cells<'m>, Place)>, AllocError> {
+) -> AllocResult<Vec<(Cells<'m>, Place)>> {
     let mut keys = Keys {
         paths: Paths::new(alloc),
         owners: BTreeMap::new(alloc),
@@ -204,14 +204,14 @@ struct Keys<'m> {
 }
 
 impl<'m> Keys<'m> {
-    fn want(&mut self, owner: (Owner, &'m str), text: Option<&'m str>) -> Result<(), AllocError> {
+    fn want(&mut self, owner: (Owner, &'m str), text: Option<&'m str>) -> AllocResult<()> {
         let next = self.owners.len();
         let number = *self.owners.entry(owner)?.or_insert(next);
         self.wanted.insert((number, text), (0, 0))?;
         Ok(())
     }
 
-    fn add_all(&mut self, manifest: &'m Manifest) -> Result<(), AllocError> {
+    fn add_all(&mut self, manifest: &'m Manifest) -> AllocResult<()> {
         let path = self.paths.step(0, Step::Key("features"))?;
         for (name, texts) in &manifest.features {
             let name = name.as_str();
@@ -232,7 +232,7 @@ impl<'m> Keys<'m> {
         self.add_products("bench", manifest.bench.as_slice())
     }
 
-    fn add_tables(&mut self, above: usize, tables: [&'m DepsSet; 3]) -> Result<(), AllocError> {
+    fn add_tables(&mut self, above: usize, tables: [&'m DepsSet; 3]) -> AllocResult<()> {
         // Cargo reads these up to edition 2021 alone
         for name in &["build_dependencies", "dev_dependencies"] {
             let path = self.paths.step(above, Step::Key(*name))?;
@@ -257,11 +257,7 @@ impl<'m> Keys<'m> {
         Ok(())
     }
 
-    fn add_products(
-        &mut self,
-        kind: &'static str,
-        products: &'m [Product],
-    ) -> Result<(), AllocError> {
+    fn add_products(&mut self, kind: &'static str, products: &'m [Product]) -> AllocResult<()> {
         let path = self.paths.step(0, Step::Key(kind))?;
         for (index, product) in products.iter().enumerate() {
             let name = product.name.as_deref().unwrap_or("");
@@ -280,7 +276,7 @@ impl<'m> Keys<'m> {
         at: (usize, Step<'m>),
         list: &'static str,
         texts: &'m [String],
-    ) -> Result<(), AllocError> {
+    ) -> AllocResult<()> {
         let Some(owner) = self.owners.get(&owner).copied() else {
             return Ok(());
         };
@@ -320,7 +316,7 @@ impl<'m> Keys<'m> {
     }
 }
 
-fn unreadable(alloc: Global, file: &str, text: &str, json: bool) -> Result<String, AllocError> {
+fn unreadable(alloc: Global, file: &str, text: &str, json: bool) -> AllocResult<String> {
     let mut lines = String::new(alloc);
     for told in &faults_in(alloc, text)? {
         let words = told.words.as_str().trim_end();
@@ -338,7 +334,7 @@ fn push_line(
     place: Place,
     cells: Cells<'_>,
     json: bool,
-) -> Result<(), AllocError> {
+) -> AllocResult<()> {
     let (level, code, feature, text, words) = cells;
     let feature = cut(alloc, feature)?;
     let text = cut(alloc, text)?;

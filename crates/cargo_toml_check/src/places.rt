@@ -1,5 +1,6 @@
 //! Where the keys of a manifest stand in its text.
 use crate::alone::Step;
+use cargo_toml_lint::AllocResult;
 use cargo_toml_tools::escape::{Format, push_escaped};
 use std::alloc::{AllocError, Global};
 use std::collections::BTreeMap;
@@ -16,7 +17,7 @@ const MAX_NAME: usize = 200;
 
 /// A path as a text that is cut: keys with dots between them, those that aren't bare between
 /// quotes, and the numbers of items between brackets.
-pub fn path_text(alloc: Global, path: &[Step<'_>]) -> Result<String, AllocError> {
+pub fn path_text(alloc: Global, path: &[Step<'_>]) -> AllocResult<String> {
     let mut text = String::new(alloc);
     for step in path {
         match step {
@@ -28,7 +29,7 @@ pub fn path_text(alloc: Global, path: &[Step<'_>]) -> Result<String, AllocError>
 }
 
 /// What a line has of a text: its beginning, and `..` in place of the rest.
-pub fn cut(alloc: Global, text: &str) -> Result<String, AllocError> {
+pub fn cut(alloc: Global, text: &str) -> AllocResult<String> {
     let end = text.floor_char_boundary(MAX_NAME);
     let rest = if end < text.len() { ".." } else { "" };
     format!(in alloc; "{}{rest}", text.get(..end).unwrap_or(text))
@@ -59,7 +60,7 @@ impl Paths {
     }
 
     /// The path of these steps.
-    pub fn of(&mut self, steps: &[Step<'_>]) -> Result<usize, AllocError> {
+    pub fn of(&mut self, steps: &[Step<'_>]) -> AllocResult<usize> {
         let mut path = 0;
         for step in steps {
             path = self.step(path, *step)?;
@@ -68,7 +69,7 @@ impl Paths {
     }
 
     /// The path that a step leads to from another one.
-    pub fn step(&mut self, above: usize, step: Step<'_>) -> Result<usize, AllocError> {
+    pub fn step(&mut self, above: usize, step: Step<'_>) -> AllocResult<usize> {
         let held = match step {
             Step::Key(key) => Held::Key(String::from_str(self.alloc, key)?),
             Step::Item(index) => Held::Item(index),
@@ -79,11 +80,7 @@ impl Paths {
 }
 
 /// The places where these paths are first mentioned in the text of a document.
-pub fn places(
-    alloc: Global,
-    text: &str,
-    wanted: &Paths,
-) -> Result<BTreeMap<usize, Place>, AllocError> {
+pub fn places(alloc: Global, text: &str, wanted: &Paths) -> AllocResult<BTreeMap<usize, Place>> {
     let at = start_of(text);
     let mut walk = Walk {
         alloc,
@@ -129,7 +126,7 @@ fn start_of(text: &str) -> usize {
 }
 
 /// Adds a key to a path, or so much of it that the path is cut there.
-fn push_key(text: &mut String, key: &str) -> Result<(), AllocError> {
+fn push_key(text: &mut String, key: &str) -> AllocResult<()> {
     let end = key.floor_char_boundary(MAX_NAME.saturating_add(4));
     let key = key.get(..end).unwrap_or(key);
     if !text.is_empty() {
@@ -150,7 +147,7 @@ fn push_key(text: &mut String, key: &str) -> Result<(), AllocError> {
 
 /// What is behind the plain value that a text begins with. As the document reads, a fault is one of
 /// memory.
-fn after_plain(alloc: Global, text: &str) -> Result<&str, AllocError> {
+fn after_plain(alloc: Global, text: &str) -> AllocResult<&str> {
     let rest = if starts_string(text) {
         quoted(alloc, text).map(|(_, rest)| rest)
     } else {
@@ -202,7 +199,7 @@ impl<'t> Walk<'t> {
         self.at = self.text.len().saturating_sub(rest.len());
     }
 
-    fn document(&mut self) -> Result<(), AllocError> {
+    fn document(&mut self) -> AllocResult<()> {
         let mut section = Some(0);
         for _ in 0..self.text.len() {
             self.go_to(skip_blank(self.rest(), true));
@@ -226,7 +223,7 @@ impl<'t> Walk<'t> {
 
     /// A key below this path; the path that it leads to is answered. A part that stands for an
     /// array of tables leads to its last table, and to a new one at the end of a header of one.
-    fn key(&mut self, above: Option<usize>, is_item: bool) -> Result<Option<usize>, AllocError> {
+    fn key(&mut self, above: Option<usize>, is_item: bool) -> AllocResult<Option<usize>> {
         let mut path = above;
         for _ in 0..self.text.len() {
             let start = self.at;
@@ -249,7 +246,7 @@ impl<'t> Walk<'t> {
         path: Option<usize>,
         is_new: bool,
         at: usize,
-    ) -> Result<Option<usize>, AllocError> {
+    ) -> AllocResult<Option<usize>> {
         let Some(array) = path else {
             return Ok(None);
         };
@@ -266,12 +263,7 @@ impl<'t> Walk<'t> {
     }
 
     /// The path that a step leads to, which is mentioned at this index. None is none of the wanted.
-    fn step(
-        &mut self,
-        above: Option<usize>,
-        step: Held,
-        at: usize,
-    ) -> Result<Option<usize>, AllocError> {
+    fn step(&mut self, above: Option<usize>, step: Held, at: usize) -> AllocResult<Option<usize>> {
         let Some(above) = above else {
             return Ok(None);
         };
@@ -285,7 +277,7 @@ impl<'t> Walk<'t> {
         Ok(path)
     }
 
-    fn key_part(&mut self) -> Result<String, AllocError> {
+    fn key_part(&mut self) -> AllocResult<String> {
         let rest = self.rest();
         if starts_string(rest) {
             let (part, rest) = quoted(self.alloc, rest).map_err(|_| AllocError)?;
@@ -298,7 +290,7 @@ impl<'t> Walk<'t> {
     }
 
     /// A value, and all that stands in it.
-    fn value(&mut self, path: Option<usize>) -> Result<(), AllocError> {
+    fn value(&mut self, path: Option<usize>) -> AllocResult<()> {
         self.begin(path)?;
         for _ in 0..self.text.len() {
             let Some(open) = self.open.pop() else {
@@ -318,7 +310,7 @@ impl<'t> Walk<'t> {
     }
 
     /// The next part of an array or an inline table.
-    fn part(&mut self, open: Open) -> Result<(), AllocError> {
+    fn part(&mut self, open: Open) -> AllocResult<()> {
         let Some(index) = open.index else {
             self.open.push(open)?;
             let path = self.key(open.path, false)?;
@@ -332,7 +324,7 @@ impl<'t> Walk<'t> {
     }
 
     /// A whole plain value, or the beginning of an array or of an inline table.
-    fn begin(&mut self, path: Option<usize>) -> Result<(), AllocError> {
+    fn begin(&mut self, path: Option<usize>) -> AllocResult<()> {
         let index = match self.byte() {
             b'[' => Some(0),
             b'{' => None,

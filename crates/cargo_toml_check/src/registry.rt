@@ -1,7 +1,8 @@
 //! The files of a registry's index.
+use cargo_toml_lint::AllocResult;
 use cargo_toml_tools::files::Indexed;
 use cargo_toml_tools::is_checksum;
-use std::alloc::{AllocError, Global};
+use std::alloc::Global;
 use std::collections::BTreeMap;
 use std::io::ErrorKind;
 use std::rt::Files;
@@ -10,10 +11,7 @@ use toml_parser::bytes::is_bare;
 
 /// The SHA-256 of each of these files by its name, as lines of `sha256sum` have it. A line that
 /// doesn't begin with one as an index writes it is passed over.
-pub fn checksums<'t>(
-    alloc: Global,
-    lines: &'t str,
-) -> Result<BTreeMap<&'t str, &'t str>, AllocError> {
+pub fn checksums<'t>(alloc: Global, lines: &'t str) -> AllocResult<BTreeMap<&'t str, &'t str>> {
     let mut all = BTreeMap::new(alloc);
     for line in lines.lines() {
         let (sum, path) = line.split_once(' ').unwrap_or(("", ""));
@@ -78,7 +76,7 @@ fn replace<R: Files + AllocGlobal>(
 }
 
 /// The folder in which an index has the file of a crate, and the name of the file.
-fn place_of(alloc: Global, folder: &str, name: &str) -> Result<(String, String), AllocError> {
+fn place_of(alloc: Global, folder: &str, name: &str) -> AllocResult<(String, String)> {
     let name = name.to_ascii_lowercase(alloc)?;
     let text = name.as_str();
     let above = match text.len() {

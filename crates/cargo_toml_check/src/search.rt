@@ -7,6 +7,7 @@ ghost use Rattle.cargo_toml_check.specs.Blamed.{inner_paths, is_deep, path_of, r
 
 use crate::alone::{Around, Step, alone, emptied};
 use cargo_toml::Error;
+use cargo_toml_lint::AllocResult;
 use cargo_toml_manifest::HeldManifest;
 use std::alloc::{AllocError, Global};
 use toml::value::Array;
@@ -24,7 +25,7 @@ pub struct Fault<'t> {
 /// The parts of a manifest that are at fault: each that doesn't read by itself, unless it does so
 /// emptied, and parts in it are at fault in its place. They stand in the order of their paths, none
 /// of which has over 33 parts. There is none just where the manifest reads.
-pub fn faults(alloc: Global, tree: &Value) -> Result<Vec<Fault<'_>>, AllocError>
+pub fn faults(alloc: Global, tree: &Value) -> AllocResult<Vec<Fault<'_>>>
     ensures found { IfOk result (λ v. map path_of v.items ≡ blamed [] (view tree.now)) }
     ensures silent { IfOk result (λ v. v.items ≡ [] ↔ IsSome (reads (view tree.now))) }
 {
@@ -41,7 +42,7 @@ fn blame<'t>(
     path: &mut Vec<Step<'t>>,
     part: &'t Value,
     found: &mut Vec<Fault<'t>>,
-) -> Result<(), AllocError>
+) -> AllocResult<()>
     ensures stays { OnOk result (path.new.items ≡ path.old.items) }
     ensures found { OnOk result (map path_of found.new.items ≡ map path_of found.old.items
         ++ blamed (map part_of path.old.items) (view part.now)) }
@@ -68,7 +69,7 @@ fn blame_parts<'t>(
     path: &mut Vec<Step<'t>>,
     part: &'t Value,
     found: &mut Vec<Fault<'t>>,
-) -> Result<(), AllocError>
+) -> AllocResult<()>
     ensures stays { OnOk result (path.new.items ≡ path.old.items) }
     ensures found { OnOk result (map path_of found.new.items ≡ map path_of found.old.items
         ++ inner_paths (map part_of path.old.items) (view part.now)
@@ -96,7 +97,7 @@ fn blame_items<'t>(
     path: &mut Vec<Step<'t>>,
     array: &'t Array,
     found: &mut Vec<Fault<'t>>,
-) -> Result<(), AllocError>
+) -> AllocResult<()>
     ensures stays { OnOk result (path.new.items ≡ path.old.items) }
     ensures found { OnOk result (map path_of found.new.items ≡ map path_of found.old.items
         ++ blamed_items (map part_of path.old.items) 0 (array_view array.now)) }
@@ -115,7 +116,7 @@ fn blame_members<'t>(
     path: &mut Vec<Step<'t>>,
     table: &'t Table,
     found: &mut Vec<Fault<'t>>,
-) -> Result<(), AllocError>
+) -> AllocResult<()>
     ensures stays { OnOk result (path.new.items ≡ path.old.items) }
     ensures found { OnOk result (map path_of found.new.items ≡ map path_of found.old.items
         ++ blamed_members (map part_of path.old.items) (table_view table.now)) }
@@ -138,7 +139,7 @@ fn is_deep(path: &[Step<'_>]) -> bool
 }
 
 /// Why the part at this path doesn't read by itself, if it doesn't.
-fn refusal(alloc: Global, path: &[Step<'_>], part: &Value) -> Result<Option<Error>, AllocError>
+fn refusal(alloc: Global, path: &[Step<'_>], part: &Value) -> AllocResult<Option<Error>>
     ensures { IfOk result (λ o. is_none o
         ≡ is_some (reads_alone (map part_of path.now) (view part.now))) }
 {

@@ -8,9 +8,10 @@ ghost use Rattle.cargo_toml_check.specs.{Blamed.reads, Shown.IsShown, Shown.json
 ghost use Rattle.serde_json.specs.View.{view as json_view};
 
 use cargo_toml::{Error, Manifest, ToValue};
+use cargo_toml_lint::AllocResult;
 use cargo_toml_write::write::package::value_metadata;
 use serde_json::{Map, Value as Json, push, put};
-use std::alloc::{AllocError, Global};
+use std::alloc::Global;
 use toml::value::Array;
 use toml::{Table, Value, ser};
 
@@ -54,7 +55,7 @@ fn tree_of(alloc: Global, manifest: &Manifest) -> Result<Table, Error>
 }
 
 #[cycle(json)]
-fn json_of(alloc: Global, value: &Value) -> Result<Json, AllocError>
+fn json_of(alloc: Global, value: &Value) -> AllocResult<Json>
     ensures { IfOk result (λ j. json_view j ≡ json_of (view value.now)) }
 {
     match value {
@@ -69,7 +70,7 @@ fn json_of(alloc: Global, value: &Value) -> Result<Json, AllocError>
 }
 
 #[cycle(json)]
-fn array_of(alloc: Global, list: &Array) -> Result<Json, AllocError>
+fn array_of(alloc: Global, list: &Array) -> AllocResult<Json>
     ensures { IfOk result (λ j. json_view j ≡ array (json_items (array_view list.now))) }
 {
     let mut items = Vec::new(alloc);
@@ -80,7 +81,7 @@ fn array_of(alloc: Global, list: &Array) -> Result<Json, AllocError>
 }
 
 #[cycle(json)]
-fn object_of(alloc: Global, tree: &Table) -> Result<Json, AllocError>
+fn object_of(alloc: Global, tree: &Table) -> AllocResult<Json>
     ensures { IfOk result (λ j. json_view j ≡ object (with_json (table_view tree.now) no_members)) }
 {
     let mut members = Map::new(alloc);

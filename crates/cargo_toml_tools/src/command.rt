@@ -1,7 +1,8 @@
 //! The command line as `clap` has it.
+use cargo_toml_lint::AllocResult;
 use clap::builder::ValueParser;
 use clap::{Arg, ArgAction, Command};
-use std::alloc::{AllocError, Global};
+use std::alloc::Global;
 
 const STATUSES: &str = "Statuses: 0 all is well; 1 a file can't be read or is refused, or the \
     output can't be written; 2 no command; 3 check, lint or audit found something. 1 outranks 3.";
@@ -46,7 +47,7 @@ const TOOLS: [&[&str]; 7] = [
 ];
 
 /// The command line of the program.
-pub(crate) fn command<'a>(alloc: Global) -> Result<Command<'a>, AllocError> {
+pub(crate) fn command<'a>(alloc: Global) -> AllocResult<Command<'a>> {
     let mut command = Command::new(alloc, "cargo-toml-tools")
         .bin_name("cargo-toml-tools")?
         .about("Tools over the manifests of Cargo")
@@ -59,7 +60,7 @@ pub(crate) fn command<'a>(alloc: Global) -> Result<Command<'a>, AllocError> {
     Ok(command)
 }
 
-fn tool<'a>(alloc: Global, lines: &'a [&'a str]) -> Result<Command<'a>, AllocError> {
+fn tool<'a>(alloc: Global, lines: &'a [&'a str]) -> AllocResult<Command<'a>> {
     let (name, about) = parts(lines.first().copied().unwrap_or(""));
     let mut tool = Command::new(alloc, name).about(about).after_help(STATUSES);
     for line in lines.iter().skip(1) {
@@ -81,7 +82,7 @@ fn parts(line: &str) -> (&str, &str) {
 }
 
 /// The option of a line of a tool. JSON is the only form of `features`.
-fn option<'a>(alloc: Global, tool: &str, line: &'a str) -> Result<Arg<'a>, AllocError> {
+fn option<'a>(alloc: Global, tool: &str, line: &'a str) -> AllocResult<Arg<'a>> {
     let (form, help) = parts(line);
     let (name, value) = form.split_once(' ').unwrap_or((form, ""));
     let option = Arg::new(alloc, name).long(name).help(help);
@@ -100,7 +101,7 @@ fn option<'a>(alloc: Global, tool: &str, line: &'a str) -> Result<Arg<'a>, Alloc
     }
 }
 
-fn files<'a>(alloc: Global, tool: &str) -> Result<Arg<'a>, AllocError> {
+fn files<'a>(alloc: Global, tool: &str) -> AllocResult<Arg<'a>> {
     let files = Arg::new(alloc, "files")
         .value_name("FILE")
         .value_parser(ValueParser::NonEmptyString)

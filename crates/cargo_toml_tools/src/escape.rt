@@ -2,7 +2,8 @@
 //!
 //! No name can end the line that it stands in, or close what stands around it.
 
-use std::alloc::{AllocError, Global};
+use cargo_toml_lint::AllocResult;
+use std::alloc::Global;
 use std::fmt;
 use std::fmt::Write;
 
@@ -45,7 +46,7 @@ impl fmt::Display for Code<'_> {
 }
 
 /// Adds a text in this format to a line.
-pub fn push_escaped(text: &mut String, words: &str, format: Format) -> Result<(), AllocError> {
+pub fn push_escaped(text: &mut String, words: &str, format: Format) -> AllocResult<()> {
     write!(text, "{}", Escaped(words, format))
 }
 
@@ -55,7 +56,7 @@ pub fn comma_before(place: usize) -> &'static str {
 }
 
 /// The line that tells why a file is refused.
-pub fn fault_line(alloc: Global, file: &str, words: &str) -> Result<String, AllocError> {
+pub fn fault_line(alloc: Global, file: &str, words: &str) -> AllocResult<String> {
     let file = Escaped(file, Format::Line);
     let words = Escaped(words.trim_end(), Format::Line);
     format!(in alloc; "error: {file}: {words}\n")

@@ -21,7 +21,7 @@ mod sections;
 
 use crate::json::{put_text, put_text_if};
 use cargo_toml::{FeatureSet, Inheritable, Manifest, Package, SemVer};
-use cargo_toml_lint::Finding;
+use cargo_toml_lint::{AllocResult, Finding};
 use entry::entries;
 use features::put_features;
 pub use refusals::Fault;
@@ -124,7 +124,7 @@ pub fn index_entry<M>(
 }
 
 /// The document that a text is, and an empty one where it is none.
-fn document_of(alloc: Global, text: &str) -> Result<Table, AllocError>
+fn document_of(alloc: Global, text: &str) -> AllocResult<Table>
     ensures { IfOk result (λ table. table_view table ≡ written text.now) }
 {
     match toml::table_from_str(alloc, text) {
@@ -149,7 +149,7 @@ fn line_of<M>(
     sections: &[Section<'_>],
     features: &FeatureSet,
     options: Options<'_>,
-) -> Result<Value, AllocError>
+) -> AllocResult<Value>
     ensures { IfOk result (λ value. view value ≡ line_data (wanted_of options.entry)
         (map table_of sections.now) (lists_meaning features.now)
         (held_package «package».now)) }
@@ -169,7 +169,7 @@ fn line_of<M>(
     Ok(Value::from(line))
 }
 
-fn version_text(alloc: Global, version: &Inheritable<SemVer>) -> Result<Option<String>, AllocError>
+fn version_text(alloc: Global, version: &Inheritable<SemVer>) -> AllocResult<Option<String>>
     ensures { IfOk result (λ text. option_map string_bytes text
         ≡ option_map parts_text (value_of (inheritable_map parts_of version.now))) }
 {

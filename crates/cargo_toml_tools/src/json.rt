@@ -4,8 +4,9 @@ ghost use Rattle.std.specs.Option.{option_copied};
 ghost use Rattle.serde_json.specs.{Data.put as with_member, View.members_view, View.view};
 ghost use Rattle.cargo_toml_tools.specs.IndexEntries.{rows_if, text_array, text_or_null, with_rows};
 
+use cargo_toml_lint::AllocResult;
 use serde_json::{Map, Value, push, put};
-use std::alloc::{AllocError, Global};
+use std::alloc::Global;
 
 /// Puts a text under a key, or `null` where there is none.
 pub fn put_text(
@@ -13,7 +14,7 @@ pub fn put_text(
     object: &mut Map<String, Value>,
     key: &str,
     text: Option<&str>,
-) -> Result<(), AllocError>
+) -> AllocResult<()>
     ensures { OnOk result (members_view object.new.entries
         ≡ with_member key.now (text_or_null (option_copied text.entry))
         (members_view object.old.entries)) }
@@ -31,7 +32,7 @@ pub fn put_text_if(
     object: &mut Map<String, Value>,
     key: &str,
     text: Option<&str>,
-) -> Result<(), AllocError>
+) -> AllocResult<()>
     ensures { OnOk result (members_view object.new.entries
         ≡ with_rows (rows_if key.now (option_copied text.entry))
         (members_view object.old.entries)) }
@@ -48,7 +49,7 @@ pub fn put_texts(
     object: &mut Map<String, Value>,
     key: &str,
     texts: &[String],
-) -> Result<(), AllocError>
+) -> AllocResult<()>
     ensures { OnOk result (members_view object.new.entries
         ≡ with_member key.now (text_array (map string_bytes texts.now))
         (members_view object.old.entries)) }
@@ -61,7 +62,7 @@ pub fn put_texts(
 }
 
 /// A list of texts.
-pub fn array(alloc: Global, texts: &[&str]) -> Result<Value, AllocError>
+pub fn array(alloc: Global, texts: &[&str]) -> AllocResult<Value>
     ensures { IfOk result (λ v. view v ≡ text_array (map (λ t. t.now) texts.now)) }
 {
     let mut items = Vec::new(alloc);

@@ -4,6 +4,7 @@ ghost use Rattle.cargo_toml_tools.specs.Asked.{IsOfOneFile, exit_status};
 
 use crate::command::command;
 use crate::index::{CRATES_IO, Named, Options};
+use cargo_toml_lint::AllocResult;
 use clap::ArgMatches;
 use clap::error::ErrorKind;
 use std::alloc::{AllocError, Global};
@@ -113,7 +114,7 @@ impl Outcome {
 
 /// What these words ask for, of which the first is the program's own name. Behind it may stand the
 /// word that Cargo hands on, `toml-tools`. A checksum is that of the only file.
-pub fn read_request<'a>(alloc: Global, words: &'a [String]) -> Result<Request<'a>, AllocError>
+pub fn read_request<'a>(alloc: Global, words: &'a [String]) -> AllocResult<Request<'a>>
     ensures { IfOk result IsOfOneFile }
 {
     match command(alloc)?.try_get_matches_from(own_words(words)) {
@@ -136,7 +137,7 @@ fn own_words(words: &[String]) -> &[String] {
     }
 }
 
-fn request_of<'a>(alloc: Global, matches: &ArgMatches<'a>) -> Result<Request<'a>, AllocError>
+fn request_of<'a>(alloc: Global, matches: &ArgMatches<'a>) -> AllocResult<Request<'a>>
     ensures { IfOk result IsOfOneFile }
 {
     let Some((name, matches)) = matches.subcommand() else {
@@ -171,7 +172,7 @@ fn is_read_twice(inputs: &Inputs<'_>, sums: Option<&str>) -> bool {
     files > 1 || (files == 1 && (list || sums)) || (list && sums)
 }
 
-fn refused<'a>(alloc: Global, words: &str) -> Result<Request<'a>, AllocError>
+fn refused<'a>(alloc: Global, words: &str) -> AllocResult<Request<'a>>
     ensures { IfOk result IsOfOneFile }
 {
     Ok(Request::NoCommand(format!(in alloc; "error: {words}\n")?))
@@ -182,7 +183,7 @@ fn index<'a>(
     alloc: Global,
     matches: &ArgMatches<'a>,
     inputs: Inputs<'a>,
-) -> Result<Request<'a>, AllocError>
+) -> AllocResult<Request<'a>>
     ensures { IfOk result IsOfOneFile }
 {
     let mut names = Vec::new(alloc);
@@ -212,7 +213,7 @@ fn index<'a>(
     Ok(Request::Index(inputs, wanted))
 }
 
-fn judging_of<'a>(alloc: Global, matches: &ArgMatches<'a>) -> Result<Judging<'a>, AllocError> {
+fn judging_of<'a>(alloc: Global, matches: &ArgMatches<'a>) -> AllocResult<Judging<'a>> {
     Ok(Judging {
         json: matches.get_flag("json"),
         allowed: strings(alloc, matches, "allow")?,
@@ -220,11 +221,7 @@ fn judging_of<'a>(alloc: Global, matches: &ArgMatches<'a>) -> Result<Judging<'a>
     })
 }
 
-fn strings<'a>(
-    alloc: Global,
-    matches: &ArgMatches<'a>,
-    name: &str,
-) -> Result<Vec<&'a str>, AllocError> {
+fn strings<'a>(alloc: Global, matches: &ArgMatches<'a>, name: &str) -> AllocResult<Vec<&'a str>> {
     Vec::from_slice(alloc, matches.get_strs(name).unwrap_or(&[]))
 }
 

@@ -4,8 +4,8 @@ use super::listing::is_private;
 use crate::escape::{Escaped, Format, comma_before};
 use cargo_toml::Manifest;
 use cargo_toml::features::{Feature, Features};
-use cargo_toml_lint::Links;
-use std::alloc::{AllocError, Global};
+use cargo_toml_lint::{AllocResult, Links};
+use std::alloc::Global;
 use std::collections::BTreeSet;
 use std::fmt::Write;
 use std::hash::BuildHasher;
@@ -19,7 +19,7 @@ pub fn graph<M, S: BuildHasher>(
     alloc: Global,
     manifest: &Manifest<M>,
     resolved: &Features<'_, '_, S>,
-) -> Result<String, AllocError> {
+) -> AllocResult<String> {
     let links = Links::new(alloc, manifest, &resolved.features)?;
     let mut graph = String::new(alloc);
     graph.push_str("digraph {\n    rankdir=LR;\n")?;
@@ -56,12 +56,12 @@ fn style_of(feature: &Feature<'_>) -> &'static str {
 }
 
 /// A node, whose name begins with its kind: a feature and a dependency may have one name.
-fn push_node(graph: &mut String, kind: &str, name: &str, style: &str) -> Result<(), AllocError> {
+fn push_node(graph: &mut String, kind: &str, name: &str, style: &str) -> AllocResult<()> {
     let name = Escaped(name, Format::Dot);
     writeln!(graph, "    \"{kind}:{name}\" [label=\"{name}\", {style}];")
 }
 
-fn push_edge(graph: &mut String, from: &str, kind: &str, to: &str) -> Result<(), AllocError> {
+fn push_edge(graph: &mut String, from: &str, kind: &str, to: &str) -> AllocResult<()> {
     let from = Escaped(from, Format::Dot);
     let to = Escaped(to, Format::Dot);
     write!(graph, "    \"feature:{from}\" -> \"{kind}:{to}\"")
@@ -73,7 +73,7 @@ fn push_feature_edges(
     feature: &Feature<'_>,
     links: &Links<'_>,
     place: usize,
-) -> Result<(), AllocError> {
+) -> AllocResult<()> {
     let mut targets = BTreeSet::new(*graph.allocator());
     for other in links.next(place) {
         if let Some(name) = links.names.get(*other) {
@@ -89,7 +89,7 @@ fn push_feature_edges(
 
 /// The edges from a feature to what it acts on, each with what is asked for, and whether that is
 /// conditional.
-fn push_dependency_edges(graph: &mut String, feature: &Feature<'_>) -> Result<(), AllocError> {
+fn push_dependency_edges(graph: &mut String, feature: &Feature<'_>) -> AllocResult<()> {
     for (key, action) in &feature.enables_deps {
         push_edge(graph, feature.key, "dependency", *key)?;
         graph.push_str(" [label=\"")?;

@@ -9,8 +9,8 @@ ghost use Rattle.cargo_toml_tools.specs.Documented.{AreRowsOf, IsOn, IsRowOf, is
 use super::reached::{Reached, reach};
 use cargo_toml::Manifest;
 use cargo_toml::features::Feature;
-use cargo_toml_lint::{FeatureMap, Links};
-use std::alloc::{AllocError, Global};
+use cargo_toml_lint::{AllocResult, FeatureMap, Links};
+use std::alloc::Global;
 use std::collections::BTreeSet;
 use std::hash::BuildHasher;
 
@@ -39,7 +39,7 @@ pub trait TakesRows {
 
     /// Takes them all, in their order, and the name of the package. The one refusal is want of
     /// memory.
-    fn take(&mut self, name: Option<&str>, rows: &[Row<'_>]) -> Result<(), AllocError>
+    fn take(&mut self, name: Option<&str>, rows: &[Row<'_>]) -> AllocResult<()>
         ensures { OnOk result (took self.old rows.now self.new) };
 }
 
@@ -48,7 +48,7 @@ pub fn rows<'m, M, S: BuildHasher>(
     alloc: Global,
     manifest: &Manifest<M>,
     features: &FeatureMap<'m, S>,
-) -> Result<Vec<Row<'m>>, AllocError>
+) -> AllocResult<Vec<Row<'m>>>
     ensures { IfOk result (λ rows. IsKeyed features.now
         → AreRowsOf (held manifest.now) features.now rows.items) }
 {
@@ -70,7 +70,7 @@ fn row_of<'m, S: BuildHasher>(
     features: &FeatureMap<'m, S>,
     feature: &Feature<'m>,
     defaults: &BTreeSet<&str>,
-) -> Result<Row<'m>, AllocError>
+) -> AllocResult<Row<'m>>
     requires { AreFound links.now }
     ensures { IfOk result (λ row. (t : Table) → AreLinks t links.now
         → ((x : Text) → IsTrue (set_has defaults.now x)

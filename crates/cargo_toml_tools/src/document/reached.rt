@@ -7,9 +7,9 @@ ghost use Rattle.cargo_toml_tools.specs.Documented.{ActsOf, IsReachedFrom, is_be
 
 use super::listing::is_private;
 use cargo_toml::features::DepAction;
-use cargo_toml_lint::{FeatureMap, Links};
+use cargo_toml_lint::{AllocResult, FeatureMap, Links};
 use cargo_toml_resolve::joining::add_actions;
-use std::alloc::{AllocError, Global};
+use std::alloc::Global;
 use std::collections::{BTreeMap, BTreeSet};
 use std::hash::BuildHasher;
 
@@ -28,7 +28,7 @@ pub(crate) fn reach<'m, S: BuildHasher>(
     links: &Links<'m>,
     features: &FeatureMap<'m, S>,
     name: &str,
-) -> Result<Reached<'m>, AllocError>
+) -> AllocResult<Reached<'m>>
     requires { AreFound links.now }
     ensures { IfOk result (λ r. (t : Table) → AreLinks t links.now
         → IsReachedFrom t features.now name.now r) }
@@ -47,7 +47,7 @@ fn actions_of<'m, S: BuildHasher>(
     alloc: Global,
     features: &FeatureMap<'m, S>,
     names: &BTreeSet<&'m str>,
-) -> Result<BTreeMap<&'m str, DepAction<'m>>, AllocError>
+) -> AllocResult<BTreeMap<&'m str, DepAction<'m>>>
     ensures { IfOk result (λ actions. (k : Text)
         → IsJoin (ActsOf features.now (λ g. IsTrue (set_has names.now g)) k)
         (action_at actions k)) }

@@ -10,6 +10,7 @@ ghost use Rattle.cargo_toml_tools.specs.declared.files.indexing.Fault.TheVariant
 use super::reading::{completed_of, findings_of};
 use crate::index::{IndexError, Options, index_entry};
 use cargo_toml::{Error, Inheritable, Manifest};
+use cargo_toml_lint::AllocResult;
 use std::alloc::{AllocError, Global};
 use std::collections::BTreeMap;
 use std::fmt;
@@ -105,7 +106,7 @@ pub fn index_of<R: Files + RandomSource + AllocGlobal>(
 }
 
 /// The name of a crate.
-fn name_of(alloc: Global, manifest: &Manifest) -> Result<String, AllocError>
+fn name_of(alloc: Global, manifest: &Manifest) -> AllocResult<String>
     ensures { IfOk result (λ name. IfSome (name_of (held manifest.now))
         (λ n. n ≡ string_bytes name)) }
 {
@@ -120,7 +121,7 @@ fn sum_of<'s>(
     alloc: Global,
     manifest: &Manifest,
     sums: &BTreeMap<&str, &'s str>,
-) -> Result<Option<&'s str>, AllocError>
+) -> AllocResult<Option<&'s str>>
     ensures { IfOk result (λ sum. option_copied sum
         ≡ sum_of (sum_at sums.now) (held manifest.now)) }
 {

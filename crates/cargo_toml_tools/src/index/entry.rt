@@ -14,10 +14,11 @@ use crate::json::{put_text, put_text_if, put_texts};
 use crate::requirement::required_version;
 use cargo_toml::Dependency;
 use cargo_toml::features::Kind;
+use cargo_toml_lint::AllocResult;
 use cargo_toml_write::write::requirement::requirement_text;
 use semver::VersionReq;
 use serde_json::{Map, Value, push, put};
-use std::alloc::{AllocError, Global};
+use std::alloc::Global;
 use toml::Value as Written;
 
 /// The entries of all dependencies with a requirement on the version. One without, which an index
@@ -27,7 +28,7 @@ pub(super) fn entries(
     alloc: Global,
     options: Options<'_>,
     sections: &[Section<'_>],
-) -> Result<Vec<Value>, AllocError>
+) -> AllocResult<Vec<Value>>
     ensures { IfOk result (λ v. map view v.items
         ≡ flat_map (table_entries (wanted_of options.entry)) (map table_of sections.now)) }
 {
@@ -53,7 +54,7 @@ fn entry(
     key: &str,
     dependency: &Dependency,
     version: &VersionReq,
-) -> Result<Map<String, Value>, AllocError>
+) -> AllocResult<Map<String, Value>>
     ensures { IfOk result (λ entry. members_view entry.entries
         ≡ with_rows (index_rows (wanted_of options.entry) (table_of section.now)
         (key.now, dependency_meaning dependency.now) (requirement_meaning version.now))

@@ -12,8 +12,9 @@ ghost use Rattle.cargo_toml_tools.specs.Sections.{table_of};
 
 use cargo_toml::features::Kind;
 use cargo_toml::{DepsSet, Manifest, Target};
+use cargo_toml_lint::AllocResult;
 use cargo_toml_parts::read::member;
-use std::alloc::{AllocError, Global};
+use std::alloc::Global;
 use toml::{Table, Value};
 
 /// A table of dependencies.
@@ -34,7 +35,7 @@ pub(super) fn sections<'a, M>(
     alloc: Global,
     manifest: &'a Manifest<M>,
     document: &'a Table,
-) -> Result<Vec<Section<'a>>, AllocError>
+) -> AllocResult<Vec<Section<'a>>>
     ensures { IfOk result (λ all. map table_of all.items
         ≡ dependency_tables (table_view document.now) (held manifest.now)) }
 {
@@ -55,7 +56,7 @@ fn push_target<'a>(
     document: &'a Table,
     name: &'a str,
     target: &'a Target,
-) -> Result<(), AllocError>
+) -> AllocResult<()>
     ensures { OnOk result (map table_of all.new.items ≡ map table_of all.old.items
         ++ target_tables (table_view document.now) (name.now, target_meaning target.now)) }
 {

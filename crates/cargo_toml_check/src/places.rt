@@ -247,9 +247,7 @@ impl<'t> Walk<'t> {
         is_new: bool,
         at: usize,
     ) -> AllocResult<Option<usize>> {
-        let Some(array) = path else {
-            return Ok(None);
-        };
+        let Some(array) = path else { return Ok(None) };
         let mut last = self.last.get(&array).copied();
         if is_new {
             let next = last.map_or(0, |index| index.saturating_add(1));
@@ -264,9 +262,7 @@ impl<'t> Walk<'t> {
 
     /// The path that a step leads to, which is mentioned at this index. None is none of the wanted.
     fn step(&mut self, above: Option<usize>, step: Held, at: usize) -> AllocResult<Option<usize>> {
-        let Some(above) = above else {
-            return Ok(None);
-        };
+        let Some(above) = above else { return Ok(None) };
         let path = self.wanted.next.get(&(above, step)).copied();
         if let Some(path) = path {
             if !self.found.contains_key(&path) {

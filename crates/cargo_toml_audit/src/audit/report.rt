@@ -82,9 +82,7 @@ fn shown_findings(alloc: Global, audit: &Audit) -> AllocResult<BTreeSet<Finding>
             Code::SeveralRequirements => asked.remove(finding.subject.as_str()),
             _ => Some(finding.words.clone()?),
         };
-        let Some(words) = words else {
-            continue;
-        };
+        let Some(words) = words else { continue };
         let subject = if finding.code.is_of_place() {
             seen_from(alloc, audit.root.as_str(), finding.subject.as_str())?
         } else {

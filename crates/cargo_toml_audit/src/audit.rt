@@ -92,6 +92,12 @@ pub enum Code {
     WorkspaceWithin,
 }
 
+const IS_OPTIONAL: &str = "a dependency of the workspace can't be optional";
+
+const LEADS_AWAY: &str = "its `package.workspace` leads to another workspace";
+
+const IS_OUTSIDE: &str = "it lies outside the workspace's folder, and doesn't name the workspace";
+
 const HAS_TABLES: &str = "a workspace without a package has tables of packages";
 
 impl Code {
@@ -108,20 +114,11 @@ impl Code {
             Code::NoLints => ("no-lints", "it inherits lints, and the workspace has none"),
             Code::NoTarget => ("no-target", "it has no target"),
             Code::NotInherited => ("not-inherited", "a dependency has `workspace = false`"),
-            Code::OptionalShared => (
-                "optional-shared",
-                "a dependency of the workspace can't be optional",
-            ),
+            Code::OptionalShared => ("optional-shared", IS_OPTIONAL),
             Code::OtherEdition => ("other-edition", ""),
             Code::OtherLicense => ("other-license", ""),
-            Code::OtherWorkspace => (
-                "other-workspace",
-                "its `package.workspace` leads to another workspace",
-            ),
-            Code::Outside => (
-                "outside",
-                "it lies outside the workspace's folder, and doesn't name the workspace",
-            ),
+            Code::OtherWorkspace => ("other-workspace", LEADS_AWAY),
+            Code::Outside => ("outside", IS_OUTSIDE),
             Code::SameName => ("same-name", "two members have this name"),
             Code::SeveralRequirements => ("several-requirements", ""),
             Code::TwoWorkspaces => (

@@ -53,10 +53,8 @@ pub struct Paths {
 impl Paths {
     /// No paths.
     pub fn new(alloc: Global) -> Paths {
-        Paths {
-            alloc,
-            next: BTreeMap::new(alloc),
-        }
+        let next = BTreeMap::new(alloc);
+        Paths { alloc, next }
     }
 
     /// The path of these steps.
@@ -109,13 +107,12 @@ fn place_behind(text: &str, counted: &mut (usize, Place), at: usize) -> Place {
     let (before, (line, column)) = *counted;
     let since = text.get(before..at).unwrap_or("");
     let lines = since.bytes().filter(|byte| *byte == b'\n').count();
-    let place = match since.rsplit_once('\n') {
-        Some((_, last)) => (
-            line.saturating_add(lines),
-            last.chars().count().saturating_add(1),
-        ),
-        None => (line, column.saturating_add(since.chars().count())),
+    let (from, last) = match since.rsplit_once('\n') {
+        Some((_, last)) => (1, last),
+        None => (column, since),
     };
+    let columns = last.chars().count();
+    let place = (line.saturating_add(lines), from.saturating_add(columns));
     *counted = (at, place);
     place
 }
@@ -135,11 +132,8 @@ fn push_key(text: &mut String, key: &str) -> AllocResult<()> {
     if !key.is_empty() && key.bytes().all(is_bare) {
         return text.push_str(key);
     }
-    text.push_str("\"")?;
     for (place, piece) in key.split('"').enumerate() {
-        if place > 0 {
-            text.push_str("\\\"")?;
-        }
+        text.push_str(if place == 0 { "\"" } else { "\\\"" })?;
         push_escaped(text, piece, Format::Line)?;
     }
     text.push_str("\"")

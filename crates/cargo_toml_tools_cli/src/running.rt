@@ -232,19 +232,14 @@ fn made_of<R: Files + RandomSource + AllocGlobal>(
 ) -> Result<(String, bool), Error> {
     let path = path_of(rt, file)?;
     let path = path.as_str();
-    match request {
-        Request::Check(_) => Ok(check_lines(rt, file, path, text)?),
-        Request::Show(_, true) => as_line(json_of(rt, path, text)?),
-        Request::Show(_, false) => Ok((toml_of(rt, path, text)?, false)),
-        Request::Features(_) => as_line(features_of(rt, path, text)?),
-        Request::Lint(_, judging) => lint_lines(rt, file, text, judging),
-        Request::Document(_, dot) => Ok((document_text(rt, text, *dot)?, false)),
-        _ => Ok((String::new(rt.alloc()), false)),
-    }
-}
-
-/// A text that is a line.
-fn as_line(mut line: String) -> Result<(String, bool), Error> {
+    let mut line = match request {
+        Request::Check(_) => return Ok(check_lines(rt, file, path, text)?),
+        Request::Show(_, false) => return Ok((toml_of(rt, path, text)?, false)),
+        Request::Lint(_, judging) => return lint_lines(rt, file, text, judging),
+        Request::Document(_, dot) => return Ok((document_text(rt, text, *dot)?, false)),
+        Request::Show(_, true) => json_of(rt, path, text)?,
+        _ => features_of(rt, path, text)?,
+    };
     line.push_str("\n")?;
     Ok((line, false))
 }

@@ -92,18 +92,14 @@ pub enum Code {
     WorkspaceWithin,
 }
 
-const IS_OPTIONAL: &str = "a dependency of the workspace can't be optional";
-
-const LEADS_AWAY: &str = "its `package.workspace` leads to another workspace";
-
-const IS_OUTSIDE: &str = "it lies outside the workspace's folder, and doesn't name the workspace";
-
-const HAS_TABLES: &str = "a workspace without a package has tables of packages";
-
 impl Code {
     /// The word that stands for it in a report, and what it says of each subject, where it says one
     /// thing.
     fn told(self) -> (&'static str, &'static str) {
+        let is_optional = "a dependency of the workspace can't be optional";
+        let leads_away = "its `package.workspace` leads to another workspace";
+        let is_outside = "it lies outside the workspace's folder, and doesn't name the workspace";
+        let has_tables = "a workspace without a package has tables of packages";
         match self {
             Code::Absent => ("absent", "there is no manifest"),
             Code::BadPattern => ("bad-pattern", "it is no pattern, or longer than a path"),
@@ -114,11 +110,11 @@ impl Code {
             Code::NoLints => ("no-lints", "it inherits lints, and the workspace has none"),
             Code::NoTarget => ("no-target", "it has no target"),
             Code::NotInherited => ("not-inherited", "a dependency has `workspace = false`"),
-            Code::OptionalShared => ("optional-shared", IS_OPTIONAL),
+            Code::OptionalShared => ("optional-shared", is_optional),
             Code::OtherEdition => ("other-edition", ""),
             Code::OtherLicense => ("other-license", ""),
-            Code::OtherWorkspace => ("other-workspace", LEADS_AWAY),
-            Code::Outside => ("outside", IS_OUTSIDE),
+            Code::OtherWorkspace => ("other-workspace", leads_away),
+            Code::Outside => ("outside", is_outside),
             Code::SameName => ("same-name", "two members have this name"),
             Code::SeveralRequirements => ("several-requirements", ""),
             Code::TwoWorkspaces => (
@@ -128,7 +124,7 @@ impl Code {
             Code::Unlisted => ("unlisted", "it lies in the workspace, and is no member"),
             Code::Unseen => ("unseen", "it can't be looked at, or not to its end"),
             Code::UnusedDependency => ("unused-dependency", "no member inherits it"),
-            Code::Virtual => ("virtual", HAS_TABLES),
+            Code::Virtual => ("virtual", has_tables),
             Code::WorkspaceWithin => ("workspace-within", "it has a workspace of its own"),
         }
     }

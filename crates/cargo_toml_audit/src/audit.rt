@@ -141,15 +141,11 @@ impl Code {
 
     /// Whether it is about a place.
     pub fn is_of_place(self) -> bool {
-        !matches!(
-            self,
-            Code::BadPattern
-                | Code::DefaultMember
-                | Code::OptionalShared
-                | Code::SameName
-                | Code::SeveralRequirements
-                | Code::UnusedDependency
-        )
+        match self {
+            Code::BadPattern | Code::DefaultMember | Code::OptionalShared => false,
+            Code::SameName | Code::SeveralRequirements | Code::UnusedDependency => false,
+            _ => true,
+        }
     }
 }
 

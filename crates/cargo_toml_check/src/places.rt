@@ -225,7 +225,7 @@ impl<'t> Walk<'t> {
             path = self.step(path, Held::Key(part), start)?;
             self.go_to(skip_ws(self.rest()));
             let is_last = self.byte() != b'.';
-            path = self.last_table(path, is_last && is_item, start)?;
+            path = self.in_last(path, is_last && is_item, start)?;
             if is_last {
                 return Ok(path);
             }
@@ -235,15 +235,10 @@ impl<'t> Walk<'t> {
     }
 
     /// The last table of this path, which may get a new one, or the path where it has none.
-    fn last_table(
-        &mut self,
-        path: Option<usize>,
-        is_new: bool,
-        at: usize,
-    ) -> AllocResult<Option<usize>> {
+    fn in_last(&mut self, path: Option<usize>, new: bool, at: usize) -> AllocResult<Option<usize>> {
         let Some(array) = path else { return Ok(None) };
         let mut last = self.last.get(&array).copied();
-        if is_new {
+        if new {
             let next = last.map_or(0, |index| index.saturating_add(1));
             self.last.insert(array, next)?;
             last = Some(next);

@@ -92,12 +92,14 @@ pub enum Code {
     WorkspaceWithin,
 }
 
-const HAS_TABLES: &str = "a workspace without a package has tables of packages";
-
 impl Code {
     /// The word that stands for it in a report, and what it says of each subject, where it says one
     /// thing.
     fn told(self) -> (&'static str, &'static str) {
+        let is_optional = "a dependency of the workspace can't be optional";
+        let leads_away = "its `package.workspace` leads to another workspace";
+        let is_outside = "it lies outside the workspace's folder, and doesn't name the workspace";
+        let has_tables = "a workspace without a package has tables of packages";
         match self {
             Code::Absent => ("absent", "there is no manifest"),
             Code::BadPattern => ("bad-pattern", "it is no pattern, or longer than a path"),
@@ -108,20 +110,11 @@ impl Code {
             Code::NoLints => ("no-lints", "it inherits lints, and the workspace has none"),
             Code::NoTarget => ("no-target", "it has no target"),
             Code::NotInherited => ("not-inherited", "a dependency has `workspace = false`"),
-            Code::OptionalShared => (
-                "optional-shared",
-                "a dependency of the workspace can't be optional",
-            ),
+            Code::OptionalShared => ("optional-shared", is_optional),
             Code::OtherEdition => ("other-edition", ""),
             Code::OtherLicense => ("other-license", ""),
-            Code::OtherWorkspace => (
-                "other-workspace",
-                "its `package.workspace` leads to another workspace",
-            ),
-            Code::Outside => (
-                "outside",
-                "it lies outside the workspace's folder, and doesn't name the workspace",
-            ),
+            Code::OtherWorkspace => ("other-workspace", leads_away),
+            Code::Outside => ("outside", is_outside),
             Code::SameName => ("same-name", "two members have this name"),
             Code::SeveralRequirements => ("several-requirements", ""),
             Code::TwoWorkspaces => (
@@ -131,7 +124,7 @@ impl Code {
             Code::Unlisted => ("unlisted", "it lies in the workspace, and is no member"),
             Code::Unseen => ("unseen", "it can't be looked at, or not to its end"),
             Code::UnusedDependency => ("unused-dependency", "no member inherits it"),
-            Code::Virtual => ("virtual", HAS_TABLES),
+            Code::Virtual => ("virtual", has_tables),
             Code::WorkspaceWithin => ("workspace-within", "it has a workspace of its own"),
         }
     }
@@ -148,15 +141,11 @@ impl Code {
 
     /// Whether it is about a place.
     pub fn is_of_place(self) -> bool {
-        !matches!(
-            self,
-            Code::BadPattern
-                | Code::DefaultMember
-                | Code::OptionalShared
-                | Code::SameName
-                | Code::SeveralRequirements
-                | Code::UnusedDependency
-        )
+        match self {
+            Code::BadPattern | Code::DefaultMember | Code::OptionalShared => false,
+            Code::SameName | Code::SeveralRequirements | Code::UnusedDependency => false,
+            _ => true,
+        }
     }
 }
 

@@ -336,8 +336,7 @@ fn push_line(
     json: bool,
 ) -> AllocResult<()> {
     let (level, code, feature, text, words) = cells;
-    let feature = cut(alloc, feature)?;
-    let text = cut(alloc, text)?;
+    let (feature, text) = (cut(alloc, feature)?, cut(alloc, text)?);
     let (feature, text) = (feature.as_str(), text.as_str());
     if json {
         let mut object = Map::new(alloc);

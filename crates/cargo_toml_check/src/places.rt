@@ -53,10 +53,8 @@ pub struct Paths {
 impl Paths {
     /// No paths.
     pub fn new(alloc: Global) -> Paths {
-        Paths {
-            alloc,
-            next: BTreeMap::new(alloc),
-        }
+        let next = BTreeMap::new(alloc);
+        Paths { alloc, next }
     }
 
     /// The path of these steps.
@@ -109,13 +107,12 @@ fn place_behind(text: &str, counted: &mut (usize, Place), at: usize) -> Place {
     let (before, (line, column)) = *counted;
     let since = text.get(before..at).unwrap_or("");
     let lines = since.bytes().filter(|byte| *byte == b'\n').count();
-    let place = match since.rsplit_once('\n') {
-        Some((_, last)) => (
-            line.saturating_add(lines),
-            last.chars().count().saturating_add(1),
-        ),
-        None => (line, column.saturating_add(since.chars().count())),
+    let (from, last) = match since.rsplit_once('\n') {
+        Some((_, last)) => (1, last),
+        None => (column, since),
     };
+    let columns = last.chars().count();
+    let place = (line.saturating_add(lines), from.saturating_add(columns));
     *counted = (at, place);
     place
 }
@@ -135,11 +132,8 @@ fn push_key(text: &mut String, key: &str) -> AllocResult<()> {
     if !key.is_empty() && key.bytes().all(is_bare) {
         return text.push_str(key);
     }
-    text.push_str("\"")?;
     for (place, piece) in key.split('"').enumerate() {
-        if place > 0 {
-            text.push_str("\\\"")?;
-        }
+        text.push_str(if place == 0 { "\"" } else { "\\\"" })?;
         push_escaped(text, piece, Format::Line)?;
     }
     text.push_str("\"")
@@ -231,7 +225,7 @@ impl<'t> Walk<'t> {
             path = self.step(path, Held::Key(part), start)?;
             self.go_to(skip_ws(self.rest()));
             let is_last = self.byte() != b'.';
-            path = self.last_table(path, is_last && is_item, start)?;
+            path = self.in_last(path, is_last && is_item, start)?;
             if is_last {
                 return Ok(path);
             }
@@ -241,17 +235,10 @@ impl<'t> Walk<'t> {
     }
 
     /// The last table of this path, which may get a new one, or the path where it has none.
-    fn last_table(
-        &mut self,
-        path: Option<usize>,
-        is_new: bool,
-        at: usize,
-    ) -> AllocResult<Option<usize>> {
-        let Some(array) = path else {
-            return Ok(None);
-        };
+    fn in_last(&mut self, path: Option<usize>, new: bool, at: usize) -> AllocResult<Option<usize>> {
+        let Some(array) = path else { return Ok(None) };
         let mut last = self.last.get(&array).copied();
-        if is_new {
+        if new {
             let next = last.map_or(0, |index| index.saturating_add(1));
             self.last.insert(array, next)?;
             last = Some(next);
@@ -264,9 +251,7 @@ impl<'t> Walk<'t> {
 
     /// The path that a step leads to, which is mentioned at this index. None is none of the wanted.
     fn step(&mut self, above: Option<usize>, step: Held, at: usize) -> AllocResult<Option<usize>> {
-        let Some(above) = above else {
-            return Ok(None);
-        };
+        let Some(above) = above else { return Ok(None) };
         let path = self.wanted.next.get(&(above, step)).copied();
         if let Some(path) = path {
             if !self.found.contains_key(&path) {

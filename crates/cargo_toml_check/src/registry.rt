@@ -26,16 +26,12 @@ pub fn checksums<'t>(alloc: Global, lines: &'t str) -> AllocResult<BTreeMap<&'t 
 /// Adds a line to the file that the index in a folder has of a crate. The file is written anew
 /// beside the old one, and then takes its place. No name, or one that could lead elsewhere, is
 /// refused.
-pub fn add_to_index<R: Files + AllocGlobal>(
-    rt: &R,
-    folder: &str,
-    indexed: &Indexed,
-) -> io::Result<()> {
+pub fn add_to_index<R: Files + AllocGlobal>(rt: &R, index: &str, made: &Indexed) -> io::Result<()> {
     let alloc = rt.alloc();
-    if indexed.name.is_empty() || !indexed.name.bytes().all(is_bare) {
+    if made.name.is_empty() || !made.name.bytes().all(is_bare) {
         return Err(io::Error::from(ErrorKind::InvalidInput));
     }
-    let (above, name) = place_of(alloc, folder, indexed.name.as_str())?;
+    let (above, name) = place_of(alloc, index, made.name.as_str())?;
     let path = format!(in alloc; "{above}/{name}")?;
     let fresh = format!(in alloc; "{above}/.{name}.new")?;
     let mut text = match fs::read_to_string(rt, path.as_str()) {
@@ -47,7 +43,7 @@ pub fn add_to_index<R: Files + AllocGlobal>(
     if !text.is_empty() && !text.as_str().ends_with('\n') {
         text.push_str("\n")?;
     }
-    text.push_str(indexed.line.as_str())?;
+    text.push_str(made.line.as_str())?;
     let (above, fresh) = (above.as_str(), fresh.as_str());
     let done = replace(rt, above, fresh, path.as_str(), text.as_str());
     if done.is_err() {

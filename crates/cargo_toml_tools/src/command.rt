@@ -72,8 +72,18 @@ fn tool<'a>(alloc: Global, lines: &'a [&'a str]) -> AllocResult<Command<'a>> {
         return tool.arg(folder.help("The folder").required(true));
     }
     let from = "files-from LIST: A file with the name of a manifest a line; `-` too";
-    tool.arg(option(alloc, name, from)?)?
-        .arg(files(alloc, name)?)
+    let tool = tool.arg(option(alloc, name, from)?)?;
+    let files = Arg::new(alloc, "files")
+        .value_name("FILE")
+        .value_parser(ValueParser::NonEmptyString)
+        .help("Manifests; `-` is standard input")
+        .action(ArgAction::Append)
+        .num_args(1..)
+        .required_unless_present("files-from")?;
+    if name == "lint" {
+        return tool.arg(files.required_unless_present("workspace")?);
+    }
+    tool.arg(files)
 }
 
 /// What stands before and behind the colon of a line.
@@ -99,18 +109,4 @@ fn option<'a>(alloc: Global, tool: &str, line: &'a str) -> AllocResult<Arg<'a>> 
         "deny" => Ok(option.value_parser(["hint"].as_slice())),
         _ => Ok(option),
     }
-}
-
-fn files<'a>(alloc: Global, tool: &str) -> AllocResult<Arg<'a>> {
-    let files = Arg::new(alloc, "files")
-        .value_name("FILE")
-        .value_parser(ValueParser::NonEmptyString)
-        .help("Manifests; `-` is standard input")
-        .action(ArgAction::Append)
-        .num_args(1..)
-        .required_unless_present("files-from")?;
-    if tool == "lint" {
-        return files.required_unless_present("workspace");
-    }
-    Ok(files)
 }

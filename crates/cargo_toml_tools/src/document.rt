@@ -7,12 +7,10 @@ mod listing;
 mod reached;
 
 use crate::escape::{Code, Escaped, Format, comma_before};
-use cargo_toml::features::DepAction;
 use cargo_toml_lint::AllocResult;
 pub use dot::graph;
 pub use listing::{Row, TakesRows, rows};
 pub use reached::Reached;
-use std::collections::BTreeMap;
 use std::fmt::Write;
 
 /// A page in Markdown on the features that users may ask for: each with its text, whether it is on
@@ -57,6 +55,7 @@ fn push_table(page: &mut String, rows: &[Row<'_>], is_listed: bool) -> AllocResu
 }
 
 fn push_row(page: &mut String, row: &Row<'_>, has_texts: bool) -> AllocResult<()> {
+    let alloc = *page.allocator();
     write!(page, "| {} | ", Code(row.name))?;
     if has_texts {
         let text = Escaped(row.doc.unwrap_or(""), Format::Markdown);
@@ -67,15 +66,8 @@ fn push_row(page: &mut String, row: &Row<'_>, has_texts: bool) -> AllocResult<()
         write!(page, "{}{}", comma_before(i), Code(*name))?;
     }
     page.push_str(" | ")?;
-    push_actions(page, &row.turns_on.actions)?;
-    page.push_str(" |\n")
-}
-
-/// Actions as a feature's list says them: `log`, `log/std`, or `log?/std` where something else has
-/// to turn the dependency on.
-fn push_actions(page: &mut String, actions: &BTreeMap<&str, DepAction<'_>>) -> AllocResult<()> {
-    let alloc = *page.allocator();
-    for (i, (key, action)) in actions.iter().enumerate() {
+    // as a feature's list says it: `log`, or `log?/std` where something else has to turn `log` on
+    for (i, (key, action)) in row.turns_on.actions.iter().enumerate() {
         page.push_str(comma_before(i))?;
         let mark = if action.is_conditional { "?" } else { "" };
         if action.dep_features.is_empty() {
@@ -87,5 +79,5 @@ fn push_actions(page: &mut String, actions: &BTreeMap<&str, DepAction<'_>>) -> A
             write!(page, "{}{}", comma_before(j), Code(asked.as_str()))?;
         }
     }
-    Ok(())
+    page.push_str(" |\n")
 }

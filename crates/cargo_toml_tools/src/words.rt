@@ -196,10 +196,8 @@ fn index<'a>(
     let checksum = matches.get_str("checksum");
     let is_one = inputs.files.len() == 1 && inputs.from.is_none();
     if checksum.is_some_and(|text| !is_one || !is_checksum(text)) {
-        return refused(
-            alloc,
-            "a checksum is 64 hex digits in lower case, of one FILE",
-        );
+        let words = "a checksum is 64 hex digits in lower case, of one FILE";
+        return refused(alloc, words);
     }
     let wanted = Wanted {
         registry: matches.get_str("registry").unwrap_or(CRATES_IO),

@@ -58,9 +58,7 @@ fn run<R: Env + Files + Input + Print + Eprint + RandomSource + Clock + AllocGlo
     let words: Vec<String> = match env::args(&(Unnamed(rt), rt.alloc())) {
         Ok(words) => words.collect(rt.alloc())?,
         Err(fault) if fault.kind() == io::ErrorKind::OutOfMemory => return Err(fault),
-        Err(_) => {
-            return eprintln!(rt; "error: a word is no text").map(|_| Outcome::NoCommand);
-        }
+        Err(_) => return eprintln!(rt; "error: a word is no text").map(|_| Outcome::NoCommand),
     };
     answer(rt, &read_request(rt.alloc(), words.as_slice())?, shows)
 }

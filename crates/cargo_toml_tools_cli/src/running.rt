@@ -16,6 +16,9 @@ use std::random::RandomSource;
 use std::rt::{Clock, Files};
 use std::time::Instant;
 
+/// What came of it, unless the output can't be written.
+type Answer = io::Result<Outcome>;
+
 /// A run over files.
 #[derive(Drop)]
 pub(crate) struct Run<'a, R> {
@@ -42,11 +45,7 @@ impl<'a, R: Files + Input + Print + Eprint + RandomSource + Clock + AllocGlobal>
     }
 
     /// Does what is asked with each file, and answers the worst that came of one.
-    pub(crate) fn answer_each(
-        &mut self,
-        request: &Request<'_>,
-        inputs: &Inputs<'_>,
-    ) -> io::Result<Outcome> {
+    pub(crate) fn answer_each(&mut self, request: &Request<'_>, inputs: &Inputs<'_>) -> Answer {
         let alloc = self.rt.alloc();
         let mut lines = String::new(alloc);
         if let Request::Index(_, wanted) = request {
@@ -103,7 +102,7 @@ impl<'a, R: Files + Input + Print + Eprint + RandomSource + Clock + AllocGlobal>
         request: &Request<'_>,
         sums: &BTreeMap<&str, &str>,
         file: &str,
-    ) -> io::Result<Outcome> {
+    ) -> Answer {
         self.step()?;
         let read = match text_of(self.rt, file) {
             Ok(text) => text,
@@ -126,7 +125,7 @@ impl<'a, R: Files + Input + Print + Eprint + RandomSource + Clock + AllocGlobal>
         sums: &BTreeMap<&str, &str>,
         file: &str,
         text: &str,
-    ) -> io::Result<Outcome> {
+    ) -> Answer {
         let path = path_of(self.rt, file)?;
         let made = match index_of(self.rt, path.as_str(), text, wanted.options(), sums) {
             Ok(made) => made,
@@ -154,7 +153,7 @@ impl<'a, R: Files + Input + Print + Eprint + RandomSource + Clock + AllocGlobal>
     }
 
     /// The report on the workspace around a folder.
-    pub(crate) fn audit(&mut self, folder: &str, as_json: bool) -> io::Result<Outcome> {
+    pub(crate) fn audit(&mut self, folder: &str, as_json: bool) -> Answer {
         match report_text(self.rt, folder, as_json, self.began.is_some()) {
             Ok((text, odd)) => self.put(text.as_str(), odd),
             Err(fault) => match unread_above(self.rt, folder, &fault)? {
@@ -169,19 +168,14 @@ impl<'a, R: Files + Input + Print + Eprint + RandomSource + Clock + AllocGlobal>
     }
 
     /// Writes what came of a file.
-    fn put(&mut self, text: &str, odd: bool) -> io::Result<Outcome> {
+    fn put(&mut self, text: &str, odd: bool) -> Answer {
         self.clear()?;
         self.rt.write_all(text.as_bytes())?;
         Ok(if odd { Outcome::Odd } else { Outcome::Done })
     }
 
     /// Tells why a file is refused, of which this text is read.
-    fn refuse<F: Display + Drop>(
-        &mut self,
-        file: &str,
-        text: &str,
-        fault: F,
-    ) -> io::Result<Outcome> {
+    fn refuse<F: Display + Drop>(&mut self, file: &str, text: &str, fault: F) -> Answer {
         self.clear()?;
         let alloc = self.rt.alloc();
         let words = format!(in alloc; "{fault}")?;
@@ -232,19 +226,14 @@ fn made_of<R: Files + RandomSource + AllocGlobal>(
 ) -> Result<(String, bool), Error> {
     let path = path_of(rt, file)?;
     let path = path.as_str();
-    match request {
-        Request::Check(_) => Ok(check_lines(rt, file, path, text)?),
-        Request::Show(_, true) => as_line(json_of(rt, path, text)?),
-        Request::Show(_, false) => Ok((toml_of(rt, path, text)?, false)),
-        Request::Features(_) => as_line(features_of(rt, path, text)?),
-        Request::Lint(_, judging) => lint_lines(rt, file, text, judging),
-        Request::Document(_, dot) => Ok((document_text(rt, text, *dot)?, false)),
-        _ => Ok((String::new(rt.alloc()), false)),
-    }
-}
-
-/// A text that is a line.
-fn as_line(mut line: String) -> Result<(String, bool), Error> {
+    let mut line = match request {
+        Request::Check(_) => return Ok(check_lines(rt, file, path, text)?),
+        Request::Show(_, false) => return Ok((toml_of(rt, path, text)?, false)),
+        Request::Lint(_, judging) => return lint_lines(rt, file, text, judging),
+        Request::Document(_, dot) => return Ok((document_text(rt, text, *dot)?, false)),
+        Request::Show(_, true) => json_of(rt, path, text)?,
+        _ => features_of(rt, path, text)?,
+    };
     line.push_str("\n")?;
     Ok((line, false))
 }

@@ -111,9 +111,7 @@ fn add_other(
     ensures { OnOk result (oddities_of findings.new ≡ oddities_of findings.old
         ++ other_of code folder.now (option_copied own.entry) (option_copied given.entry)) }
 {
-    let Some(given) = given else {
-        return Ok(());
-    };
+    let Some(given) = given else { return Ok(()) };
     if own.is_some_and(|own| given == own) {
         return Ok(());
     }
@@ -221,9 +219,7 @@ fn leads_elsewhere(alloc: Global, place: &str, root: &str, named: Option<&str>) 
     ensures { IfOk result
         (λ b. b ≡ leads_elsewhere place.now root.now (option_map (λ t. t.now) named.entry)) }
 {
-    let Some(path) = named else {
-        return Ok(false);
-    };
+    let Some(path) = named else { return Ok(false) };
     let named = place_of(alloc, place, path)?;
     Ok(named.as_str() != root)
 }

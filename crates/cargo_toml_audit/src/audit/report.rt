@@ -82,9 +82,7 @@ fn shown_findings(alloc: Global, audit: &Audit) -> AllocResult<BTreeSet<Finding>
             Code::SeveralRequirements => asked.remove(finding.subject.as_str()),
             _ => Some(finding.words.clone()?),
         };
-        let Some(words) = words else {
-            continue;
-        };
+        let Some(words) = words else { continue };
         let subject = if finding.code.is_of_place() {
             seen_from(alloc, audit.root.as_str(), finding.subject.as_str())?
         } else {
@@ -113,25 +111,18 @@ fn requirements(alloc: Global, audit: &Audit) -> AllocResult<BTreeMap<String, St
     let mut last = String::new(alloc);
     for one in &uses {
         let words = all.entry(one.name.clone()?)?.or_insert(String::new(alloc));
-        push_use(words, one, last.as_str())?;
+        if words.is_empty() || one.requirement.as_str() != last.as_str() {
+            let end = if words.is_empty() { "" } else { "; " };
+            words.push_str(end)?;
+            words.push_str(one.requirement.as_str())?;
+            words.push_str(" in ")?;
+        } else {
+            words.push_str(", ")?;
+        }
+        words.push_str(one.folder.as_str())?;
         last = one.requirement.clone()?;
     }
     Ok(all)
-}
-
-/// Writes one more use of a crate, behind those that the words have, the last of them by this
-/// requirement.
-fn push_use(words: &mut String, one: &Use, last: &str) -> AllocResult<()> {
-    if words.is_empty() || one.requirement.as_str() != last {
-        if !words.is_empty() {
-            words.push_str("; ")?;
-        }
-        words.push_str(one.requirement.as_str())?;
-        words.push_str(" in ")?;
-    } else {
-        words.push_str(", ")?;
-    }
-    words.push_str(one.folder.as_str())
 }
 
 /// The same as a line of JSON, an object of two lists: `findings` and `members`.

@@ -32,9 +32,13 @@ pub fn graph<M, S: BuildHasher>(
     for place in 0..links.names.len() {
         let feature = resolved.features.get(links.names[place]);
         if let Some(feature) = feature.filter(|one| has_default || one.key != "default") {
-            push_node(&mut graph, "feature", feature.key, style_of(feature))?;
-            push_feature_edges(&mut graph, feature, &links, place)?;
-            push_dependency_edges(&mut graph, feature)?;
+            let style = match feature.key {
+                _ if is_private(feature) => "style=dashed",
+                "default" => "style=bold",
+                _ => "style=solid",
+            };
+            push_node(&mut graph, "feature", feature.key, style)?;
+            push_edges(&mut graph, feature, &links, place)?;
             keys.extend(feature.enables_deps.keys().copied())?;
         }
     }
@@ -43,16 +47,6 @@ pub fn graph<M, S: BuildHasher>(
     }
     graph.push_str("}\n")?;
     Ok(graph)
-}
-
-fn style_of(feature: &Feature<'_>) -> &'static str {
-    if is_private(feature) {
-        "style=dashed"
-    } else if feature.key == "default" {
-        "style=bold"
-    } else {
-        "style=solid"
-    }
 }
 
 /// A node, whose name begins with its kind: a feature and a dependency may have one name.
@@ -67,8 +61,9 @@ fn push_edge(graph: &mut String, from: &str, kind: &str, to: &str) -> AllocResul
     write!(graph, "    \"feature:{from}\" -> \"{kind}:{to}\"")
 }
 
-/// The edges from a feature to those that it turns on in one step.
-fn push_feature_edges(
+/// The edges from a feature to those that it turns on in one step, and to what it acts on, each of
+/// these with what is asked for, and whether that is conditional.
+fn push_edges(
     graph: &mut String,
     feature: &Feature<'_>,
     links: &Links<'_>,
@@ -84,12 +79,6 @@ fn push_feature_edges(
         push_edge(graph, feature.key, "feature", *name)?;
         graph.push_str(";\n")?;
     }
-    Ok(())
-}
-
-/// The edges from a feature to what it acts on, each with what is asked for, and whether that is
-/// conditional.
-fn push_dependency_edges(graph: &mut String, feature: &Feature<'_>) -> AllocResult<()> {
     for (key, action) in &feature.enables_deps {
         push_edge(graph, feature.key, "dependency", *key)?;
         graph.push_str(" [label=\"")?;

@@ -26,8 +26,8 @@ use walk::add_members;
 /// The report on the workspace around a folder. Where `shows` is set, a long one tells on standard
 /// error how far it is.
 ///
-/// Refused where the folder isn't there, no workspace is found at or above it, a manifest on the way
-/// there can't be read, or patterns lead too far. A member that is refused is a finding.
+/// Refused where the folder isn't there, no workspace is found at or above it, a manifest on the
+/// way there can't be read, or patterns lead too far. A member that is refused is a finding.
 pub fn audit<R: Files + Eprint + RandomSource + AllocGlobal>(
     rt: &R,
     folder: &str,

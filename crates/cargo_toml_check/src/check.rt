@@ -49,8 +49,8 @@ pub fn faults_in(alloc: Global, text: &str) -> AllocResult<Vec<Told>>
     placed(alloc, text, faults.as_slice())
 }
 
-/// The lines `NAME:LINE:COLUMN: KEY: words` of what keeps the manifest in this text of the file at a
-/// path from being read and completed, and whether something does.
+/// The lines `NAME:LINE:COLUMN: KEY: words` of what keeps the manifest in this text, of the file at
+/// a path, from being read and completed, and whether something does.
 pub fn check_lines<R: Files + AllocGlobal>(
     rt: &R,
     name: &str,

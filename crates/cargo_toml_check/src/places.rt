@@ -108,8 +108,8 @@ fn place_behind(text: &str, counted: &mut (usize, Place), at: usize) -> Place {
     let since = text.get(before..at).unwrap_or("");
     let lines = since.bytes().filter(|byte| *byte == b'\n').count();
     let (from, last) = match since.rsplit_once('\n') {
-        Some((_, last)) => (1, last),
         None => (column, since),
+        Some((_, last)) => (1, last),
     };
     let columns = last.chars().count();
     let place = (line.saturating_add(lines), from.saturating_add(columns));

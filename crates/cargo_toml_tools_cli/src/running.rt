@@ -16,7 +16,7 @@ use std::random::RandomSource;
 use std::rt::{Clock, Files};
 use std::time::Instant;
 
-/// What came of it, unless the output can't be written.
+/// What came of a request, unless the output can't be written.
 type Answer = io::Result<Outcome>;
 
 /// A run over files.

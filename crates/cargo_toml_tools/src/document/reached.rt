@@ -6,11 +6,11 @@ ghost use Rattle.cargo_toml_lint.specs.Linked.{AreFound, AreLinks};
 ghost use Rattle.cargo_toml_tools.specs.Documented.{ActsOf, IsReachedFrom, is_beside};
 
 use super::listing::is_private;
-use cargo_toml::features::DepAction;
+use cargo_toml::features::{DepAction, Feature};
 use cargo_toml_lint::{AllocResult, FeatureMap, Links};
 use cargo_toml_resolve::joining::add_actions;
 use std::alloc::Global;
-use std::collections::{BTreeMap, BTreeSet};
+use std::collections::{BTreeMap, BTreeSet, HashMap};
 use std::hash::BuildHasher;
 
 /// What a feature turns on.
@@ -62,7 +62,11 @@ fn actions_of<'m, S: BuildHasher>(
 }
 
 /// Whether the last is another feature, and isn't private.
-fn is_beside<S: BuildHasher>(features: &FeatureMap<'_, S>, name: &str, other: &str) -> bool
+fn is_beside<S: BuildHasher>(
+    features: &HashMap<&str, Feature<'_>, S>,
+    name: &str,
+    other: &str,
+) -> bool
     ensures { result ≡ is_beside features.now name.now other.now }
 {
     features

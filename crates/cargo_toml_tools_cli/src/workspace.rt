@@ -103,17 +103,17 @@ pub(crate) fn unread_above<R: Files + AllocGlobal>(
     let start = place_of(alloc, here.as_str(), folder)?;
     for above in Path::new(start.as_str()).ancestors() {
         let file = file_of(alloc, here.as_str(), above.as_str())?;
-        match manifest_in(rt, file.as_str()) {
-            Ok(held) => {
-                let manifest = &*held.manifest;
-                let has_none = manifest.workspace.is_none();
-                if let Some(path) = named_by(&manifest.package).filter(|_| has_none) {
-                    let root = place_of(alloc, above.as_str(), path)?;
-                    return Ok(Some(file_of(alloc, here.as_str(), root.as_str())?));
-                }
+        let read = manifest_in(rt, file.as_str());
+        if matches!(&read, Err(Error::Parse(_))) {
+            return Ok(Some(file));
+        }
+        if let Ok(held) = &read {
+            let manifest = &*held.manifest;
+            let has_none = manifest.workspace.is_none();
+            if let Some(path) = named_by(&manifest.package).filter(|_| has_none) {
+                let root = place_of(alloc, above.as_str(), path)?;
+                return Ok(Some(file_of(alloc, here.as_str(), root.as_str())?));
             }
-            Err(Error::Parse(_)) => return Ok(Some(file)),
-            Err(_) => {}
         }
     }
     Ok(None)

@@ -31,6 +31,7 @@ REFUSED = {
 MEANT = {
     "manifest": "Cargo refuses of one manifest what `audit` isn't about, as two sources of one key",
     "no workspace": "Cargo takes a package alone, where `audit` refuses a folder without a workspace",
+    "from a member": "Cargo looks at `default-members` where it is asked in the root alone",
 }
 # What Cargo says where a refusal is of the class `manifest`.
 OTHERS = ("different source paths", "invalid character", "failed to parse the version")
@@ -81,6 +82,8 @@ def difference(judge, program, folder):
     if done.returncode == 1:
         alone = "there is no workspace" in done.stderr
         return "no workspace" if alone else done.stderr
+    if codes == {"default-member"} and os.path.realpath(folder) != os.path.realpath(root):
+        return "from a member"
     if codes:
         told = [one for one in report["findings"] if one["code"] in codes]
         return f"Cargo takes it\n{json.dumps(told, indent=1)}"

@@ -19,7 +19,8 @@ module _ {M : Type 0} (m : ManifestMeaning M) where
   abbrev pub IsEnabling : Text → Text → Bool → Type 0
   IsEnabling f g answer = IsTrue answer ↔ HasEnabling (parsed_table MAX_ITEMS m) f g
 
-  -- the first of the entries of the key that count; nothing where none does
+  -- the dependency of the first target, among the entries of the key that count; nothing where
+  -- none does
   abbrev pub first_under : Text → Option DependencyMeaning
   first_under key =
       first_target (entries_at (admitted MAX_ITEMS m.features) (parsed_entries MAX_ITEMS m) key)

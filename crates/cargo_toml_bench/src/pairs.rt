@@ -12,8 +12,9 @@ use cargo_toml::features::{Resolver, complete_and_parse_into};
 use cargo_toml::{AbstractFilesystem, Error, FromValue, Manifest, Product, ToValue};
 use std::alloc::Global;
 
-/// Whether a manifest has the feature `name`, and asking for it enables the feature `other`: it is
-/// resolved, and asked for what the feature enables. The one refusal is [`Error::Memory`].
+/// Whether a manifest has the feature `name`, and that feature enables the feature `other`
+/// transitively by names, as [`cargo_toml::features::Feature::enables_recursive`] says. The one
+/// refusal is [`Error::Memory`].
 pub fn enables<M>(
     alloc: Global,
     manifest: &Manifest<M>,
@@ -31,8 +32,9 @@ pub fn enables<M>(
     Ok(features.contains_key(other))
 }
 
-/// Whether the dependency that stands first under the key is optional; `None` where features can't
-/// speak of the key. The one refusal is [`Error::Memory`].
+/// Whether the dependency of the key's first target is optional. `None` where no entry of the key
+/// counts: none is optional, and no feature has the key or acts on it. The one refusal is
+/// [`Error::Memory`].
 pub fn is_optional_at<M>(
     alloc: Global,
     manifest: &Manifest<M>,

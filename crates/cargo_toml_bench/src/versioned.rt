@@ -1,4 +1,5 @@
-//! A tool that gives a package another version, and loses nothing else.
+//! A tool that gives a package another version, and loses nothing else that is read. Comments,
+//! layout and unknown keys aren't.
 ghost use Rattle.std.specs.Prelude.{◌≡◌, IfOk, Ok, option_map, string_bytes};
 ghost use Rattle.semver.specs.{Identifiers.parts_of, Parse.version_parts};
 ghost use Rattle.toml.specs.{View.view, declared.value.Value.Value};
@@ -12,12 +13,12 @@ use cargo_toml_write::laws::{read_dependencies_are_told, read_manifests_are_told
 use cargo_toml_write::write::package::value_metadata;
 use std::alloc::Global;
 
-/// The text of the manifest that these bytes spell, with this version of its package. What is read
-/// of the text, where it nests no deeper than `toml` reads, is that manifest with that version, and
-/// else the same, unless a dependency says `workspace = false`, or the version is 0.0.0.
+/// The text of the manifest that these bytes spell, with this version of its package, if it has
+/// one. Where the text nests no deeper than `toml` reads, that manifest with that version is read
+/// of it. All else in it is the same, unless a dependency says `workspace = false`, or the version
+/// is 0.0.0.
 ///
-/// Refuses bytes that spell no manifest, a text that is no version, what can't be printed, as a
-/// month 13, and with `Memory` where there was no room.
+/// Refuses bytes that spell no manifest, a text that is no version, and where it is out of memory.
 pub fn with_version(alloc: Global, bytes: &[u8], version: &str) -> Result<String, Error>
     ensures { IfOk result (λ text. IsVersioned bytes.now version.now (string_bytes text)) }
 {

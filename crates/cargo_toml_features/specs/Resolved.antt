@@ -62,9 +62,9 @@ pub record IsKeptAnswer (listed : Listed) (entries : List Entry) (details : Name
       (recorded_of (entries_at listed entries k))
   pub some : IsTrue a.removed_some ↔ ((r : Text) × Removed r)
 
--- and so are the binaries that require features, of which own are the binaries' own
--- mentions: by paths, and as they are passed on in byte order; and what stands for each
--- feature that is taken out
+-- the kept answer, and beside it the binaries of each feature that is left, by paths and as they
+-- are passed on in byte order, and what stands for each one that is taken out. `own` says which
+-- binaries mention a feature themselves
 pub record IsAnswerWithout (listed : Listed) (entries : List Entry) (details : NamedDetails)
     (own : Text → List Text) (Removed : Text → Type 0) (a : Answer) : Type 0 where
   pub kept : IsKeptAnswer listed entries details Removed a

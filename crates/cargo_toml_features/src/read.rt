@@ -20,8 +20,8 @@ use cargo_toml_package::FeatureDetail;
 use std::alloc::{AllocError, Global};
 use std::collections::{BTreeMap, BTreeSet};
 
-// Beside what is listed there is room for `default`, and for as many features that dependencies
-// imply, but for no more than so many.
+// Beside what is listed there is room for `default`, and for as many implied features as are
+// listed, up to this number.
 const ROOM: usize = 16;
 
 /// What the lists of features say, before dependencies are looked at.

@@ -16,7 +16,8 @@ use std::alloc::{AllocError, Global};
 use std::collections::HashMap;
 use std::hash::BuildHasher;
 
-/// For each dependency's key, the names of the features that act on it, each with its action.
+/// For each dependency's key, the names of the features that act on it unconditionally, each with
+/// its action.
 pub type DependenciesEnabledByFeatures<'f, 'a, S> = HashMap<
     &'a str,
     Vec<(&'a str, &'f DepAction<'a>)>,
@@ -79,8 +80,8 @@ fn push_named<'f, 'a, S: BuildHasher>(
     Ok(())
 }
 
-// Makes room where none is left, for three times as many as there are. By itself the map makes room
-// for as many again, and so moves each twice as often.
+// Makes room where none is left, for three times as many more. By itself the map makes room for as
+// many again, and so moves each twice as often.
 fn make_room<'f, 'a, S: BuildHasher>(
     found: &mut HashMap<&'a str, &'f Feature<'a>, S>,
 ) -> Result<(), AllocError>
@@ -159,7 +160,8 @@ impl<'a> Feature<'a> {
         &features[self.key]
     }
 
-    /// What this feature enables by names: the features, and what they do to dependencies.
+    /// What this feature enables transitively by names: the features, and what these do to
+    /// dependencies, except conditionally.
     ///
     /// The first map has this feature, those that it names, those that they name, and so on, each
     /// once and under its name. A name that no feature of `features` has is passed over. So is a

@@ -265,9 +265,9 @@ fn drop_redundant(
     }
 }
 
-/// The features, which stand in byte order, without the dependency features that are on anyway in
-/// their actions. A feature `default` is where the dependency's first target has its default
-/// features, and any other where that target lists it. It fails only where memory runs out.
+/// The features, which stand in byte order. Their actions lose the dependency features that are on
+/// anyway: those that the dependency's first target lists, and `default` where it has its default
+/// features. They lose none where that target is no detail. It fails only where memory runs out.
 pub fn without_redundant<'m, 'd>(
     alloc: Global,
     mut features: Vec<Feature<'m>>,

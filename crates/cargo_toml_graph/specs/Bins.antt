@@ -26,7 +26,8 @@ module _ (t : Table) (Removed : Text → Type 0) (own : Text → List Text) wher
       (r : Text) × Removed r × Among (own r) x
       × GathersLabel (Edge t) Removed (λ b y. IsTrue (t.names b y)) r f
 
-  -- the binaries of the kept feature f
+  -- the binaries of the kept feature f: its own, and then such as removed features pass on; the
+  -- first ten own ones of each removed feature that names f are there
   pub record HasBins (f : Text) (bins : List Text) : Type 0 where
     pub lists : Grown (own f) (IsPassed f) bins
     pub direct : (r x : Text) → Removed r → IsTrue (t.names r f) → Among (take 10 (own r)) x

@@ -38,7 +38,7 @@ inherited_of ms = do
   workspace ← flag_at "workspace" false ms
   Some (record { features = features; optional = optional; workspace = workspace })
 
--- whether the table says if it is inherited; the same, where it does
+-- whether the table has a truth value at its key `workspace`
 abbrev pub says_workspace : Members → Bool
 says_workspace ms = is_some (required_at "workspace" as_bool ms)
 
@@ -172,7 +172,7 @@ dependency_of _ = None
 abbrev pub DependencyRefuses : Data → Error → Type 0
 DependencyRefuses d e = WrongShape d e
 
--- whether a dependency is optional, and the name of its crate where that is not its key
+-- whether a dependency is optional; an inherited one by its own entry alone
 abbrev pub is_optional : DependencyMeaning → Bool
 is_optional (simple r) = false
 is_optional (inherited i) = i.optional

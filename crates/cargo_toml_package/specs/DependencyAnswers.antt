@@ -11,7 +11,7 @@ use Rattle.cargo_toml_package.specs.declared.dependency.DependencyDetail.{Depend
 use Rattle.cargo_toml_package.specs.Dependencies.{DetailMeaning, DependencyMeaning}
 use Rattle.cargo_toml_package.specs.Dependencies.{detail_of_table, simple, inherited, detailed}
 
--- whether all of it is left to the workspace
+-- whether the dependency is `Inherited`, whatever its entry adds, and with `workspace = false` too
 abbrev pub is_inherited : Dependency → Bool
 is_inherited (kind.Inherited i) = true
 is_inherited _ = false
@@ -34,7 +34,7 @@ features_at (kind.Simple r) = []
 features_at (kind.Inherited i) = i.features.items
 features_at (kind.Detailed b) = b.value.features.items
 
--- the repository, and the revision
+-- the address of the repository, where a detail names it
 abbrev pub git_of : DependencyMeaning → Option (List ℕ)
 git_of (simple r) = None
 git_of (inherited i) = None

@@ -32,7 +32,7 @@ abbrev pub feature_of : Data → Option (List (List ℕ) × Detail)
 feature_of (table ms) = table_feature ms
 feature_of d = list_feature d
 
--- what the features enable, and what is said of those of which something is
+-- what each feature enables
 abbrev pub lists_of : List (List ℕ × (List (List ℕ) × Detail)) → List (List ℕ × List (List ℕ))
 lists_of fs = map (λ f. (f.0, f.1.0)) fs
 

@@ -102,7 +102,7 @@ abbrev pub inherited_targets : Option Entries → List ℕ → List (List ℕ ×
 inherited_targets templates base targets =
     each (λ e. beside e.0 (inherited_target templates base e.1)) targets
 
--- whether something is inherited
+-- whether a dependency is inherited
 abbrev pub is_left : DependencyMeaning → Bool
 is_left (inherited entry) = true
 is_left other = false

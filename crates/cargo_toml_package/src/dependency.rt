@@ -45,7 +45,8 @@ pub struct DependencyDetail {
     pub registry: Option<String>,
     /// The address of the index of that registry: the key `registry-index`.
     pub registry_index: Option<String>,
-    /// The folder that it comes from: the key `path`.
+    /// The folder that it comes from, as seen from that of the `Cargo.toml`: the key `path`. A path
+    /// that completion takes from the workspace is joined to the workspace's folder.
     pub path: Option<String>,
     /// The address of the repository that it comes from: the key `git`.
     pub git: Option<String>,
@@ -60,8 +61,8 @@ pub struct DependencyDetail {
     /// Whether it is left out until a feature enables it: the key `optional`, false
     /// where it is missing.
     pub optional: bool,
-    /// Whether its feature `default` is switched on: the key `default-features`, true
-    /// where it is missing.
+    /// Whether its feature `default` is switched on: the key `default-features`, true where it is
+    /// missing. The older spelling `default_features` isn't read, but kept in `unstable`.
     pub default_features: bool,
     /// All other keys.
     pub unstable: BTreeMap<String, Value>,

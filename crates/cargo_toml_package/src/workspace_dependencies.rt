@@ -119,8 +119,9 @@ fn made_by(
 }
 
 /// What the inherited dependencies become by those of the workspace, `templates`, in the order of
-/// their keys. `base` is the workspace's folder as seen from the member: paths are joined to it.
-/// Hand the answer to `replace`: no clause says that it holds no more than that takes.
+/// their keys. Paths are joined to `base`: the path of the workspace's folder, as it was handed in
+/// or found, and empty for the manifest's own table. Hand the answer to `replace`: no clause says
+/// that it holds no more dependencies than `replace` takes.
 ///
 /// The first fault in the order of the keys counts: `WorkspaceIntegrity` where the workspace lacks
 /// the key, and `InheritedUnknownValue` where its own dependency of that key is inherited. Refused

@@ -12,7 +12,7 @@ abbrev pub inherited_at : {M : Type 0} → Words → M → (Data → Option M) �
     → Option (Inheritable M)
 inherited_at key missing reads ms = given_at key (Set missing) (inheritable_of reads) ms
 
--- a text and a list of texts that the workspace may give
+-- the text at a key, which may be inherited; missing: none
 abbrev pub inherited_text_at : Words → Members → Option (Option (Inheritable (List ℕ)))
 inherited_text_at key ms = optional_at key (inheritable_of as_str) ms
 

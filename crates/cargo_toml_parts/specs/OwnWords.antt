@@ -10,7 +10,7 @@ use Rattle.cargo_toml_parts.specs.declared.error.ParseFault.{ParseFault}
 use Rattle.cargo_toml_parts.specs.declared.error.ParseFault.TheVariants.{Toml, Shape}
 use Rattle.cargo_toml_parts.specs.Faults.{workspace_words}
 
--- what an error writes before the words of `toml` and of input; where it has none, all of it
+-- the crate's own words for a fault of a text: all of a fault of shape, none of one of `toml`
 abbrev pub own_fault_words : ParseFault → List ℕ
 own_fault_words (Shape t) = t.now
 own_fault_words (Toml e) = []

@@ -34,7 +34,8 @@ pub struct Badge {
     pub project_name: Option<String>,
 }
 
-/// The table `badges`. A badge that does not read as one counts as missing.
+/// The table `badges`, in which a badge that does not read counts as missing. What is no table is
+/// refused.
 #[derive(Debug, PartialEq, Eq, Drop)]
 pub struct Badges {
     /// The badge `appveyor`.

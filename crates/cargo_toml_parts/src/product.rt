@@ -40,7 +40,8 @@ pub struct Product {
     /// Whether the test harness of the compiler is used: the key `harness`, true
     /// where it is missing.
     pub harness: bool,
-    /// Its edition, where that is not the package's: the key `edition`.
+    /// Its edition: the key `edition`. Where it is missing, Cargo takes the package's, which
+    /// completion puts into the library and into products that it adds.
     pub edition: Option<Edition>,
     /// The kinds of crate to make: the list `crate-type`.
     pub crate_type: Vec<String>,

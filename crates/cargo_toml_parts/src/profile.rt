@@ -67,8 +67,8 @@ impl Clone for Profiles {
     }
 }
 
-/// How Cargo compiles in one case. What is not given is `None`, and Cargo then takes what it
-/// does in that case.
+/// How Cargo compiles in one case. A key that is missing gives `None`, and `package` an empty map.
+/// Cargo then goes by the profile that this one inherits from, or by its own defaults.
 #[derive(Debug, PartialEq, Drop)]
 pub struct Profile {
     /// How much to optimize, any value: the key `opt-level`.

@@ -17,7 +17,8 @@ pub struct Graph<'m> {
     pub texts: Vec<&'m str>,
     /// Where the edges of each feature lead.
     pub edges: Rows,
-    /// What each feature names that is removed, or has an edge to a removed one.
+    /// What is named by each feature that is removed or has an edge to a removed one. The row of
+    /// any other is empty.
     pub names: Rows,
     /// For each node whether it is removed.
     pub flags: Vec<bool>,

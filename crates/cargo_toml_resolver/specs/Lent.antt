@@ -47,8 +47,8 @@ IsLentAs M manifest lent =
 -- and by the roots that may be found
 module _ {M : Type 0} (old : Manifest M) (handed : Option Handed) (roots : RootsTold)
     (found : MayFind) (told : Name → Told) where
-  -- after a success the manifest is as it is lent; after a refusal it is as it was or, for want of
-  -- memory alone, completed
+  -- after a success the manifest is as it is lent; after a refusal it is as it was or, only where
+  -- that is out of memory, completed
   abbrev pub IsLeftAfter : {Y : Type 0} → Result (Bor (Manifest M) × Y) Error → Manifest M → Type 0
   IsLeftAfter (Ok p) new = new ≡ p.0.now
   IsLeftAfter (Err e) new =

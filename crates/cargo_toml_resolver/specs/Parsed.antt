@@ -58,7 +58,8 @@ module _ (limit : ℕ) where
       IsAnswer (admitted limit listed) entries details own keep a
 
   module _ {M : Type 0} (m : ManifestMeaning M) where
-    -- the dependencies that count, in their order
+    -- the entries of all dependency tables, of each the first keys up to the limit, in their
+    -- order; `entries_at` takes those of a key that count
     abbrev pub parsed_entries : List Entry
     parsed_entries = entries_of limit (own_tables m) m.target
 

@@ -24,9 +24,9 @@ use std::hash::BuildHasher;
 ///
 /// The manifest comes back where it was completed, and then is as it is lent; where completion was
 /// refused, the answer is `None`, and it is as it was. What is resolved, or the fault, is put into
-/// `slot`. After a completion that fault is [`Error::Memory`].
+/// `slot`, in place of what was there. A fault after a completion is [`Error::Memory`].
 ///
-/// The filter, if there is one, answers each name in one way.
+/// The filter, if there is one, may be called on every text, and answers each in one way.
 pub fn complete_and_parse_into<
     'm,
     M: Drop,
@@ -85,10 +85,10 @@ impl<'config, F: Fn(&str) -> bool, S: BuildHasher + Clone + Drop> Resolver<'conf
     /// the features of the completed manifest as [`Resolver::parse`] does.
     ///
     /// A refusal is that of completion, or [`Error::Memory`]. It leaves the manifest as it was or,
-    /// where it is [`Error::Memory`], perhaps completed; a success leaves it as it is lent. From
-    /// [`complete_and_parse_into`] a caller's proof learns that too.
+    /// where it is [`Error::Memory`], perhaps completed; a success leaves it as it is lent. A
+    /// caller's generated proof learns what is left only from [`complete_and_parse_into`].
     ///
-    /// The filter, if there is one, answers each name in one way.
+    /// The filter, if there is one, may be called on every text, and answers each in one way.
     pub fn complete_and_parse<'m, M: Drop, N, Fs: AbstractFilesystem + Drop>(
         &self,
         alloc: Global,

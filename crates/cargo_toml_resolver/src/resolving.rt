@@ -86,8 +86,8 @@ impl<'config, F: Fn(&str) -> bool, S> Resolver<'config, F, S> {
 }
 
 impl<'config, F, S> Resolver<'config, F, S> {
-    /// The same resolver with another limit of items than 2048. Its filter and its state stay; of
-    /// several calls the last counts. The limit is at least 1.
+    /// The same resolver with this limit of items, in place of 2048 or of an earlier one. Its
+    /// filter and its state stay; of several calls the last counts. The limit is at least 1.
     ///
     /// So many names of the table of features count, and always `default`; so many texts of each
     /// feature's list; so many keys of each table of dependencies. The ten binaries that a removed
@@ -103,18 +103,24 @@ impl<'config, F, S> Resolver<'config, F, S> {
 }
 
 impl<'config, F: Fn(&str) -> bool, S: BuildHasher + Clone> Resolver<'config, F, S> {
-    /// Resolves the features of a manifest, as Cargo understands `[features]` and
-    /// optional dependencies.
+    /// Resolves the features of a manifest: those that `[features]` lists, and those that optional
+    /// dependencies imply.
     ///
     /// The answer has the features that the manifest lists, and `default`, each with what its list
     /// names and what it does to dependencies. It has a feature for each optional dependency whose
-    /// key no feature has and no `dep:` keeps for itself. It has the dependencies that are
-    /// optional, that a feature acts on, or whose key a feature has, with each target that they
-    /// stand under: normal and build dependencies come before those of targets, and dev
-    /// dependencies last. Of a key that no listed feature has or acts on, and that isn't `default`,
-    /// the entries before the first optional one don't count. Each feature names its enablers among
-    /// the others: those that name it, and those that act on the dependency of its name neither
-    /// conditionally nor by `dep:`. It names the binaries that require it, once for each mention.
+    /// key no feature has and no `dep:` keeps for itself.
+    ///
+    /// It has the dependencies that are optional, that a feature acts on, or whose key a feature
+    /// has, with each target that they stand under. Their entries come in this order: normal and
+    /// build dependencies, those of each target, dev dependencies, those of each target. Of a key
+    /// that no listed feature has or acts on, and that isn't `default`, the entries before the
+    /// first optional one don't count. The first that counts gives the crate's name: its `package`,
+    /// or else the key.
+    ///
+    /// The enablers of a feature are the others that name it, and those that act on the dependency
+    /// of its name neither conditionally nor by `dep:`. Beside them it has the binaries that
+    /// require it, once for each mention. One without a name has the package's; without a package
+    /// there are none.
     ///
     /// Where a dependency's first target is `Dependency::Detailed`, the features that it asks for
     /// anyway are left out of actions: `default`, unless it turns default features off, and those
@@ -136,17 +142,25 @@ impl<'config, F: Fn(&str) -> bool, S: BuildHasher + Clone> Resolver<'config, F, 
     /// [`FeatureDependency::dep`] asks.
     ///
     /// Features whose names begin with `_` are then removed, except those that the filter keeps.
-    /// The filter, if there is one, answers each name in one way. What a removed feature says,
-    /// those that enable it say in its place, through any number of removed ones: they name what it
-    /// names and act as it acts, and are enablers of what it enables.
+    /// The filter, if there is one, may be called on every text, and answers each in one way. What
+    /// a removed feature says, its enablers say in its place, through any number of removed ones:
+    ///
+    /// - they name what it names, except removed names;
+    /// - they act as it acts, and their actions on one dependency are joined, as those of one list
+    ///   are: conditional where all are, by `dep:` where one is, with the features of all;
+    /// - they are enablers of what it enables, so that a feature can become its own enabler.
     ///
     /// In byte order of their names, each removed feature passes its binaries on to each feature
-    /// that it then names: the first ten of its list, as it then stands. So where binaries mention
-    /// removed features at most ten times, none is lost on its way along names.
+    /// that it then names: the first ten of its list, as it then stands. A binary that the other
+    /// list has already isn't put there again. So where binaries mention removed features at most
+    /// ten times, none is lost on its way along names.
     ///
-    /// `removed_hidden_features` says whether some feature was removed, and `hidden_features` has a
-    /// set for each: what it names, where smaller removed names are replaced by what they stand
-    /// for.
+    /// `removed_hidden_features` says whether some feature was removed. `hidden_features` has a set
+    /// for each removed one: what it names once the removed ones below it in byte order are taken
+    /// out. These are its own names, and those of each removed feature below it to which it leads
+    /// through such features alone. A feature leads to those that it names, and to that of a
+    /// dependency on which it acts neither conditionally nor by `dep:`. The set has no removed name
+    /// below the feature's own; it may have that name, and removed ones above.
     ///
     /// Beside an answer at the same limit, by a filter that keeps every name:
     ///
@@ -198,7 +212,7 @@ impl<'config, F: Fn(&str) -> bool, S: BuildHasher + Clone> Resolver<'config, F, 
     /// names those count that come first in byte order, up to the limit, and `default`. Features
     /// borrow from the table and from the entries' keys, dependencies from the entries.
     ///
-    /// The filter, if there is one, answers each name in one way.
+    /// The filter, if there is one, may be called on every text, and answers each in one way.
     ///
     /// The one refusal is [`Error::Memory`], where there was no room for the answer.
     pub fn parse_custom<'m: 'd, 'd, S2: BuildHasher>(

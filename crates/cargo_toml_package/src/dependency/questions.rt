@@ -107,7 +107,8 @@ impl Dependency {
         Ok(self.req())
     }
 
-    /// The features that are asked for beside the default ones: none for a mere requirement.
+    /// The features that are asked for beside the default ones: none for a mere requirement, and
+    /// for an inherited dependency those that its own entry adds, without the workspace's.
     pub fn req_features(&self) -> &[String]
         ensures { result.now ≡ features_at self.now }
     {

@@ -98,7 +98,7 @@ pub use Rattle.cargo_toml_features.specs.NonDefault
 -- what proofs alone use: nothing here has to be believed
 pub use Rattle.cargo_toml_parts.specs.Copies
 pub use Rattle.cargo_toml_write.specs.Lawful
--- the same of the types that a caller's own definitions name, with their variants
+-- the types that a caller's own definitions name, with their variants
 pub use Rattle.cargo_toml_parts.specs.declared.error.Error
 pub use Rattle.cargo_toml_parts.specs.declared.error.ParseFault
 pub use Rattle.cargo_toml_parts.specs.declared.inheritable.Inheritable

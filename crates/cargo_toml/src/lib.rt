@@ -1,7 +1,12 @@
 //! Typed Cargo manifests, and the resolution of their features.
 //!
-//! `Manifest::from_slice` reads a `Cargo.toml`, `features::Resolver` resolves its features. Both
-//! are proved: docs/DEFINITIONS.md says what their contracts rest on.
+//! - `Manifest::from_slice` reads a `Cargo.toml`, and `Manifest::from_path` completes it, too.
+//! - `complete_from_path` and `complete_from_abstract_filesystem` fill in what a workspace gives,
+//!   and add the targets that are found in folders.
+//! - `features::Resolver` resolves the features of a manifest.
+//! - `ToValue::to_value` writes a manifest to a tree of TOML.
+//!
+//! docs/PROVED.md says what is proved of each, and docs/DEFINITIONS.md what that rests on.
 #![tactic(auto)]
 
 pub mod features;

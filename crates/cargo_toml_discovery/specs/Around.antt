@@ -11,7 +11,7 @@ use Rattle.cargo_toml_discovery.specs.Told.{Told}
 abbrev pub named_by : Name → List Name → Named
 named_by n ts = record { name = n; has_main = has_text ts (codes "main.rs") }
 
--- a source is not asked for
+-- a name in a folder, with what is seen in the folder of that name; a source is not asked for
 abbrev pub named_at : (Name → Told) → Name → Name → Seen Named
 named_at told folder n =
     if is_source n then seen (record { name = n; has_main = false })

@@ -79,7 +79,7 @@ abbrev pub first_in : List Name → List Name → File → File
 first_in root [] otherwise = otherwise
 first_in root (n ∷ ns) otherwise = if has_text root n then path n else first_in root ns otherwise
 
--- the names of a readme, the first that is there first
+-- the names that a readme may have, in the order in which they are looked for
 abbrev pub readme_names : List Name
 readme_names = codes "README.md" ∷ codes "README.txt" ∷ codes "README" ∷ []
 

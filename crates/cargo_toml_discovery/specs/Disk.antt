@@ -28,7 +28,7 @@ IsEntryFault found fault =
     ⊎ ((¬ (error_kind found ≡ NotFound))
     × ((¬ (error_kind found ≡ NotADirectory)) × (fault ≡ found)))
 
--- the fault is one of reading a file or a folder, and no want of memory
+-- the fault is one of reading a file or a folder, other than out of memory
 abbrev pub IsInputFault : Fault → Type 0
 IsInputFault fault = (kind : ErrorKind) × ((¬ (kind ≡ OutOfMemory)) × (fault ≡ io kind))
 
@@ -36,7 +36,7 @@ IsInputFault fault = (kind : ErrorKind) × ((¬ (kind ≡ OutOfMemory)) × (faul
 abbrev pub IsInput : Error → Type 0
 IsInput e = IsInputFault (fault_of e)
 
--- the fault is one of listing a folder: no want of memory, and never that a name is no folder
+-- the fault is one of listing a folder: not out of memory, and never that a name is no folder
 abbrev pub IsListingInput : Fault → Type 0
 IsListingInput fault =
     (kind : ErrorKind)

@@ -93,7 +93,7 @@ is_first os o = not (list_any (λ q. goes_before q o) os)
 abbrev pub taker : List ProductMeaning → List Offered → Offered → Option ProductMeaning
 taker ps os o = if is_first os o then last_waiting ps o.name else None
 
--- the product of an offer, by the products that are stated and the offers before it
+-- the product of an offer, by the products that are stated and all offers of the folder
 abbrev pub product_among : Edition → List ProductMeaning → List Offered → Offered → ProductMeaning
 product_among edition ps os o = product_for edition o (taker ps os o)
 

@@ -19,7 +19,7 @@ seen_as f (seen x) = seen (f x)
 seen_as f (faulty fs) = faulty fs
 seen_as f unclear = unclear
 
--- both, or the faults of both
+-- both, or the faults of both; unclear where one of the two is
 abbrev pub pair : {A B : Type 0} → Seen A → Seen B → Seen (A × B)
 pair (seen x) s = seen_as (λ y. (x, y)) s
 pair (faulty fs) (seen y) = faulty fs

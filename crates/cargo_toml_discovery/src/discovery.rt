@@ -173,9 +173,8 @@ pub fn list_of(
     Ok(list)
 }
 
-/// The build script: the path `build.rs` where none is stated or just that there is one, and
-/// that file stands beside the manifest; otherwise what is stated. It is refused only where
-/// there was no memory.
+/// The build script: the path `build.rs` where that file stands beside the manifest, and the key
+/// `build` is missing or true; otherwise what is stated. Refused out of memory alone.
 pub fn build(
     alloc: Global,
     stated: Option<&OptionalFile>,

@@ -29,8 +29,8 @@ fn listing_fault(fault: io::Error) -> Error
     }
 }
 
-// A fault of an entry, as the system gives it, in its words. Of another kind where it would say
-// that the folder is absent.
+// A fault of an entry, as the system gives it. One whose kind would say that the folder is absent
+// becomes one of the kind `Other`, with up to 80 bytes of its words.
 fn entry_fault(fault: io::Error) -> io::Error
     ensures { IsEntryFault fault result }
 {
@@ -64,8 +64,9 @@ pub fn names_in<R: Files + AllocGlobal>(
     }
 }
 
-/// The names of the entries that are given, or the first fault in place of one. That is never of a
-/// kind that says that the folder is absent, whatever kind the system gives it.
+/// The names of the entries that are given, or the first fault in place of one, as of a name that
+/// isn't UTF-8. The kind of that fault never says that the folder is absent, whatever the system
+/// gives. Out of memory is a fault of the kind `OutOfMemory`.
 // It refuses by an `io::Error`: a call at an iterator that borrows is not covered where the result
 // holds a `'static` text, as `Error` does.
 pub fn entry_names<R, A, I>(alloc: Global, entries: I) -> io::Result<HashSet<String>>

@@ -212,11 +212,15 @@ fn place_all(
     Ok(())
 }
 
-/// The products of a folder whose names are these, each once and in byte order: those that are
-/// stated with a path, one for each offer of the folder whose path none of them has, and one for
-/// `extra`, which counts as the last offer. An offer goes to the last product that has its name and
-/// no path, unless an offer before it has that name too, and else to a new product of this edition.
-/// All are in order of name and path. It is refused only where there was no memory.
+/// The products of a folder whose names are these, each once and in byte order:
+///
+/// - those that are stated with a path;
+/// - one for each offer of the folder whose path none of those has;
+/// - one for `extra`, which counts as the last offer.
+///
+/// An offer goes to the last product that has its name and no path, unless an offer before it has
+/// that name too, and else to a new product of this edition. A product without a path to which no
+/// offer goes is dropped. All are in order of name and path. Refused out of memory alone.
 pub fn found(
     alloc: Global,
     edition: Edition,

@@ -95,8 +95,8 @@ impl Listings {
         Ok(())
     }
 
-    /// The paths of the folders in a folder that may hold `main.rs`: those of the names
-    /// that are no sources.
+    /// The paths of the folders in a folder that may hold `main.rs`: those of the names that are no
+    /// sources; none where the folder was not asked for. Refused out of memory alone.
     pub fn folders_in(&self, alloc: Global, folder: &str) -> Result<Vec<String>, AllocError>
         ensures { IfOk result
             (λ v. map string_bytes v.items ≡ below folder.now (names_kept self.now folder.now)) }
@@ -113,6 +113,7 @@ impl Listings {
     }
 
     /// What a folder of products holds, by name in byte order; nothing where it was not asked for.
+    /// Refused out of memory alone.
     pub fn entries<'a>(&'a self, alloc: Global, folder: &str) -> Result<Vec<Entry<'a>>, AllocError>
         ensures names { IfOk result
             (λ v. all_named v.items ≡ entries_in (answers_of self.now) folder.now) }

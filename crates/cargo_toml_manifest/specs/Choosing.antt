@@ -29,8 +29,8 @@ roots_of finds told hint = heard finds (told hint)
 abbrev pub MayFind : Type 1
 MayFind = Option (List ℕ) → ManifestMeaning Data → List ℕ → Type 0
 
--- this workspace, or none where nothing is inherited; that none was found; or that nothing is
--- stated of it
+-- where a manifest inherits from: this workspace, or none where nothing is inherited (`from`); a
+-- root that isn't found (`lost`); or a root of which nothing is stated (`unclear_root`)
 pub data Choice : Type 0 where
   from : Option Handed → Choice
   lost : Choice

@@ -1,5 +1,5 @@
--- Which faults an implementor of `AbstractFilesystem` may give, and what has to do with them where
--- completion is refused.
+-- Which faults an implementor of `AbstractFilesystem` may give, and by which of these completion is
+-- refused.
 use Rattle.std.specs.Prelude.{◌≡◌, ◌⊎◌, ℕ, List, Bool, true, false, Option, Result}
 use Rattle.std.specs.Prelude.{Ok, Err, MatchResult, String, string_bytes, Vec}
 use Rattle.std.specs.declared.{alloc.Global.Global, io.ErrorKind.TheVariants.Unsupported}
@@ -15,14 +15,15 @@ use Rattle.cargo_toml_manifest.specs.Manifests.{ManifestMeaning}
 use Rattle.cargo_toml_manifest.specs.Roots.{IsNoRoot}
 use Rattle.cargo_toml_manifest.specs.Told.{IsRootIn, ToldRoot}
 
--- the fault may stand in place of the root of this hint: it is one of these or, where no root is
--- ever found, says so
+-- the fault may stand in place of the root of this hint: it is one that the implementor may give
+-- or, where no root is ever found, `Unsupported`, reported with the hint
 abbrev pub MayLose : Bool → (Option (List ℕ) → Fault → Type 0) → Option (List ℕ) → Fault → Type 0
 MayLose true may hint fault = may hint fault
 MayLose false may hint fault = may hint fault ⊎ (fault ≡ wrap hint (io Unsupported))
 
--- the bytes of a root, or a refusal: what becomes of it where there is no root may
--- stand in its place, and where no root is ever read, it is `Unsupported` without a path
+-- the bytes of a root, or a refusal. A fault of bytes that are no root may stand in place of the
+-- root. So may a refusal, reported with the hint; where no root is ever read, the refusal may also
+-- be `Unsupported`, without a path
 abbrev pub ReadsBy : Bool → (Option (List ℕ) → Fault → Type 0) → Option (List ℕ)
     → Result (Vec ℕ Global × String Global) Error → Type 0
 ReadsBy reads may hint result =

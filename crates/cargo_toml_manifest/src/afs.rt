@@ -154,13 +154,15 @@ pub trait AbstractFilesystem {
     /// The hint is the key `workspace` of the package: the path of the root's folder as seen from
     /// the manifest's, such as `../`, without `Cargo.toml`. `None` means that the package does not
     /// have that key: the root is then to be looked for in the folders above the manifest's. The
-    /// path in the answer should be absolute, as that of `read_root_workspace`.
+    /// path in the answer is that of the root's folder or of its `Cargo.toml`. It should be
+    /// absolute, as that of `read_root_workspace`.
     ///
     /// Where this call is left out, it is what `read_root_workspace` and `Manifest::from_slice`
     /// answer. (An implementor that leaves it out and yet says `ParsedRoot` gets `Error::Memory`.)
-    /// A fault of reading is then reported as `Error::Workspace` with the hint as its path,
-    /// and a fault of the bytes with their path; so is a manifest without a workspace table, as
-    /// `Error::WorkspaceIntegrity`. Refused memory is `Error::Memory` as ever.
+    /// A fault of reading is then reported as `Error::Workspace` with the hint as its path, unless
+    /// it is one already. A fault of the bytes, and `Error::WorkspaceIntegrity` for a manifest
+    /// without a workspace table, are reported in the same way, with the path of the bytes. Out of
+    /// memory is `Error::Memory` as ever.
     fn parse_root_workspace(
         &self,
         alloc: Global,

@@ -124,17 +124,24 @@ impl<Metadata: Drop> Manifest<Metadata> {
     ///   workspace.
     ///
     /// It gives dependencies, lints and fields of the package; where nothing is left to it, these
-    /// stay as they are.
+    /// stay as they are. Paths that it gives are joined to its folder: those of dependencies, of
+    /// the readme and of the license file.
     ///
     /// Where no workspace is handed in, `N` has to be named, and any type of metadata does:
     /// `complete_from_abstract_filesystem::<Value, _>(alloc, fs, None)`.
     ///
-    /// Where there is a package, `fs` is asked for the names in its folder, in `src`, in `src/bin`,
-    /// `examples`, `tests` and `benches` unless the package turns that off, and in the folders in
-    /// these, each once. From them come, by the rules of discovery, the library, binaries,
-    /// examples, tests and benchmarks, the build script and the readme; the lists are put in order
-    /// of name and path. A folder that is absent counts as empty, but that of the package must be
-    /// there.
+    /// Where there is a package, `fs` is asked for the names in these, each once:
+    ///
+    /// - the folder of the package, and `src`;
+    /// - `src/bin`, `examples`, `tests` and `benches`, each unless the package turns it off;
+    /// - each name in one of these four that doesn't end with `.rs`, also where it is no folder.
+    ///
+    /// A folder that is absent counts as empty, but that of the package must be there.
+    ///
+    /// From the names come the library, the products of the four lists, the build script and the
+    /// readme, by the original's rules, which follow Cargo's target auto-discovery. A product of a
+    /// list that states no path, and for which no file is found, is dropped, unless the package
+    /// turns that list off. The lists are put in order of name and path.
     ///
     /// Afterwards nothing is left to the workspace, every getter of the package may be called, and
     /// completing again with the same workspace and folders changes nothing.

@@ -54,14 +54,20 @@ impl<R: Files + AllocGlobal> AbstractFilesystem for Filesystem<'_, R> {
         names_in(self.rt, alloc, folder.as_str())
     }
 
-    /// The root of a workspace: with a hint the `Cargo.toml` in the folder that it names, and
-    /// without one the nearest above the folder that is a workspace's.
+    /// The root of a workspace. With a hint it is the `Cargo.toml` in the folder that the hint
+    /// names, and the path in the answer is that folder's. Without one it is the nearest
+    /// `Cargo.toml` above the folder that is a workspace's, as far as folders are written in the
+    /// path, and the path in the answer is that file's.
     ///
-    /// With a hint, a fault of reading is `Error::Workspace` with that file's path, a fault of its
-    /// bytes stays as it is, and a manifest without a workspace table is
-    /// `Error::WorkspaceIntegrity`. Without one, a `Cargo.toml` that can't be read is refused as
-    /// `Error::Io`; where no file above is a workspace's, the fault is that of the last one, or
-    /// `Error::Io` of the kind `NotFound` where there is none.
+    /// With a hint the refusals are
+    ///
+    /// - `Error::Workspace` with the file's path, where the file can't be read;
+    /// - that of `Manifest::from_slice`, where its bytes are no manifest;
+    /// - `Error::WorkspaceIntegrity`, where the manifest has no workspace table.
+    ///
+    /// Without one, a `Cargo.toml` that is there and can't be read is refused at once as
+    /// `Error::Io`. Where no file above is a workspace's, the fault is that of the last file, or
+    /// `Error::Io` of the kind `NotFound` where there is none. Out of memory is `Error::Memory`.
     fn parse_root_workspace(
         &self,
         alloc: Global,

@@ -63,12 +63,17 @@ impl<Metadata: Drop> Manifest<Metadata> {
     /// - where something is left to it, the root that `package.workspace` leads to, or without that
     ///   key the nearest above the folder.
     ///
+    /// The search above goes by the text of `path` alone. It sees no folder above those that are
+    /// written: from `m/Cargo.toml` none above the folder that the program runs in. Behind a `..`
+    /// it goes on with what is written before that, which need not lie above. So hand in an
+    /// absolute path without `..`.
+    ///
     /// A path that has no folder above it, the empty one or `/`, is refused as
-    /// `Error::Other("bad path")`. Other refusals are those of `complete_from_abstract_filesystem`:
-    /// `Error::Workspace` and `Error::Memory`. In the former stands what the files answer:
-    /// `Error::Io` in place of names; in place of a root what `Filesystem::parse_root_workspace`
-    /// refuses with, unless it is `Error::Workspace` itself. A refusal leaves the manifest as it
-    /// was.
+    /// `Error::Other("bad path")`. Other refusals are those of `complete_from_abstract_filesystem`.
+    /// In place of names the files answer `Error::Io`, and in place of a root what
+    /// `Filesystem::parse_root_workspace` refuses with. Each is reported as `Error::Workspace`,
+    /// unless it is one already, and out of memory as `Error::Memory`. A refusal leaves the
+    /// manifest as it was.
     pub fn complete_from_path_and_workspace<'a, N, R: Files + AllocGlobal>(
         &mut self,
         rt: &'a R,

@@ -17,7 +17,8 @@ use std::alloc::Global;
 use std::rt::Files;
 use toml::Value;
 
-/// A manifest on the heap. Who owns it doesn't look at what is in it when it is dropped.
+/// A manifest on the heap. Its `Drop` is written by hand, so that the proof of who owns it doesn't
+/// look at what is in it.
 pub struct HeldManifest {
     /// The manifest.
     pub manifest: Box<Manifest>,

@@ -83,16 +83,16 @@ pub struct Manifest<Metadata = Value> {
     /// The badges. Missing: no badge, and the maintenance status `none`.
     pub badges: Badges,
 
-    /// The binaries that are written down.
+    /// The binaries that are written down, and after completion those that are found, too.
     pub bin: Vec<Product>,
 
-    /// The benchmarks that are written down.
+    /// The benchmarks that are written down, and after completion those that are found, too.
     pub bench: Vec<Product>,
 
-    /// The tests that are written down.
+    /// The tests that are written down, and after completion those that are found, too.
     pub test: Vec<Product>,
 
-    /// The examples that are written down.
+    /// The examples that are written down, and after completion those that are found, too.
     pub example: Vec<Product>,
 
     /// The lints, by tool and then by name, which may be left to the workspace. Missing: `Set` and

@@ -22,9 +22,11 @@ exit_status Done = 0
 exit_status (Refused e) = 1
 exit_status NotACommand = 2
 
+-- how the program is called, without a line feed
 abbrev pub usage : List ℕ
 usage = codes "usage: cargo-toml features [--max N] FILE | complete FILE"
 
+-- a text, and a line feed behind it
 abbrev pub line : List ℕ → List ℕ
 line text = text ++ 10 ∷ []
 

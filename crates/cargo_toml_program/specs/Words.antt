@@ -23,7 +23,7 @@ AskFor words (Features file n) =
     × IsLimit word n)
 AskFor words (Complete file) = words ≡ codes "complete" ∷ file.now ∷ []
 
--- its limit, where it has one, is a resolver's
+-- the command's limit of items, where it has one, is at least 1, as that of a resolver
 abbrev pub HasLimit : Command → Type 0
 HasLimit (Features file n) = 1 ≤ n
 HasLimit (Complete file) = ⊤

@@ -13,7 +13,7 @@ use std::io::Write;
 use std::rt::Files;
 
 /// Reads the manifest in a file, completes it from the files around it, and writes the lines of
-/// `print_complete` to `output`. Who calls it holds no manifest.
+/// `print_complete` to `output`. The manifest is on the heap, so the caller's stack holds none.
 ///
 /// Refuses as `Manifest::from_str` and `Manifest::complete_from_path` do, with `Io` where the file
 /// can't be read or `output` can't be written, and with `Memory` where memory runs out. Nothing is

@@ -52,8 +52,9 @@ reread m = record m {
   patch = each_value (each_value reread_dependency) m.patch;
 }
 
--- versions and requirements are such as texts say, no key was collected that is known, and each
--- detail of a feature is of a listed one and says something
+-- what is asked of a manifest so that it is read again: some text says each version and is read as
+-- each requirement; no key was collected that is known; and each detail of a feature is of a listed
+-- one and says something
 abbrev pub told : {M : Type 0} → Asked M
 told = record nothing_asked {
   «package» = λ p. VersionAgain p.version;

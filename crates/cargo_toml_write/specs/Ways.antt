@@ -102,7 +102,7 @@ free_way = record {
   nothing = λ is tree. absurd (false≢true is);
 }
 
--- a list: a tree for each element; an empty one is left out
+-- whether a list is empty
 abbrev pub is_nil : {X : Type 0} → List X → Bool
 is_nil [] = true
 is_nil _ = false
@@ -111,7 +111,7 @@ is_nil _ = false
 pub all_of : {X : Type 0} (P : X → Type 0) → ((x : X) → P x) → (xs : List X) → All P xs
 all_of P h xs = λ k d lt. h _
 
--- how a list is written
+-- how a list is written: a tree for each element; an empty list is left out of a table
 abbrev pub list_way : {X : Type 0} → Way X → Way (List X)
 list_way way = record {
   trees = λ xs d. (ds : Items) × (d ≡ array ds) × AreItems way xs ds;
@@ -135,11 +135,11 @@ texts_way = list_way text_way
 abbrev pub Ascend : List (List ℕ) → Type 0
 Ascend names = IsStrictlySortedBy (slice_cmp nat_cmp) names
 
--- a map: a member for each entry, whose keys ascend; an empty one is left out
+-- the members of a map: one for each entry, whose keys ascend
 abbrev pub IsMap : {X : Type 0} → Way X → List (List ℕ × X) → Members → Type 0
 IsMap way es ms = Ascend (keys_of es) × AreEntries way es ms
 
--- how a map is written
+-- how a map is written; an empty map is left out of a table
 abbrev pub map_way : {X : Type 0} → Way X → Way (List (List ℕ × X))
 map_way {X = X} way = record {
   trees = λ es d. (ms : Members) × (d ≡ table ms) × IsMap way es ms;

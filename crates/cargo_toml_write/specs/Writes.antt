@@ -16,9 +16,10 @@ pub record AreLawful (trees : Data → Type 0) (asks : Type 0)
   pub only : (d : Data) → trees d → asks
   pub never : asks → (e : Error) → ¬ (refuses e)
 
--- how what values hold is written: the trees of each, and the faults of one that has no tree; which
--- value is left out of a table, since a missing key stands for it; and what is asked of a value so
--- that it has a tree, as that no free value in it holds a float. Of some types nothing is asked
+-- how what values hold is written. `trees` are those of a value, and `refuses` the faults of one
+-- that has no tree. `left_out` tells the value for which a missing key stands. `asks` is what a
+-- value needs so that it has a tree, as that no free value in it holds a float. Where
+-- `asks_nothing` is true, no value of the type needs anything
 pub record Way (X : Type 0) : Type 1 where
   pub trees : X → Data → Type 0
   pub refuses : X → Error → Type 0

@@ -203,7 +203,7 @@ profiles_way = record (over_way profile_way (λ p. p.custom) known_profiles) {
   left_out = has_no_profile;
 }
 
--- no profile of another name has that of one that Cargo knows
+-- no collected profile has the name of one that Cargo knows
 abbrev pub AreApart : ProfilesMeaning → Type 0
 AreApart p = All (λ e. is_among profile_keys e.0 ≡ false) p.custom
 
@@ -235,7 +235,7 @@ lint_way = by_part (λ l. lint_part (is_level_alone l) l) false (λ is l. absurd
 abbrev pub lint_groups_way : Way (List (List ℕ × List (List ℕ × LintMeaning)))
 lint_groups_way = map_way (map_way lint_way)
 
--- the lint collected no key that is named otherwise
+-- the lint collected no key that has a field of its own, `level` or `priority`
 abbrev pub IsApart : LintMeaning → Type 0
 IsApart l = All (λ m. is_among lint_keys m.0 ≡ false) l.config
 

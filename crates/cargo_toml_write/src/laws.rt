@@ -60,7 +60,8 @@ pub fn collections_are_read_again<T: ToValue>()
 {}
 
 /// A manifest that was read, of a tree or of a document, with metadata as a free value, is as asked
-/// of one that is written, and so is never refused: what it was read of holds no float.
+/// of one that is written, since what it was read of holds no float. So writing it is refused with
+/// `Memory` alone.
 pub fn read_manifests_are_written()
     ensures of_tree { (d : Data) (m : ManifestMeaning Data)
         → without_floats (manifest_reads any_tree) d ≡ Some m → (manifest_way free_way).asks m }

@@ -17,13 +17,17 @@ use cargo_toml_parts::Error;
 use std::alloc::Global;
 use toml::{Table, Value};
 
-/// What can be written to a value of TOML. Each type of a manifest is; the type of a package's
-/// metadata is any such type.
+/// What can be written to a value of TOML. Each type of a manifest is. The type of its metadata has
+/// to be; a manifest and a package ask `FromValue` of that type, too.
 ///
-/// A type says what its values mean, and the way in which that is written: which trees it is
-/// written to, which faults a value that has none may be refused with, and what is asked of a value
-/// so that it has one. A way is lawful: a value that is as asked is never refused, and no other has
-/// a tree; and no tree holds a float, so that no reader refuses one for that.
+/// For proofs alone, a type says what its values mean, and the way in which that is written:
+///
+/// - which trees a value is written to;
+/// - with which faults a value that has no tree may be refused;
+/// - what is asked of a value so that it has a tree.
+///
+/// A way is lawful: a value that is as asked is refused with `Memory` alone, and no other has a
+/// tree. No tree holds a float, so that no reader refuses one for that.
 pub trait ToValue {
     // what its values mean: the type of meanings
     ghost Meaning: { Type 0 };
@@ -35,13 +39,12 @@ pub trait ToValue {
     ghost way: { Way Meaning };
 
     /// A tree of the value. A value that has none is refused with a fault of its own, and any value
-    /// may be refused as [`Error::Memory`] where there is not enough memory.
+    /// may be refused as [`Error::Memory`], out of memory.
     ///
-    /// Of the types of a manifest only these values have no tree:
-    ///
-    /// - one in which a free value holds a float, which is refused as [`Error::Other`] with the
-    ///   text `floats are not supported`;
-    /// - one whose metadata, of a caller's own type, has none; that fault is handed on as it is.
+    /// Of the types of a manifest two kinds of values have no tree. One in which a free value holds
+    /// a float is refused as [`Error::Other`] with the text `floats are not supported`. One whose
+    /// metadata, of a caller's own type, have no tree is refused with the fault of that type, as it
+    /// is. Where a value is of both kinds, either fault is reported.
     fn to_value(&self, alloc: Global) -> Result<Value, Error>
         ensures { IsWriting way (meaning self.now) result };
 }

@@ -20,9 +20,12 @@ use toml::Value;
 /// A field that holds what a missing key stands for is left out: the default manifest is written
 /// as the empty table.
 ///
-/// A manifest that is told, as each that was read, is read again as `reread` says, where its
-/// metadata are read again: as it was, but for dependencies that say `workspace = false`, the mark
-/// of those that were inherited, and the rule of version 0.0.0.
+/// A manifest that meets `IsTold`, as each that was read does, is read again as `reread` says,
+/// where its metadata are read again. That is the manifest as it was, except
+///
+/// - dependencies that say `workspace = false`, which become details;
+/// - the mark of dependencies that were inherited;
+/// - the rule of version 0.0.0.
 impl<Metadata: FromValue + ToValue> ToValue for Manifest<Metadata> {
     ghost Meaning = { ManifestMeaning Metadata.ToValue.Meaning };
 

@@ -11,7 +11,7 @@ use crate::report::print::read;
 use cargo_toml::{Error, Inheritable, Manifest, SemVer, ToValue, Value};
 use cargo_toml_write::laws::{read_dependencies_are_told, read_manifests_are_told};
 use cargo_toml_write::write::package::value_metadata;
-use std::alloc::Global;
+use std::alloc::{AllocError, Global};
 
 /// The text of the manifest that these bytes spell, with this version of its package, if it has
 /// one. Where the text nests no deeper than `toml` reads, that manifest with that version is read
@@ -30,10 +30,22 @@ pub fn with_version(alloc: Global, bytes: &[u8], version: &str) -> Result<String
     manifest_text(alloc, &*held.manifest)
 }
 
+// The fault of a text that `semver` refused.
+fn refusal(fault: semver::Error) -> Error {
+    if fault == semver::Error::from(AllocError) {
+        Error::Memory
+    } else {
+        Error::Other("no version")
+    }
+}
+
 fn read_version(alloc: Global, text: &str) -> Result<SemVer, Error>
     ensures { IfOk result (λ v. version_parts text.now ≡ Ok (parts_of v)) }
 {
-    SemVer::parse(alloc, text).map_err(|_| Error::Other("no version"))
+    match SemVer::parse(alloc, text) {
+        Ok(version) => Ok(version),
+        Err(fault) => Err(refusal(fault)),
+    }
 }
 
 // Puts the version into the package, if there is one.
@@ -57,6 +69,7 @@ pub(crate) fn manifest_text(alloc: Global, manifest: &Manifest) -> Result<String
     match manifest.to_value(alloc)? {
         Value::Table(table) => match toml::table_to_string(alloc, &table) {
             Ok(text) => Ok(text),
+            Err(toml::ser::Error::OutOfMemory) => Err(Error::Memory),
             Err(_) => Err(Error::Other("a manifest that can't be printed")),
         },
         _ => Err(Error::Other("a manifest that is no table")),

@@ -181,8 +181,8 @@ pub fn record_dependencies<'m: 'd, 'd>(
         → ((k : Text) → is_mentioned_in mentions.now k ≡ is_mentioned listed k) → (k : Text)
         → recorded_at s k ≡ recorded_of (entries_at listed (map entry_of entries.now) k)) }
 {
-    // Most manifests have no feature, and no optional dependency either.
-    if mentions.features.is_empty() && !counts_any(mentions, entries) {
+    // Most manifests have no feature except `default`, and no optional dependency either.
+    if mentions.features.len() == 1 && !counts_any(mentions, entries) {
         return empty_slots(alloc, Vec::new(alloc));
     }
     let Counting { flags, keys } = counting_entries(alloc, mentions, entries)?;

@@ -305,9 +305,3 @@ impl Duplicate for DependencyDetail {
         self.clone()
     }
 }
-
-impl Duplicate for Dependency {
-    fn duplicate(&self, _alloc: Global) -> Result<Dependency, AllocError> {
-        self.clone()
-    }
-}

@@ -4,7 +4,6 @@ ghost use Rattle.std.specs.Prelude.{◌≡◌, IfOk};
 use crate::read::Read;
 use semver::{Version, VersionReq};
 use std::alloc::{AllocError, Global};
-use toml::Value;
 
 /// What can be copied so that the copy holds the same.
 pub trait Duplicate: Read {
@@ -16,12 +15,6 @@ pub trait Duplicate: Read {
 impl Duplicate for String {
     fn duplicate(&self, alloc: Global) -> Result<String, AllocError> {
         String::from_str(alloc, self.as_str())
-    }
-}
-
-impl Duplicate for Value {
-    fn duplicate(&self, _alloc: Global) -> Result<Value, AllocError> {
-        self.clone()
     }
 }
 

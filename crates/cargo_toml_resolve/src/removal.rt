@@ -20,7 +20,7 @@ fn tables_of(alloc: Global, graph: &Graph<'_>) -> Result<Option<Tables>, AllocEr
     ensures { IfOk result (λ o. ForSome o
         (AreTables graph.now.edges graph.now.names graph.now.flags.items)) }
 {
-    if !is_dense(&graph.edges, graph.edges.len()) {
+    if !is_dense(&graph.edges, graph.flags.len()) {
         return Ok(None);
     }
     let tables = take_out(alloc, &graph.edges, &graph.names, graph.flags.as_slice())?;

@@ -1,7 +1,7 @@
 """Holds the rows of `document` against Cargo, offline, on random manifests: what `default` and each
 feature turn on, by `cargo metadata --features F`.
 
-    compare/cargo_document.py [--count N] [--seed N] [--program PROGRAM]
+    compare/cargo document [--count N] [--seed N] [--program PROGRAM]
 
 The manifests are made as those of `cargo_lint.py`, less odd; those that Cargo takes count. A page
 doesn't name hidden features. A difference that is meant is of a class that `MEANT` names.

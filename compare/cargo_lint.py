@@ -1,7 +1,7 @@
 """Holds `lint` against Cargo, offline, on random manifests: what Cargo refuses of features is an
 error of `lint`, with the same feature and text, and nothing else is.
 
-    compare/cargo_lint.py [--count N] [--seed N] [--program PROGRAM]
+    compare/cargo lint [--count N] [--seed N] [--program PROGRAM]
 
 Cargo reads each manifest and resolves it with all features, over dependencies that lie beside it.
 Where a target requires features, it also checks all targets, by a compiler that does nothing. A

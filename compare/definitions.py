@@ -157,10 +157,9 @@ def written_action(key, action):
 class Expected:
     """The lines of a manifest."""
 
-    def __init__(self, manifest, limit=LIMIT, keeps=lambda name: False):
+    def __init__(self, manifest, limit=LIMIT):
         self.graph = graph = Graph(manifest, limit)
-        hidden = [feature for feature in graph.names if feature.startswith("_")]
-        self.removed = {feature for feature in hidden if not keeps(feature)}
+        self.removed = {feature for feature in graph.names if feature.startswith("_")}
         self.kept = in_order(graph.names.keys() - self.removed)
         self.reached = {feature: graph.reached(feature, self.removed) for feature in graph.names}
         self.bins = self.passed_on()

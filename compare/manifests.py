@@ -107,17 +107,14 @@ class Manifests:
                     texts.append(self.one(implied))
         return ["[features]"] + [f"{quoted(k)} = {listed(v)}" for k, v in lists.items()]
 
-    def manifest(self, name, path=None, is_odd=False, is_member=False, stubs=False):
+    def manifest(self, name, path=None, is_odd=False, is_member=False):
         self.edition = self.one(EDITIONS)
         lines = ["[package]", f'name = "{name}"', f'edition = "{self.edition}"']
         lines += ['description = "x"', 'license = "MIT"']
         lines += self.values(is_member)
         if self.happens(0.1):
             lines.append('links = "z"')
-        if stubs:
-            lines += self.stubs()
-        else:
-            lines += self.tables(path, is_member)
+        lines += self.tables(path, is_member)
         lines += self.features(is_odd)
         return "\n".join(lines) + "\n"
 
@@ -132,15 +129,6 @@ class Manifests:
         self.version = (GIVEN if "version" in left else stated).get("version", '"0.0.0"')[1:-1]
         stated |= dict.fromkeys(left, "{ workspace = true }")
         return [f"{key} = {value}" for key, value in stated.items()]
-
-    def stubs(self):
-        """Dependencies that lie beside the manifest."""
-        lines, self.keys = ["[dependencies]"], {}
-        for key in filter(lambda _: self.happens(0.6), KEYS):
-            self.keys[key] = self.happens(0.6)
-            flag = ", optional = true" if self.keys[key] else ""
-            lines.append(f'{key} = {{ path = "stubs/{key}"{flag} }}')
-        return lines
 
     def member(self, name, path):
         return self.manifest(name, path, is_odd=self.happens(0.15), is_member=True)

@@ -533,16 +533,15 @@ class Lint(Features):
         found.pop(None, None)
         return found
 
-    def lines(self, name=None):
-        """The lines, each with the name of the file in front where one is given, and the status."""
+    def lines(self):
+        """The lines, and the status."""
         text, status = "", 0
         found = self.found()
         for code in sorted(found, key=lambda code: (WORDS_OF[code][0], code)):
             level, words = WORDS_OF[code]
-            front = "" if name is None else for_line(name) + ": "
             for one in sorted(found[code], key=lambda one: [part.encode() for part in one]):
                 told = " | ".join([level, code, *map(for_line, one), words])
-                text += f"{front}{told}\n"
+                text += f"{told}\n"
                 status = status if level == "hint" else 3
         return text, status
 

@@ -1,5 +1,5 @@
-"""Random workspaces on a disk, for tools.py, complete.py and cargo_audit.py: members by patterns and
-by name, what they inherit, and what is odd of them. Few names, so that they often meet."""
+"""Random workspaces on a disk, for complete.py and cargo_audit.py: members by patterns and by name,
+what they inherit, and what is odd of them. Few names, so that they often meet."""
 
 import os
 import random

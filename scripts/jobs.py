@@ -77,10 +77,12 @@ class Job:
                 data = file.read()
             made.update(os.fsencode(os.path.relpath(path, ROOT)) + b" %d\n" % len(data) + data)
         self.kept = f"{KEPT}/{made.hexdigest()}"
-        if os.path.isfile(self.kept):
-            self.passed = int(text_of(self.kept))
+        # a disk that was full may have left an empty file
+        passed = lines_of(self.kept)
+        if passed:
+            self.passed = int(passed[0])
             self.tell("nothing changed since it passed")
-        return os.path.isfile(self.kept)
+        return bool(passed)
 
     @contextlib.contextmanager
     def begun(self, at):
@@ -122,14 +124,15 @@ class Scripts(Job):
     """The scripts, which say how many checks they made."""
 
     def __init__(self):
-        # they also try the second program, where it is built
-        built = f"{CRATES}/cargo_toml_tools_cli/out/cargo_toml_tools_cli"
-        super().__init__("scripts/check", ROOT, [f"{SCRIPTS}/check"], [*files_below(ROOT), built])
+        # they also try the programs, where these are built
+        built = [f"{CRATES}/{it}/out/{it}" for it in ("cargo_toml_cli", "cargo_toml_tools_cli")]
+        super().__init__("scripts/check", ROOT, [f"{SCRIPTS}/check"], [*files_below(ROOT), *built])
 
     def judge(self, status, out, said):
         found = re.search(r"(?m)^scripts/check: (\d+) checks, (\d+) failed$", out)
         self.passed = int(found[1]) - int(found[2]) if found else 0
-        self.failed = dict.fromkeys(re.findall(r"(?m)^scripts/check: FAILED: (.*)$", out), "")
+        told = re.split(r"(?m)^scripts/check: FAILED: ", out)[1:]
+        self.failed = dict(it.partition("\n")[::2] for it in told)
         if status and not self.failed:
             self.failed["a script"] = out + said
 
@@ -269,6 +272,8 @@ class Programs(Job):
         words, name = [it.words for it in runs], ", ".join(it.name for it in runs)
         super().__init__(name, ROOT, words, sources)
         self.is_for_nobody = any(it.is_for_nobody for it in runs)
+        for it in runs:
+            self.skipped.update(it.skipped)
 
     def begun(self, at):
         names, top = [it.crate for it in self.runs], f"{at}/repository"
@@ -303,7 +308,6 @@ class Programs(Job):
             run.judge(ended.get(run.crate), wrote.get(run.crate, ""), said)
             self.passed += run.passed
             self.failed.update(run.failed)
-            self.skipped.update(run.skipped)
 
 
 def put(path, *lines):

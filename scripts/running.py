@@ -141,13 +141,13 @@ def copy_crates(program, to, also=()):
 
 
 def workers(at):
-    """The processes that were started for a room, and the folder that each works in. They have the
-    room in their environment, since their temporary files lie there."""
-    found, mark = {}, f"={at}/".encode()
+    """The processes that were started for a room. They have the room in their environment, since
+    their temporary files lie there."""
+    found, mark = [], f"={at}/".encode()
     for name in filter(str.isdigit, os.listdir("/proc")):
         with contextlib.suppress(OSError), open(f"/proc/{name}/environ", "rb") as file:
             if mark in file.read() and int(name) != os.getpid():
-                found[int(name)] = os.readlink(f"/proc/{name}/cwd")
+                found.append(int(name))
     return found
 
 

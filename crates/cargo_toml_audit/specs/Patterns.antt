@@ -145,8 +145,7 @@ is_pattern name = list_any is_sign name
 
 -- ---- the code's own steps: nothing here has to be believed
 
--- of tests at all ends of a text, from the shortest on: the row with one more character of the
--- pattern
+-- of tests at all ends of a text, from the shortest on: the row with one more part of the pattern
 abbrev pub next : Bool → Part → List Bool → List ℕ → List Bool
 next true wanted reached cs =
     scan (λ some here. some || here) (λ some here. some || here) false reached

@@ -48,13 +48,15 @@ pub struct Member {
 pub enum Code {
     /// A member, or what a member depends on by a path, has no manifest.
     Absent,
-    /// An entry of a list is no pattern.
+    /// An entry of `members` or `default-members` is no pattern, or has over 4,096 bytes.
     BadPattern,
-    /// An entry of `default-members` leads to no member.
+    /// An entry of `default-members` leads to a place that is no member's, alone or among others. A
+    /// place that `members` lists and `exclude` excludes doesn't count.
     DefaultMember,
     /// A member's features have errors by `lint`.
     Features,
-    /// A member doesn't read or complete.
+    /// A member doesn't read or complete, or has no package. Or a dependency by a path, outside the
+    /// workspace, doesn't read or complete.
     Incomplete,
     /// A member is listed twice.
     ListedTwice,
@@ -82,7 +84,7 @@ pub enum Code {
     TwoWorkspaces,
     /// What was asked for lies in the workspace, and is no member.
     Unlisted,
-    /// A path under a pattern can't be looked at.
+    /// A path to which an entry may lead can't be looked at, or a folder there can't be read whole.
     Unseen,
     /// No member inherits a dependency of the workspace.
     UnusedDependency,

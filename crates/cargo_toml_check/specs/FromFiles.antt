@@ -21,7 +21,8 @@ abbrev pub IsRefusedFor : Text → Text → (Manifest Value → Error → Type 0
 IsRefusedFor path text refuses e =
     IsUncompleted path text e ⊎ HoldsOfCompleted path text (λ m. refuses m e)
 
--- nothing is told just where the text reads and completes
+-- nothing is told only where the text reads and completes. That something is told says nothing of a
+-- text: out of memory is always such a fault
 abbrev pub IsChecked : Text → Text → Bool → Type 0
 IsChecked path text false = (m : Manifest Value) × IsCompletedIn path text m
 IsChecked path text true = (e : Error) × IsUncompleted path text e

@@ -31,8 +31,9 @@ abbrev mutual
   with_json no_members js = js
   with_json (member k d ms) js = with_json ms (json.put k (json_of d) js)
 
--- the text is printed of a tree that reads as the manifest again: as it was, but for the mark of
--- what was inherited, for `workspace = false`, and for the rule of version 0.0.0
+-- the text is printed of a tree. Where the manifest meets the conditions of reading again, the tree
+-- reads as the manifest, except the mark of what was inherited, `workspace = false`, and the rule
+-- of version 0.0.0
 pub record IsShown (m : ManifestMeaning Data) (text : List ℕ) : Type 0 where
   pub tree : Members
   pub printed : IsDocumentText false tree text

@@ -18,16 +18,19 @@ use toml::Value;
 /// Something at fault in a text.
 #[derive(Debug, Drop)]
 pub struct Told {
-    /// Where the key stands, or what isn't TOML.
+    /// Where the key is first mentioned, or where the text stops being TOML. It is 1:1 where
+    /// neither is known.
     pub place: Place,
-    /// The path of the key, or nothing.
+    /// The path of the key, escaped as for a line, and cut after 200 bytes. It is empty where the
+    /// whole text is at fault.
     pub key: String,
     /// What is wrong with it.
     pub words: String,
 }
 
-/// What is at fault in a text: why it isn't TOML, or else each part that doesn't read. There is
-/// nothing just where the text reads as a manifest.
+/// What is at fault in a text, in the order of the places: why it isn't TOML, or else the innermost
+/// parts that don't read. There is nothing just where the text reads as a manifest. The one refusal
+/// is out of memory.
 pub fn faults_in(alloc: Global, text: &str) -> AllocResult<Vec<Told>>
     ensures silent { IfOk result (λ v. v.items ≡ []
         ↔ IsSome (document_reads (manifest_reads any_tree) (parse_document text.now))) }

@@ -25,10 +25,11 @@ type Cells<'a> = (&'a str, &'a str, &'a str, &'a str, &'a str);
 /// What is passed over: a code, of one feature or of any.
 type Allowed<'a> = (&'a str, Option<&'a str>);
 
-/// What is amiss with the features of the manifest in this text of a file, a line each, and whether
-/// something counts. A manifest that doesn't read has the finding `unreadable` for each part at
-/// fault. The manifest's own `package.metadata.cargo-toml-tools.allow` is heeded, too. Refused
-/// where there is no memory, or nothing random.
+/// What is amiss with the features of the manifest in this text of a file, a line each, of JSON
+/// where `judging` asks for it, and whether something counts. A manifest that doesn't read has the
+/// finding `unreadable` for each part at fault, which always counts. The manifest's own
+/// `package.metadata.cargo-toml-tools.allow` is heeded, too. Refused out of memory, or where
+/// nothing random can be had.
 pub fn lint_lines<R: RandomSource + AllocGlobal>(
     rt: &R,
     file: &str,

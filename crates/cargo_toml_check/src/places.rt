@@ -77,7 +77,9 @@ impl Paths {
     }
 }
 
-/// The places where these paths are first mentioned in the text of a document.
+/// The places where these paths are first mentioned in the text of a document, by their numbers.
+/// The text has to be TOML, since a fault of the text is answered as out of memory, too. That is
+/// the one refusal.
 pub fn places(alloc: Global, text: &str, wanted: &Paths) -> AllocResult<BTreeMap<usize, Place>> {
     let at = start_of(text);
     let mut walk = Walk {

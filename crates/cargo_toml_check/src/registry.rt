@@ -23,9 +23,12 @@ pub fn checksums<'t>(alloc: Global, lines: &'t str) -> AllocResult<BTreeMap<&'t 
     Ok(all)
 }
 
-/// Adds a line to the file that the index in a folder has of a crate. The file is written anew
-/// beside the old one, and then takes its place. No name, or one that could lead elsewhere, is
-/// refused.
+/// Adds a line to the file that the index in a folder has of a crate, also where the file has that
+/// line already. The file is written anew beside the old one, and then takes its place. Two calls
+/// at once must not write one file.
+///
+/// A name is refused as `InvalidInput` where it is empty, or has more than ASCII letters, digits,
+/// `-` and `_`. Each fault of reading, making or writing is handed on. The old file then stays.
 pub fn add_to_index<R: Files + AllocGlobal>(rt: &R, index: &str, made: &Indexed) -> io::Result<()> {
     let alloc = rt.alloc();
     if made.name.is_empty() || !made.name.bytes().all(is_bare) {

@@ -32,7 +32,8 @@ told f t None = []
 told f t (Some c) = (c, f, t) ∷ []
 
 -- ---- what is wrong with what is written
--- with the name x in the list of f
+
+-- what is wrong with the name x in the list of f
 abbrev pub name_fault : Names → Text → Text → Option Code
 name_fault n f x =
     if bytes_eq x f then Some code.NamesItself
@@ -79,7 +80,8 @@ is_over limit listed f ts =
     nat_lt limit (length ts) || not (is_explicit (admitted limit listed) f)
 
 -- ---- what is found in what is written
--- of the list of f
+
+-- what is found in the list of f
 abbrev pub list_findings : Names → Text → List Text → List About
 list_findings n f ts = flat_map (λ t. told f t (text_fault n f t)) ts
 
@@ -129,8 +131,9 @@ products_findings n m =
     ++ (flat_map (product_findings n) m.example
     ++ (flat_map (product_findings n) m.test ++ flat_map (product_findings n) m.bench))
 
--- ---- by a table of what features turn on
--- what users aren't meant to ask for by its name
+-- ---- what is found by a table of what features turn on
+
+-- a hidden feature: by its name, users aren't meant to ask for it
 abbrev pub is_hidden : Text → Bool
 is_hidden f = starts_with nat_eq f (codes "_")
 
@@ -175,8 +178,9 @@ findings_by n over limit listed m =
     ++ (flat_map (λ e. told e.0 [] (Some code.FeatureTable)) m.feature_details
     ++ (tables_findings limit m ++ products_findings n m))
 
--- where so many names of the table of features count, texts of a feature, and keys of a table of
--- dependencies
+-- by the limit of names of the table of features, of texts of a feature, and of keys of a table of
+-- dependencies. The limit decides which features there are, which are implied, and what is over it.
+-- Faults of texts, and what features turn on, are of all that is written
 module _ {M : Type 0} (limit : ℕ) (m : ManifestMeaning M) where
   -- the findings of all that is written
   abbrev pub written_findings : List About

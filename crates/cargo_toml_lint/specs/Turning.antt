@@ -15,8 +15,8 @@ turns_to optional x (On k a) =
 abbrev pub turned : Listed → (Text → Bool) → Text → Text → Bool
 turned listed optional f x = list_any (turns_to optional x) (items listed f)
 
--- these features, each with what some item of its list turns on. What dependencies do counts no
--- more
+-- these features, each with what some item of its list turns on. The table has no actions on
+-- dependencies
 abbrev pub turning_by : Listed → (Text → Bool) → (Text → Bool) → Table
 turning_by listed optional has = record {
   has = has;

@@ -124,6 +124,10 @@ pub(crate) fn links_of<'m, S: BuildHasher>(
 
 impl<'m> Links<'m> {
     /// Which of the features of a manifest turn on which.
+    ///
+    /// `features` are what the manifest resolves to with none removed. All that the manifest lists
+    /// counts, also texts of a feature and keys of dependencies beyond the limit. The one refusal
+    /// is out of memory.
     pub fn new<M, S: BuildHasher>(
         alloc: Global,
         manifest: &Manifest<M>,
@@ -163,7 +167,8 @@ impl<'m> Links<'m> {
         self.names[place]
     }
 
-    /// The places of what the feature in this one turns on in one step, though no clause says so.
+    /// The places of what the feature in this place turns on in one step, one for each text that
+    /// does so. There are none for a place past the last. No clause says which they are.
     pub fn next(&self, place: usize) -> &[usize] {
         let row = self.reach.next.get(place);
         row.map_or(&[], |row| row.as_slice())

@@ -136,9 +136,10 @@ fn open_if_new(
 
 /// What each vertex of a graph leads to.
 ///
-/// Whoever stands behind those that it leads to finds their rows whole. So a graph without rings
-/// takes edges times vertices steps at most, and each vertex in a ring up to as many again. A row
-/// is kept of each vertex with edges alone: the others lead but to themselves.
+/// The row of a vertex is made behind those of the vertices that it leads to, which stand by then.
+/// So a graph without rings takes edges times vertices steps at most, and each vertex in a ring up
+/// to as many again. Only a vertex with edges has a row: another one leads to itself alone. The one
+/// refusal is out of memory.
 pub fn reach_all(alloc: Global, next: Vec<Vec<usize>>) -> AllocResult<Reach>
     requires { (a b : ℕ) → Leads next.items a b → b < length next.items }
     ensures finished { IfOk result IsFinished }

@@ -37,7 +37,8 @@ module _ {S : Type 0} (t : Table) (m : HashMap (Bor Text) Feature S) where
   abbrev pub IsOn : Text → Text → Type 0
   IsOn f x = IsTrue (t.has f) × Enables t f x
 
-  -- what is reached from f: the others, and what all of them do to each dependency, joined
+  -- what is reached from f: the others that are told of, and what is done to each dependency,
+  -- joined of all that f turns on: of f itself and of hidden features, too
   pub record IsReachedFrom (f : Text) (r : Reached) : Type 0 where
     pub features : (x : Text) → IsTrue (set_has r.features x)
         ↔ (IsOn f x × IsTrue (is_beside m f x))

@@ -146,7 +146,8 @@ pub record Wanted : Type 0 where
 
 -- ---- refusals
 
--- what an index doesn't take, and the key or the name that is at fault
+-- what an index doesn't take, and what is at fault: a key, a name, or the text of a `rust-version`.
+-- It is empty for a package that is missing, its name, its version, and publishing
 abbrev pub Refusal : Type 0
 Refusal = Fault × Text
 

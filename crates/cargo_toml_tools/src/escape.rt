@@ -10,7 +10,8 @@ use std::fmt::Write;
 /// What a text is written into.
 #[derive(Clone, Copy, Debug, PartialEq, Eq)]
 pub enum Format {
-    /// A line with bars between its columns: `\`, `|` and controls are written as in Rust.
+    /// A line with bars between its columns: `\` and `|` get a `\` before them, and controls are
+    /// written as in Rust, by their numbers.
     Line,
     /// Markdown, at a place within a line: what has a meaning there is written by its number.
     Markdown,

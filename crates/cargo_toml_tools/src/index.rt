@@ -51,9 +51,10 @@ pub struct Options<'a> {
 /// Why a crate has no line.
 #[derive(Debug, Drop)]
 pub enum IndexError {
-    /// An index doesn't take it, and what has this key or name is at fault.
+    /// An index doesn't take it. The text is the key or the name that is at fault, and the
+    /// `rust-version` itself where that is odd. It is empty where the fault is the package's own.
     Refused(Fault, String),
-    /// There was no memory.
+    /// Out of memory.
     Memory,
 }
 
@@ -97,6 +98,10 @@ impl std::error::Error for IndexError {}
 /// - Dev-dependencies stay. One with a path or a repository and no version is left out, with what
 ///   acts on it in features. Another dependency without a version is refused.
 /// - A feature whose list has a `dep:` or a `?/` has that list under `features2`, and `v` is 2.
+///
+/// Refused out of memory, or with the first [`Fault`]: of the package, its name and its version, of
+/// its tables of dependencies, of its `rust-version`. Without `force`, publishing and then an error
+/// of `findings` come last.
 pub fn index_entry<M>(
     alloc: Global,
     manifest: &Manifest<M>,

@@ -67,7 +67,8 @@ fn push_told<R: Files + AllocGlobal>(
     Ok(())
 }
 
-/// The manifests of the members of the workspace around a folder, and of what is refused as one.
+/// The manifests of the members of the workspace around a folder, and of what is absent or doesn't
+/// complete: of members, and of dependencies by a path outside the workspace.
 pub(crate) fn members<R: Files + Eprint + RandomSource + AllocGlobal>(
     rt: &R,
     folder: &str,

@@ -4,7 +4,14 @@
 //! The words of the command line are the rows' folders, which end with KIND/NAME. A line for each
 //! says that all is as expected, or what came instead. The file `like` of a row leads to the folder
 //! of another, whose manifest or workspace it has too. The lines of a file `tree` make those of
-//! its row. Rows of `cases` and of `words` have neither.
+//! its row. Rows of `cases` and of `words` have neither. The kinds:
+//!
+//! - `check`, `show`, `features`, `index`, `lint`, `document`: what the tool prints.
+//! - `json`, `graph`: the same of `show --json` and `document --dot`.
+//! - `audit`, `report`: the report on a workspace as lines, and as JSON.
+//! - `findings`: what `lint` finds, without places, at the limit in `max` where that is there.
+//! - `cases`: what is at fault in many short texts.
+//! - `words`: what command lines ask for.
 #![tactic(auto)]
 
 mod cases;

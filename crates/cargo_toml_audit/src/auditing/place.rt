@@ -187,8 +187,8 @@ fn refusal_code(fault: &Error) -> Code
     }
 }
 
-/// The words of a fault. Of what the workspace gives the fault inside is told: which workspace it
-/// is, is known.
+/// The words of a fault. Where completion wrapped the fault, the words are of the fault inside,
+/// without the path of the workspace.
 fn refusal_words(alloc: Global, code: Code, fault: &Error) -> AllocResult<String> {
     if code == Code::Absent {
         return String::from_str(alloc, code.words());

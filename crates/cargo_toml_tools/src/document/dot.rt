@@ -14,7 +14,8 @@ use std::hash::BuildHasher;
 ///
 /// Hidden and private features are dashed, `default` is bold where it is listed, and else left out.
 /// Dependencies are boxes, and an action that counts only where something else turns the dependency
-/// on is dotted. What is resolved has hidden features.
+/// on is dotted. `resolved` is what the manifest resolves to with no feature removed. The one
+/// refusal is out of memory.
 pub fn graph<M, S: BuildHasher>(
     alloc: Global,
     manifest: &Manifest<M>,

@@ -43,7 +43,11 @@ pub trait TakesRows {
         ensures { OnOk result (took self.old rows.now self.new) };
 }
 
-/// The rows of all features that are told of, in byte order of their names.
+/// The rows of all features that are told of, in byte order of their names: neither hidden nor
+/// private ones, and `default` only where the manifest lists it.
+///
+/// `features` are what the manifest resolves to with none removed, each under its own key. Else no
+/// clause says what the rows are. The one refusal is out of memory.
 pub fn rows<'m, M, S: BuildHasher>(
     alloc: Global,
     manifest: &Manifest<M>,

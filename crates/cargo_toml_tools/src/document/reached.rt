@@ -16,9 +16,10 @@ use std::hash::BuildHasher;
 /// What a feature turns on.
 #[derive(Drop)]
 pub struct Reached<'m> {
-    /// The other features, but for private ones.
+    /// The other features, except hidden and private ones.
     pub features: BTreeSet<&'m str>,
-    /// What is done to dependencies, by their keys, joined of all that is turned on.
+    /// What is done to dependencies, by their keys, joined of the feature itself and of all that it
+    /// turns on, hidden and private features too.
     pub actions: BTreeMap<&'m str, DepAction<'m>>,
 }
 

@@ -14,14 +14,15 @@ use std::hash::RandomState;
 use std::random::RandomSource;
 use std::rt::Files;
 
-/// The text of a file.
+/// The text of a file. Refused where the file can't be read or isn't UTF-8, or out of memory.
 pub fn text_in<R: Files + AllocGlobal>(rt: &R, file: &str) -> Result<String, Error>
     ensures { IfErr result IsOfInput }
 {
     Ok(fs::read_to_string(rt, file)?)
 }
 
-/// The manifest in the text of this file, completed from what is around it.
+/// The manifest in the text of this file, completed from what is around the file. Refused where the
+/// text doesn't read or complete, where the path has no folder above it, or out of memory.
 pub fn completed_of<R: Files + AllocGlobal>(
     rt: &R,
     file: &str,
@@ -36,7 +37,8 @@ pub fn completed_of<R: Files + AllocGlobal>(
     Ok(held)
 }
 
-/// The manifest in this file.
+/// The manifest in this file as it is written: nothing is completed. Refused where the file can't
+/// be read, where its text doesn't read, or out of memory.
 pub fn manifest_in<R: Files + AllocGlobal>(rt: &R, path: &str) -> Result<HeldManifest, Error>
     ensures read { IfOk result (λ h. (text : Text) × IsManifestIn text h.manifest.value) }
     ensures refused { IfErr result IsUnreadable }

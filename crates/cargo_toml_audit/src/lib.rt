@@ -8,5 +8,5 @@ pub mod audit;
 pub mod auditing;
 pub mod members;
 
-/// What a call makes, unless it runs out of memory.
+/// What a call makes, unless out of memory.
 pub type AllocResult<T> = Result<T, std::alloc::AllocError>;

@@ -13,7 +13,7 @@ use std::alloc::Global;
 /// at this path. What is read of the text, where it nests no deeper than `toml` reads, is the
 /// completed member, as `reread` says.
 ///
-/// Refuses bytes that spell no manifest, what completion refuses, and where it is out of memory.
+/// Refuses bytes that spell no manifest, what completion refuses, and when out of memory.
 pub fn completed_text<Fs: AbstractFilesystem + Drop>(
     alloc: Global,
     member: &[u8],

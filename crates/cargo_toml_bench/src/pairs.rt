@@ -53,7 +53,7 @@ pub fn is_optional_at<M>(
 
 /// Completes a member, and counts the features that it then has, without the hidden ones.
 ///
-/// Refuses as completion does, with [`Error::Memory`] where there was no room. A refusal leaves the
+/// Refuses as completion does, with [`Error::Memory`] when out of memory. A refusal leaves the
 /// member as it was, unless it is `Error::Memory`: then the member may be completed.
 pub fn count_features<Fs: AbstractFilesystem + Drop>(
     alloc: Global,

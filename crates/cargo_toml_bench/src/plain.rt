@@ -27,7 +27,7 @@ use std::hash::{BuildHasher, BuildHasherDefault, FoldHasher};
 /// Removes the hidden features that the filter doesn't keep from an answer that has all of them.
 ///
 /// It answers as resolving by that filter does, more slowly and in a way that is easy to follow: to
-/// compare with. It fails only where memory runs out.
+/// compare with. It fails only when out of memory.
 pub fn without_hidden<'m, 'd, F: Fn(&str) -> bool>(
     alloc: Global,
     filter: Option<&F>,

@@ -27,7 +27,7 @@ pub struct Report<'m> {
     pub unreferenced: Vec<&'m str>,
 }
 
-/// The report of a manifest. The one refusal is [`Error::Memory`], where there was no room for it.
+/// The report of a manifest. The one refusal is [`Error::Memory`], when out of memory.
 pub fn make_report<'m, M>(alloc: Global, manifest: &'m Manifest<M>) -> Result<Report<'m>, Error>
     ensures optional { IfOk result (λ r. texts r.optional
         ≡ optional_keys (map_meaning dependency_meaning manifest.now.dependencies)) }

@@ -18,7 +18,7 @@ use std::alloc::{AllocError, Global};
 /// of it. All else in it is the same, unless a dependency says `workspace = false`, or the version
 /// is 0.0.0.
 ///
-/// Refuses bytes that spell no manifest, a text that is no version, and where it is out of memory.
+/// Refuses bytes that spell no manifest, a text that is no version, and when out of memory.
 pub fn with_version(alloc: Global, bytes: &[u8], version: &str) -> Result<String, Error>
     ensures { IfOk result (λ text. IsVersioned bytes.now version.now (string_bytes text)) }
 {

@@ -113,7 +113,7 @@ fn filled_library(
 /// The library of a package: the one that is stated, with the path `src/lib.rs` where it has none
 /// and that file is there, or one that is made there where `autolib` says so. It has the name of
 /// the package with each `-` as `_`, its edition and the crate type `lib` where it states none, and
-/// no required features. It is refused only where there was no memory.
+/// no required features. It fails only when out of memory.
 pub fn library(
     alloc: Global,
     stated: &Stated<'_>,
@@ -150,8 +150,8 @@ fn main_offer(
 }
 
 /// A list of products in order of name and path: where that is wanted, as it is found in its folder
-/// and by the offer `extra`, and otherwise just those that are stated. It is refused only where
-/// there was no memory.
+/// and by the offer `extra`, and otherwise just those that are stated. It fails only when out of
+/// memory.
 pub fn list_of(
     alloc: Global,
     edition: Edition,
@@ -174,7 +174,7 @@ pub fn list_of(
 }
 
 /// The build script: the path `build.rs` where that file stands beside the manifest, and the key
-/// `build` is missing or true; otherwise what is stated. Refused out of memory alone.
+/// `build` is missing or true; otherwise what is stated. It fails only when out of memory.
 pub fn build(
     alloc: Global,
     stated: Option<&OptionalFile>,
@@ -195,8 +195,8 @@ pub fn build(
 }
 
 /// The readme: where just that there is one is stated, the first of `README.md`, `README.txt` and
-/// `README` that stands beside the manifest; otherwise, or where none does, what is stated. It is
-/// refused only where there was no memory.
+/// `README` that stands beside the manifest; otherwise, or where none does, what is stated. It
+/// fails only when out of memory.
 pub fn readme(
     alloc: Global,
     stated: &OptionalFile,
@@ -240,7 +240,7 @@ fn binaries(
 }
 
 /// What discovery makes of what a manifest states, by the names in the folders around it that were
-/// answered. It is refused only where there was no memory.
+/// answered. It fails only when out of memory.
 pub fn discover(
     alloc: Global,
     stated: &Stated<'_>,

@@ -220,7 +220,7 @@ fn place_all(
 ///
 /// An offer goes to the last product that has its name and no path, unless an offer before it has
 /// that name too, and else to a new product of this edition. A product without a path to which no
-/// offer goes is dropped. All are in order of name and path. Refused out of memory alone.
+/// offer goes is dropped. All are in order of name and path. It fails only when out of memory.
 pub fn found(
     alloc: Global,
     edition: Edition,

@@ -41,7 +41,7 @@ pub struct Listings {
     pub names: BTreeMap<String, BTreeSet<String>>,
 }
 
-/// The names in byte order. It is refused only where there was no memory.
+/// The names in byte order. It fails only when out of memory.
 pub fn sorted_names(alloc: Global, names: HashSet<String>) -> Result<BTreeSet<String>, AllocError>
     ensures names { IfOk result (λ s. (t : Name) → contains_text s t ≡ has_in names t) }
     ensures ordered { IfOk result (λ s. IsOrdered string_cmp s) }
@@ -79,8 +79,8 @@ impl Listings {
         }
     }
 
-    /// Keeps the names in a folder, in place of those that were kept of it. It is refused only
-    /// where there was no memory; nothing is said of the listings then.
+    /// Keeps the names in a folder, in place of those that were kept of it. It fails only when out
+    /// of memory; nothing is said of the listings then.
     pub fn keep(
         &mut self,
         alloc: Global,
@@ -96,7 +96,7 @@ impl Listings {
     }
 
     /// The paths of the folders in a folder that may hold `main.rs`: those of the names that are no
-    /// sources; none where the folder was not asked for. Refused out of memory alone.
+    /// sources; none where the folder was not asked for. It fails only when out of memory.
     pub fn folders_in(&self, alloc: Global, folder: &str) -> Result<Vec<String>, AllocError>
         ensures { IfOk result
             (λ v. map string_bytes v.items ≡ below folder.now (names_kept self.now folder.now)) }
@@ -113,7 +113,7 @@ impl Listings {
     }
 
     /// What a folder of products holds, by name in byte order; nothing where it was not asked for.
-    /// Refused out of memory alone.
+    /// It fails only when out of memory.
     pub fn entries<'a>(&'a self, alloc: Global, folder: &str) -> Result<Vec<Entry<'a>>, AllocError>
         ensures names { IfOk result
             (λ v. all_named v.items ≡ entries_in (answers_of self.now) folder.now) }

@@ -16,8 +16,8 @@ fn compare(a: &Product, b: &Product) -> Ordering
     a.name.cmp(&b.name).then_with(|| a.path.cmp(&b.path))
 }
 
-/// Puts products in order, by name and then by path. Equal ones stay in their order. It is refused
-/// only where there was no memory; nothing is said of the products then.
+/// Puts products in order, by name and then by path. Equal ones stay in their order. It fails only
+/// when out of memory; nothing is said of the products then.
 pub fn sort_products(products: &mut Vec<Product>) -> Result<(), AllocError>
     ensures ok { OnOk result (meanings products.new.items
         ≡ in_order (meanings products.old.items)) }

@@ -69,8 +69,8 @@ impl<'m> Acting<'m> {
         }
     }
 
-    /// Notes an action on its target. It fails only where memory runs out; no clause says what it
-    /// then leaves.
+    /// Notes an action on its target. It fails only when out of memory; no clause says what it then
+    /// leaves.
     pub fn note(&mut self, action: ActionText<'m>) -> Result<(), AllocError>
         ensures { OnOk result (Notes
             (λ k. if bytes_eq k action.entry.target.now then Some (action_in action.entry)

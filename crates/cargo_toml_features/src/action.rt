@@ -88,7 +88,7 @@ pub fn read_action(text: &str) -> ActionText<'_>
     }
 }
 
-/// Puts a text into a set. It fails only where memory runs out; no clause says what it then leaves.
+/// Puts a text into a set. It fails only when out of memory; no clause says what it then leaves.
 pub fn add_text<'a>(set: &mut BTreeSet<&'a str>, text: &'a str) -> Result<(), AllocError>
     ensures { OnOk result ((x : Text) → set_has set.new x
         ≡ (set_has set.old x || bytes_eq x text.now)) }
@@ -124,7 +124,7 @@ pub fn neutral_action<'a>(alloc: Global) -> DepAction<'a>
 }
 
 /// Joins an action into the one that its target has, if any: the two are conditional only where
-/// both are, and dep-only where one is. It fails only where memory runs out; no clause says what it
+/// both are, and dep-only where one is. It fails only when out of memory; no clause says what it
 /// then leaves.
 pub fn join_action<'a>(
     alloc: Global,

@@ -69,7 +69,7 @@ fn listing_of<'m>(name: &'m str, actions: &'m [String], details: &'m FeatureDeta
 
 /// Of a table's features those that are admitted: the first `limit` names in byte order and always
 /// `default`, each with its first `limit` actions, and with the detail of its name. They stand in
-/// the byte order of their names. It fails only where memory runs out.
+/// the byte order of their names. It fails only when out of memory.
 pub fn listings<'m>(
     alloc: Global,
     table: &'m FeatureSet,
@@ -103,8 +103,8 @@ fn in_order<'m, S: BuildHasher>(
     Ok(sorted)
 }
 
-/// The same of a hashed table, whatever the order of its walk, without details. It fails only
-/// where memory runs out.
+/// The same of a hashed table, whatever the order of its walk, without details. It fails only when
+/// out of memory.
 pub fn hashed_listings<'m, S: BuildHasher>(
     alloc: Global,
     table: &'m HashMap<String, Vec<String>, S>,

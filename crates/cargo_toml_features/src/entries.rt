@@ -118,7 +118,7 @@ fn add_targets_dev<'m>(
 /// of each target, dev dependencies, those of each target. Of each table the first `limit` count,
 /// by key in byte order.
 ///
-/// It fails only where memory runs out.
+/// It fails only when out of memory.
 pub fn entries_of<'m>(
     alloc: Global,
     tables: Tables<'m>,

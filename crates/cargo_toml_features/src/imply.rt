@@ -218,7 +218,7 @@ fn implies_many(entries: &[ParseDependency<'_, '_>]) -> bool {
 }
 
 /// The features, which stand in byte order, with those that optional dependencies imply. It fails
-/// only where memory runs out.
+/// only when out of memory.
 pub fn with_implied<'m>(
     alloc: Global,
     mut features: Vec<Feature<'m>>,

@@ -91,8 +91,7 @@ fn insert_at<'m>(
     Ok(())
 }
 
-/// Puts a feature in its place, where none of its name is there. It fails only where memory runs
-/// out.
+/// Puts a feature in its place, where none of its name is there. It fails only when out of memory.
 pub fn put_feature<'m>(
     features: &mut Vec<Feature<'m>>,
     feature: Feature<'m>,

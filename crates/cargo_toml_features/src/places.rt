@@ -11,7 +11,7 @@ use crate::slots::Slots;
 use crate::texts::{is_same, place_of};
 use std::alloc::{AllocError, Global};
 
-/// The names, which ascend, and none of which has a value. It fails only where memory runs out.
+/// The names, which ascend, and none of which has a value. It fails only when out of memory.
 pub fn empty_slots<'n, V: Drop>(
     alloc: Global,
     names: Vec<&'n str>,

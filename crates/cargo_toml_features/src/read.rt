@@ -145,7 +145,7 @@ fn add_default<'m>(alloc: Global, features: &mut Vec<Feature<'m>>) -> Result<(),
 /// Reads the lists of all features, of which each name is listed once, and adds `default` where it
 /// isn't listed.
 ///
-/// It fails only where memory runs out.
+/// It fails only when out of memory.
 pub fn read_features<'m>(
     alloc: Global,
     listings: &[Listing<'m>],

@@ -170,7 +170,7 @@ fn record_entry<'m: 'd, 'd>(
 }
 
 /// The dependencies of the entries that count, where the features of `mentions` stand in byte
-/// order. It fails only where memory runs out.
+/// order. It fails only when out of memory.
 pub fn record_dependencies<'m: 'd, 'd>(
     alloc: Global,
     mentions: &Mentions<'m>,

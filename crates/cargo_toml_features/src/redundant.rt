@@ -267,7 +267,7 @@ fn drop_redundant(
 
 /// The features, which stand in byte order. Their actions lose the dependency features that are on
 /// anyway: those that the dependency's first target lists, and `default` where it has its default
-/// features. They lose none where that target is no detail. It fails only where memory runs out.
+/// features. They lose none where that target is no detail. It fails only when out of memory.
 pub fn without_redundant<'m, 'd>(
     alloc: Global,
     mut features: Vec<Feature<'m>>,

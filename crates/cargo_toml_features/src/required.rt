@@ -64,7 +64,7 @@ fn require_all<'m>(
 }
 
 /// The features, which stand in byte order, each with the binaries that require it, once for each
-/// mention. A feature that isn't there is passed over. It fails only where memory runs out.
+/// mention. A feature that isn't there is passed over. It fails only when out of memory.
 pub fn with_bins<'m>(
     mut features: Vec<Feature<'m>>,
     requirements: &[Requirement<'m>],

@@ -32,7 +32,7 @@ fn collected<'m>(alloc: Global, texts: &[&'m str]) -> Result<BTreeSet<&'m str>, 
 }
 
 /// The texts as a set. Few are inserted, which takes less memory than to sort them. It fails only
-/// where memory runs out.
+/// when out of memory.
 pub fn set_of<'m>(alloc: Global, texts: &[&'m str]) -> Result<BTreeSet<&'m str>, AllocError>
     ensures { IfOk result
         (λ s. (x : Text) → set_has s x ≡ list_any (bytes_eq x) (map (λ t. t.now) texts.now)) }

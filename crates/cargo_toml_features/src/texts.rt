@@ -43,7 +43,7 @@ pub fn ascending<'m>(texts: Vec<&'m str>) -> Vec<&'m str>
     }
 }
 
-/// The keys of a hashed map, in byte order. It fails only where memory runs out.
+/// The keys of a hashed map, in byte order. It fails only when out of memory.
 pub fn keys_in_order<'m, X, S: BuildHasher>(
     alloc: Global,
     found: &HashMap<&'m str, X, S>,

@@ -33,7 +33,7 @@ pub struct Unremoved<'m, 'd> {
 /// and what binaries require. None of them is removed.
 ///
 /// Each name is listed once. No feature has its enablers yet: `cargo_toml_resolve` sets them. It
-/// fails only where memory runs out.
+/// fails only when out of memory.
 pub fn resolve_all<'m: 'd, 'd>(
     alloc: Global,
     listings: &[Listing<'m>],

@@ -19,5 +19,5 @@ pub use linking::{FeatureMap, Links};
 pub use linting::{lint, lint_limited};
 pub use names::may_name;
 
-/// What a call makes, unless it runs out of memory.
+/// What a call makes, unless out of memory.
 pub type AllocResult<T> = Result<T, std::alloc::AllocError>;

@@ -125,7 +125,7 @@ fn ask_products<Fs: AbstractFilesystem>(
 ///
 /// The folder of the package must be there; another that is absent counts as empty. Refused by what
 /// `fs` answers in place of names, the first time that this is no absent folder, and by
-/// `Error::Memory` where there is not enough memory.
+/// `Error::Memory` when out of memory.
 pub fn gather<Fs: AbstractFilesystem>(
     alloc: Global,
     fs: &Fs,

@@ -42,7 +42,7 @@ impl HeldManifest {
     }
 
     /// Holds the manifest that these bytes spell. Refuses as [`Manifest::from_slice`] does, with
-    /// [`Error::Memory`] where there was no room.
+    /// [`Error::Memory`] when out of memory.
     pub fn from_slice(alloc: Global, bytes: &[u8]) -> Result<HeldManifest, Error>
         ensures { IsFromBytes (λ h. manifest_meaning view h.manifest.value)
             (manifest_reads any_tree) (ManifestRefuses any_tree AnyRefuses) bytes.now result }
@@ -54,7 +54,7 @@ impl HeldManifest {
     }
 
     /// Holds the manifest that this text spells. Refuses as [`Manifest::from_str`] does, with
-    /// [`Error::Memory`] where there was no room.
+    /// [`Error::Memory`] when out of memory.
     pub fn from_str(alloc: Global, text: &str) -> Result<HeldManifest, Error>
         ensures { IsFromText (λ h. manifest_meaning view h.manifest.value)
             (manifest_reads any_tree) (ManifestRefuses any_tree AnyRefuses) text.now result }
@@ -66,7 +66,7 @@ impl HeldManifest {
     }
 
     /// Holds the manifest that this tree gives. Refuses as [`FromValue::from_value`] does, with
-    /// [`Error::Memory`] where there was no room.
+    /// [`Error::Memory`] when out of memory.
     pub fn from_value(alloc: Global, value: Value) -> Result<HeldManifest, Error>
         ensures { IsReading (λ h. manifest_meaning view h.manifest.value)
             (without_floats (manifest_reads any_tree) (view value))
@@ -79,7 +79,7 @@ impl HeldManifest {
     }
 
     /// Holds the manifest in the file at this path, completed from the real files around it.
-    /// Refuses as [`Manifest::from_path`] does, with [`Error::Memory`] where there was no room.
+    /// Refuses as [`Manifest::from_path`] does, with [`Error::Memory`] when out of memory.
     pub fn from_path<'a, R: Files + AllocGlobal>(
         rt: &'a R,
         alloc: Global,

@@ -37,7 +37,7 @@ fn workspace_of(alloc: Global, bytes: &[u8], path: &str) -> Result<Box<Manifest>
 /// The file is the `Cargo.toml` in the folder that the hint names. Where it can't be read, the
 /// fault is reported as `Error::Workspace` with the path of that file. A fault of its bytes is the
 /// one of `Manifest::from_slice`, and that of a manifest without a workspace table
-/// `Error::WorkspaceIntegrity`, whose text names the file; neither is wrapped. Refused memory is
+/// `Error::WorkspaceIntegrity`, whose text names the file; neither is wrapped. Out of memory is
 /// `Error::Memory`.
 pub fn root_by_hint<R: Files + AllocGlobal>(
     rt: &R,
@@ -65,7 +65,7 @@ pub fn root_by_hint<R: Files + AllocGlobal>(
 /// no `Cargo.toml`, one that is no manifest, or one without a workspace table, the next is tried.
 /// If none is left, the fault is that of the last such file, and else `Error::Io` of the kind
 /// `NotFound`. A `Cargo.toml` that can't be read for another cause is refused at once as
-/// `Error::Io`, and refused memory as `Error::Memory`.
+/// `Error::Io`, and out of memory as `Error::Memory`.
 ///
 /// A contract says of which kinds refusals are. That the root is the nearest none says.
 pub fn root_above<R: Files + AllocGlobal>(

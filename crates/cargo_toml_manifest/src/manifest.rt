@@ -104,7 +104,7 @@ pub struct Manifest<Metadata = Value> {
     pub feature_details: FeatureDetails,
 }
 
-/// A clone of each field. Refused only for want of memory, or by the metadata's own `Clone`.
+/// A clone of each field. It fails only when out of memory, or by the metadata's own `Clone`.
 impl<Metadata: Clone> Clone for Manifest<Metadata> {
     ghost is_clone = { λ x copy.
         ⟦<Option<Package<Metadata>> as Clone>⟧.is_clone x.package copy.package
@@ -214,7 +214,7 @@ impl Manifest {
     /// Bytes that are not UTF-8 are `Error::Other("utf8")`. A text that `toml` refuses is
     /// `Error::Parse` of its fault. A document that holds a float at any depth is `Error::Parse` of
     /// the shape `floats are not supported`; any other fault of shape is `Error::Parse` with its
-    /// text. Where there are several, one is reported. Refused memory is `Error::Memory`.
+    /// text. Where there are several, one is reported. Out of memory is `Error::Memory`.
     pub fn from_slice(alloc: Global, bytes: &[u8]) -> Result<Manifest, Error>
         ensures { IsFromBytes (manifest_meaning view) (manifest_reads any_tree)
             (ManifestRefuses any_tree AnyRefuses) bytes.now result }

@@ -70,7 +70,7 @@ pub struct DependencyDetail {
     pub inherited: bool,
 }
 
-/// A clone of each field. Refused only for want of memory.
+/// A clone of each field. It fails only when out of memory.
 impl Clone for DependencyDetail {
     ghost is_clone = { λ x copy.
         ⟦<Option<VersionReq> as Clone>⟧.is_clone x.version copy.version

@@ -88,7 +88,7 @@ pub struct PackageTemplate {
     pub version: Option<Version>,
 }
 
-/// A clone of each field. Refused only for want of memory.
+/// A clone of each field. It fails only when out of memory.
 impl Clone for PackageTemplate {
     ghost is_clone = { λ p copy.
         ⟦<Option<Vec<String>> as Clone>⟧.is_clone p.authors copy.authors

@@ -49,7 +49,7 @@ pub struct Workspace<Metadata = Value> {
     pub lints: LintGroups,
 }
 
-/// A clone of each field. Refused only for want of memory, or by the metadata's own `Clone`.
+/// A clone of each field. It fails only when out of memory, or by the metadata's own `Clone`.
 impl<Metadata: Clone> Clone for Workspace<Metadata> {
     ghost is_clone = { λ x copy.
         ⟦<Vec<String> as Clone>⟧.is_clone x.members copy.members

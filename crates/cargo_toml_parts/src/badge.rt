@@ -59,7 +59,7 @@ pub struct Badges {
     pub maintenance: Maintenance,
 }
 
-/// A clone of each field. Refused only for want of memory.
+/// A clone of each field. It fails only when out of memory.
 impl Clone for Badges {
     ghost is_clone = { λ p copy.
         ⟦<Option<Badge> as Clone>⟧.is_clone p.appveyor copy.appveyor

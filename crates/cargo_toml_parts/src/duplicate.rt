@@ -7,7 +7,7 @@ use std::alloc::{AllocError, Global};
 
 /// What can be copied so that the copy holds the same.
 pub trait Duplicate: Read {
-    /// A copy that holds the same. It is refused only where there was no memory.
+    /// A copy that holds the same. It fails only when out of memory.
     fn duplicate(&self, alloc: Global) -> Result<Self, AllocError>
         ensures { IfOk result (λ copy. Self.meaning copy ≡ Self.meaning self.now) };
 }

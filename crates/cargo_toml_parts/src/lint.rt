@@ -100,7 +100,7 @@ impl Read for Lint {
     }
 }
 
-/// A copy that holds the same lints. It is refused only where there was no memory.
+/// A copy that holds the same lints. It fails only when out of memory.
 pub fn duplicate_lints(groups: &LintGroups) -> Result<LintGroups, AllocError>
     ensures { IfOk result (λ copy. map_meaning (map_meaning lint_meaning) copy
         ≡ map_meaning (map_meaning lint_meaning) groups.now) }

@@ -49,7 +49,7 @@ pub struct Product {
     pub required_features: Vec<String>,
 }
 
-/// A clone of each field. Refused only for want of memory.
+/// A clone of each field. It fails only when out of memory.
 impl Clone for Product {
     ghost is_clone = { λ p copy.
         ⟦<Vec<String> as Clone>⟧.is_clone p.crate_type copy.crate_type

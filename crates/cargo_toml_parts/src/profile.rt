@@ -34,7 +34,7 @@ pub struct Profiles {
     pub custom: BTreeMap<String, Profile>,
 }
 
-/// A clone of each field. Refused only for want of memory.
+/// A clone of each field. It fails only when out of memory.
 impl Clone for Profiles {
     ghost is_clone = { λ p copy.
         ⟦<BTreeMap<String, Profile> as Clone>⟧.is_clone p.custom copy.custom
@@ -101,7 +101,7 @@ pub struct Profile {
     pub inherits: Option<String>,
 }
 
-/// A clone of each field. Refused only for want of memory.
+/// A clone of each field. It fails only when out of memory.
 impl Clone for Profile {
     ghost is_clone = { λ p copy.
         ⟦<BTreeMap<String, Value> as Clone>⟧.is_clone p.«package» copy.«package»

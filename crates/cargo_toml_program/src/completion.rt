@@ -25,8 +25,8 @@ use std::io::Write;
 ///
 /// What isn't known, as the name of a product that has none or a readme that is left to the
 /// workspace, is written `-`. Names and paths are written as they are, line feeds and all. Refuses
-/// with `Io` where `output` can't be written, and with `Memory` where there is not enough memory.
-/// Nothing is written before all lines stand.
+/// with `Io` where `output` can't be written, and with `Memory` when out of memory. Nothing is
+/// written before all lines stand.
 pub fn print_complete<Metadata, W: Write>(
     alloc: Global,
     manifest: &Manifest<Metadata>,
@@ -42,8 +42,8 @@ pub fn print_complete<Metadata, W: Write>(
     Ok(())
 }
 
-/// The lines of the products, list by list, and then those of the package. It fails only where
-/// memory runs out.
+/// The lines of the products, list by list, and then those of the package. It fails only when out
+/// of memory.
 pub fn completion_lines<Metadata>(
     alloc: Global,
     manifest: &Manifest<Metadata>,

@@ -20,8 +20,8 @@ use std::hash::BuildHasher;
 
 /// The lines that the program prints of resolved features: one for each feature, and then one for
 /// each that was removed with what stands for it, both in byte order of their names. The names,
-/// keys and features within a line stand in byte order too, each once. It fails only where memory
-/// runs out.
+/// keys and features within a line stand in byte order too, each once. It fails only when out of
+/// memory.
 pub fn feature_lines<S: BuildHasher>(
     alloc: Global,
     features: &Features<'_, '_, S>,

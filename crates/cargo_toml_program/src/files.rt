@@ -16,7 +16,7 @@ use std::rt::Files;
 /// `print_complete` to `output`. The manifest is on the heap, so the caller's stack holds none.
 ///
 /// Refuses as `Manifest::from_str` and `Manifest::complete_from_path` do, with `Io` where the file
-/// can't be read or `output` can't be written, and with `Memory` where memory runs out. Nothing is
+/// can't be read or `output` can't be written, and with `Memory` when out of memory. Nothing is
 /// written before all lines stand, so a fault of the manifest leaves `output` as it was.
 pub fn print_completed<R: Files + AllocGlobal, W: Write>(
     rt: &R,

@@ -19,8 +19,8 @@ use std::io::{Read, Write};
 /// `max_items`, at least 1. Names and texts are written as they are, line feeds and all.
 ///
 /// Refuses as `Manifest::from_slice` does, with `Io` where `input` can't be read or `output` can't
-/// be written, and with `Memory` where there is not enough memory. Nothing is written before all
-/// lines stand, so that a fault of the manifest leaves `output` as it was.
+/// be written, and with `Memory` when out of memory. Nothing is written before all lines stand, so
+/// that a fault of the manifest leaves `output` as it was.
 pub fn print_features<R: Read, W: Write>(
     alloc: Global,
     input: &mut R,
@@ -65,7 +65,7 @@ fn manifest_of(alloc: Global, bytes: &[u8]) -> Result<Box<Manifest>, Error>
     }
 }
 
-/// The lines of the features of a manifest. It fails only where memory runs out.
+/// The lines of the features of a manifest. It fails only when out of memory.
 fn lines_of(alloc: Global, manifest: &Manifest, max_items: usize) -> Result<String, Error>
     requires { 1 ≤ max_items }
     ensures printed { IfOk result

@@ -43,7 +43,7 @@ pub(crate) fn join(bits: &mut [u64], other: &[u64])
     }
 }
 
-/// A row of nodes as bits in `width` words. It fails only where memory runs out.
+/// A row of nodes as bits in `width` words. It fails only when out of memory.
 pub(crate) fn bits_of(alloc: Global, row: &[Node], width: usize) -> Result<Vec<u64>, AllocError>
     requires { (x : ℕ) → Among row.now x → x < 64 * width }
     ensures len { IfOk result (λ bits. length bits.items ≡ width) }
@@ -56,7 +56,7 @@ pub(crate) fn bits_of(alloc: Global, row: &[Node], width: usize) -> Result<Vec<u
     Ok(bits)
 }
 
-/// The nodes whose bit stands and whose flag is `wanted`. It fails only where memory runs out.
+/// The nodes whose bit stands and whose flag is `wanted`. It fails only when out of memory.
 pub fn nodes_of(
     alloc: Global,
     bits: &[u64],

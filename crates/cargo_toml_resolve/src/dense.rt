@@ -35,7 +35,7 @@ pub struct Tables {
 /// Takes the removed vertices out of a graph, one after another: what leads to one then leads where
 /// it led, and has its labels. That is Warshall's algorithm over the removed vertices.
 ///
-/// It fails only where memory runs out.
+/// It fails only when out of memory.
 pub fn take_out(
     alloc: Global,
     edges: &Rows,

@@ -77,8 +77,8 @@ fn enable_at<'m>(
     add_text(&mut feature.enabled_by, source)
 }
 
-/// The source is put among what enables each feature in the places of the row. It fails only where
-/// memory runs out.
+/// The source is put among what enables each feature in the places of the row. It fails only when
+/// out of memory.
 pub(crate) fn enable_along<'m>(
     features: &mut Vec<Feature<'m>>,
     row: &[Node],
@@ -131,8 +131,8 @@ fn lead_nowhere(features: &[Feature<'_>]) -> bool
 /// Each feature learns which others enable it: those that name it, and those that act plainly on
 /// the dependency of its name.
 ///
-/// The features stand in byte order, and none of them knows an enabler yet. It fails only where
-/// memory runs out.
+/// The features stand in byte order, and none of them knows an enabler yet. It fails only when out
+/// of memory.
 pub fn set_enablers<'m>(alloc: Global, features: &mut Vec<Feature<'m>>) -> Result<(), AllocError>
     requires in_order { AreInOrder features.old.items }
     requires no_enablers { HaveNoEnablers features.old.items }

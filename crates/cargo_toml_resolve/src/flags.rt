@@ -27,7 +27,7 @@ pub fn hides_any<F: Fn(&str) -> bool>(features: &[Feature<'_>], filter: Option<&
 
 /// Which features are removed, by their places: of those whose names begin with `_` the ones that
 /// the filter doesn't keep, and without a filter all. The filter is asked only for names that begin
-/// with `_`. It fails only where memory runs out.
+/// with `_`. It fails only when out of memory.
 pub fn hidden_flags<F: Fn(&str) -> bool>(
     alloc: Global,
     features: &[Feature<'_>],

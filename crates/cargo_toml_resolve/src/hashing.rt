@@ -12,7 +12,7 @@ use std::alloc::{AllocError, Global};
 use std::collections::HashMap;
 use std::hash::BuildHasher;
 
-/// The value is put under the key. It fails only where memory runs out.
+/// The value is put under the key. It fails only when out of memory.
 // as a call it takes 2,047 empty lists 4 % more
 #[inline(always)]
 pub(crate) fn put<'a, V: Drop, S: BuildHasher>(
@@ -27,8 +27,8 @@ pub(crate) fn put<'a, V: Drop, S: BuildHasher>(
     Ok(())
 }
 
-/// Features in the byte order of their names, in a hashed map by these. It fails only where memory
-/// runs out.
+/// Features in the byte order of their names, in a hashed map by these. It fails only when out of
+/// memory.
 pub fn hashed_features<'m, S: BuildHasher + Drop>(
     state: S,
     alloc: Global,
@@ -60,7 +60,7 @@ fn put_value<'n, V: Drop, S: BuildHasher>(
 }
 
 /// Values under names that ascend, of which some are without one, in a hashed map. Each name has
-/// its place among the values. It fails only where memory runs out.
+/// its place among the values. It fails only when out of memory.
 pub fn hashed<'n, V: Drop, S: BuildHasher + Drop>(
     state: S,
     alloc: Global,
@@ -81,8 +81,8 @@ pub fn hashed<'n, V: Drop, S: BuildHasher + Drop>(
     Ok(by_name)
 }
 
-/// Dependencies, each of which has a target, by their keys, in a hashed map. It fails only where
-/// memory runs out.
+/// Dependencies, each of which has a target, by their keys, in a hashed map. It fails only when out
+/// of memory.
 pub fn hashed_dependencies<'d, S: BuildHasher + Drop>(
     state: S,
     alloc: Global,

@@ -8,7 +8,7 @@ use cargo_toml_features::features::DepAction;
 use std::alloc::{AllocError, Global};
 use std::collections::{BTreeMap, BTreeSet};
 
-/// The set gains the texts of the other. It fails only where memory runs out.
+/// The set gains the texts of the other. It fails only when out of memory.
 pub fn add_all<'a>(
     texts: &mut BTreeSet<&'a str>,
     other: &BTreeSet<&'a str>,
@@ -46,7 +46,7 @@ fn add_action<'a>(
 }
 
 /// The actions of the other map are joined to those of `own`, dependency by dependency. It fails
-/// only where memory runs out.
+/// only when out of memory.
 pub fn add_actions<'a>(
     alloc: Global,
     own: &mut BTreeMap<&'a str, DepAction<'a>>,

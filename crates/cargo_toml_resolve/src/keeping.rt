@@ -46,7 +46,7 @@ fn keep<'m>(
 
 /// Each kept feature takes over from the removed ones that it passes, and learns which kept ones
 /// enable it. No more is held at a time than what one feature passes and names, except for the
-/// tables of a dense graph. It fails only where memory runs out.
+/// tables of a dense graph. It fails only when out of memory.
 pub(crate) fn keep_all<'m>(
     alloc: Global,
     features: &mut Vec<Feature<'m>>,

@@ -30,7 +30,7 @@ pub struct Kept<'m, S: BuildHasher> {
 }
 
 /// All of these features by their names, in whose byte order they stand, and nothing that stands
-/// for a removed one. It fails only where memory runs out, or the clone of `state` does.
+/// for a removed one. It fails only when out of memory, or the clone of `state` does.
 pub fn all_hashed<'m, S: BuildHasher + Clone>(
     alloc: Global,
     state: &S,
@@ -51,7 +51,7 @@ pub fn all_hashed<'m, S: BuildHasher + Clone>(
 
 /// What is kept of features where none is removed: nothing is numbered, and no path is walked. They
 /// stand in the byte order of their names, and none of them has its enablers yet. It fails only
-/// where memory runs out, or the clone of `state` does.
+/// when out of memory, or the clone of `state` does.
 pub fn all_kept<'m, S: BuildHasher + Clone>(
     alloc: Global,
     state: &S,
@@ -142,8 +142,8 @@ fn hashed_apart<'m, S: BuildHasher + Clone>(
 }
 
 /// What is kept of features in the byte order of their names, once those are taken out whose flag
-/// stands. There is a flag for each, and none of them has its enablers yet. It fails only where
-/// memory runs out, or the clone of `state` does.
+/// stands. There is a flag for each, and none of them has its enablers yet. It fails only when out
+/// of memory, or the clone of `state` does.
 pub fn kept_of<'m, S: BuildHasher + Clone>(
     alloc: Global,
     state: &S,

@@ -26,7 +26,7 @@ impl Model for Marks {
 }
 
 impl Marks {
-    /// So many nodes, none of which is marked. It fails only where memory runs out.
+    /// So many nodes, none of which is marked. It fails only when out of memory.
     pub fn new(alloc: Global, count: usize) -> Result<Marks, AllocError>
         ensures { IfOk result (λ m. m ≡ replicate count false) }
     {

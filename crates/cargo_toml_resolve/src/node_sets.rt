@@ -42,7 +42,7 @@ fn inserted<'m>(
     Ok(set)
 }
 
-/// The texts of nodes, as a set. It fails only where memory runs out.
+/// The texts of nodes, as a set. It fails only when out of memory.
 pub(crate) fn set_of_nodes<'m>(
     alloc: Global,
     nodes: &[Node],

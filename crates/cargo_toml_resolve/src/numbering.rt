@@ -21,7 +21,7 @@ use cargo_toml_features::places::place_near;
 use std::alloc::{AllocError, Global};
 use std::collections::{BTreeMap, BTreeSet};
 
-/// The names of features, in their order. It fails only where memory runs out.
+/// The names of features, in their order. It fails only when out of memory.
 pub(crate) fn keys_of<'m>(
     alloc: Global,
     features: &[Feature<'m>],
@@ -144,7 +144,7 @@ fn push_keys(row: &mut Vec<Node>, nodes: &[Node], count: usize, own: Node) -> Re
 }
 
 /// The key of this name, if there is one other than the one in place `own`, is put at the end. It
-/// fails only where memory runs out.
+/// fails only when out of memory.
 pub(crate) fn push_target(
     row: &mut Vec<Node>,
     name: &str,
@@ -193,7 +193,7 @@ fn push_action(
 
 /// Those that the actions enable, other than the one in place `own`, are put at the end. An implied
 /// feature acts on the dependency of its own name, so the first is looked for there. It fails only
-/// where memory runs out.
+/// when out of memory.
 pub(crate) fn push_actions(
     row: &mut Vec<Node>,
     actions: &BTreeMap<&str, DepAction<'_>>,
@@ -363,7 +363,7 @@ fn read_all<'m>(
 
 /// The features as a graph of nodes, with a flag for each node. An edge leads from a feature to
 /// another one that it names or acts on plainly. The features stand in byte order, with a flag for
-/// each. It fails only where memory runs out.
+/// each. It fails only when out of memory.
 pub fn number<'m>(
     alloc: Global,
     features: &[Feature<'m>],

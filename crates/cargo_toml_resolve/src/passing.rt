@@ -18,7 +18,7 @@ use std::collections::BTreeSet;
 const MAX_PASSED_BINS: usize = 10;
 
 /// The first ten of a feature's binaries, as a copy: the lists may change while it is read. It
-/// fails only where memory runs out.
+/// fails only when out of memory.
 pub fn first_ten<'m>(alloc: Global, bins: &[&'m str]) -> Result<Vec<&'m str>, AllocError>
     ensures { IfOk result (λ v. texts_now v.items ≡ take 10 (texts_now bins.now)) }
 {
@@ -186,7 +186,7 @@ fn have_bins(features: &[Feature<'_>], flags: &[bool]) -> bool
 /// Removed features pass their binaries on to those that their redirects name, in the order of
 /// their places: at its turn each its first ten.
 ///
-/// A kept feature passes nothing on. It fails only where memory runs out.
+/// A kept feature passes nothing on. It fails only when out of memory.
 pub(crate) fn pass_bins<'m>(
     alloc: Global,
     features: &mut Vec<Feature<'m>>,

@@ -68,7 +68,7 @@ fn redirect(
 }
 
 /// For each removed vertex its redirect: the labels that it has once the removed vertices below it
-/// are taken out. The others keep their labels. It fails only where memory runs out.
+/// are taken out. The others keep their labels. It fails only when out of memory.
 pub fn find_redirects(
     alloc: Global,
     mut edges: Rows,

@@ -50,7 +50,7 @@ fn redirects(
 /// In each place what is kept of the feature there, and what stands for the removed ones. None of
 /// them knows an enabler before.
 ///
-/// A removed feature stays in its place with its names. It fails only where memory runs out.
+/// A removed feature stays in its place with its names. It fails only when out of memory.
 pub(crate) fn remove<'m>(
     alloc: Global,
     features: &mut Vec<Feature<'m>>,

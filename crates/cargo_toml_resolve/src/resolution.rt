@@ -32,7 +32,7 @@ pub struct Lists<'l, 'm, 'd> {
 }
 
 // What is kept of features without those that the filter refuses. They stand in the byte order of
-// their names, and none of them has its enablers yet. It fails only where memory runs out, or the
+// their names, and none of them has its enablers yet. It fails only when out of memory, or the
 // clone of `state` does.
 fn kept_by<'m, F: Fn(&str) -> bool, S: BuildHasher + Clone>(
     alloc: Global,
@@ -57,8 +57,8 @@ fn kept_by<'m, F: Fn(&str) -> bool, S: BuildHasher + Clone>(
 /// Resolves the listed features, and removes those whose names begin with `_`, except those that
 /// the filter keeps.
 ///
-/// Each map of the answer gets a clone of `state`; nothing is hashed
-/// before the answer stands. It fails only where memory runs out, or the clone does.
+/// Each map of the answer gets a clone of `state`; nothing is hashed before the answer stands. It
+/// fails only when out of memory, or the clone does.
 pub fn resolve<'m: 'd, 'd, F: Fn(&str) -> bool, S: BuildHasher + Clone>(
     alloc: Global,
     state: &S,

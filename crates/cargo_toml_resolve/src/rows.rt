@@ -37,7 +37,7 @@ fn part(nodes: &[Node], span: Span) -> &[Node]
 }
 
 impl Rows {
-    /// No rows, with room for so many, and for as many nodes. It fails only where memory runs out.
+    /// No rows, with room for so many, and for as many nodes. It fails only when out of memory.
     pub fn with_capacity(alloc: Global, count: usize) -> Result<Rows, AllocError>
         ensures { IfOk result (λ rows. rows ≡ []) }
     {
@@ -68,7 +68,7 @@ impl Rows {
         part(&self.nodes, self.spans[at.place()])
     }
 
-    /// One more row is put at the end, which is empty. It fails only where memory runs out.
+    /// One more row is put at the end, which is empty. It fails only when out of memory.
     pub fn push_none(&mut self) -> Result<(), AllocError>
         ensures { OnOk result (self.new ≡ self.old ++ [] ∷ []) }
     {
@@ -77,7 +77,7 @@ impl Rows {
         Ok(())
     }
 
-    /// One more row is put at the end. It fails only where memory runs out.
+    /// One more row is put at the end. It fails only when out of memory.
     pub fn push(&mut self, row: &[Node]) -> Result<(), AllocError>
         ensures { OnOk result (self.new ≡ self.old ++ row.now ∷ []) }
     {
@@ -88,7 +88,7 @@ impl Rows {
         Ok(())
     }
 
-    /// The row of a vertex is replaced. It fails only where memory runs out.
+    /// The row of a vertex is replaced. It fails only when out of memory.
     pub fn replace(&mut self, at: Node, row: &[Node]) -> Result<(), AllocError>
         requires { at < length self.old }
         ensures { OnOk result (self.new ≡ slice_set self.old at row.now) }

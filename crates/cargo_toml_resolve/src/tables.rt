@@ -9,7 +9,7 @@ use crate::rows::Rows;
 use cargo_toml_features::node::Node;
 use std::alloc::{AllocError, Global};
 
-/// The rows as bits in `width` words each. It fails only where memory runs out.
+/// The rows as bits in `width` words each. It fails only when out of memory.
 pub fn table_of(alloc: Global, rows: &Rows, width: usize) -> Result<Vec<Vec<u64>>, AllocError>
     requires { (a x : ℕ) → Leads rows.now a x → x < 64 * width }
     ensures { IfOk result
@@ -22,7 +22,7 @@ pub fn table_of(alloc: Global, rows: &Rows, width: usize) -> Result<Vec<Vec<u64>
     Ok(table)
 }
 
-/// Those whose row has the bit of a node. It fails only where memory runs out.
+/// Those whose row has the bit of a node. It fails only when out of memory.
 pub fn parents_of(alloc: Global, table: &[Vec<u64>], of: Node) -> Result<Vec<Node>, AllocError>
     requires { (a : ℕ) → a < length table.now → of < 64 * length (words_of table.now a) }
     ensures { IfOk result
@@ -37,8 +37,8 @@ pub fn parents_of(alloc: Global, table: &[Vec<u64>], of: Node) -> Result<Vec<Nod
     Ok(parents)
 }
 
-/// The nodes whose bit stands in the row of a vertex and whose flag is `wanted`. It fails only
-/// where memory runs out.
+/// The nodes whose bit stands in the row of a vertex and whose flag is `wanted`. It fails only when
+/// out of memory.
 pub(crate) fn flagged(
     alloc: Global,
     table: &[Vec<u64>],
@@ -65,7 +65,7 @@ fn join_rows(table: &mut Vec<Vec<u64>>, named: &[Node], bits: &[u64])
     }
 }
 
-/// The rows that are named gain what the row `at` has. It fails only where memory runs out.
+/// The rows that are named gain what the row `at` has. It fails only when out of memory.
 pub(crate) fn pass_on(
     alloc: Global,
     table: &mut Vec<Vec<u64>>,

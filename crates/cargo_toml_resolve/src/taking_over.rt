@@ -29,7 +29,7 @@ fn join_passed<'m>(
 }
 
 /// A feature, which isn't one of those that it passes, comes to hold what was found for it: it has
-/// these names, and does what it and the passed ones do. It fails only where memory runs out.
+/// these names, and does what it and the passed ones do. It fails only when out of memory.
 pub(crate) fn hold<'m>(
     alloc: Global,
     features: &mut Vec<Feature<'m>>,

@@ -121,7 +121,7 @@ pub struct Walk {
 }
 
 impl Walk {
-    /// For so many nodes. It fails only where memory runs out.
+    /// For so many nodes. It fails only when out of memory.
     pub fn new(alloc: Global, count: usize) -> Result<Walk, AllocError>
         ensures { IfOk result (λ w. length w.met ≡ count) }
     {
@@ -132,8 +132,8 @@ impl Walk {
         })
     }
 
-    /// Finds the removed vertices that `start` reaches through removed ones. It fails only where
-    /// memory runs out.
+    /// Finds the removed vertices that `start` reaches through removed ones. It fails only when out
+    /// of memory.
     pub fn pass(&mut self, start: Node, edges: &Rows, is_removed: &[bool]) -> Result<(), AllocError>
         requires start { start < length edges.now }
         requires fits { length self.old.met ≤ length is_removed.now }
@@ -147,7 +147,7 @@ impl Walk {
     }
 
     /// Finds the labels of a vertex and of the passed ones, without those whose flag stands. It
-    /// fails only where memory runs out.
+    /// fails only when out of memory.
     pub fn label(&mut self, own: Node, labels: &Rows, flags: &[bool]) -> Result<(), AllocError>
         requires own { own < length labels.now }
         requires passed { (b : ℕ) → Among self.old.passed.items b → b < length labels.now }

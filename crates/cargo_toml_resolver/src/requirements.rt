@@ -47,8 +47,8 @@ fn requirements_of<'m>(
     Ok(requirements)
 }
 
-/// What the binaries of a manifest require, in their order; nothing where it has no package.
-/// It fails only where memory runs out.
+/// What the binaries of a manifest require, in their order; nothing where it has no package. It
+/// fails only when out of memory.
 pub fn requirements<'m, M>(
     alloc: Global,
     manifest: &'m Manifest<M>,

@@ -170,7 +170,7 @@ impl<'config, F: Fn(&str) -> bool, S: BuildHasher + Clone> Resolver<'config, F, 
     ///
     /// No name of a removed feature is left in `enables_features` or `enabled_by`.
     ///
-    /// The one refusal is [`Error::Memory`], where there was no room for the answer.
+    /// The one refusal is [`Error::Memory`], when out of memory.
     pub fn parse<'m, M>(
         &self,
         alloc: Global,
@@ -214,7 +214,7 @@ impl<'config, F: Fn(&str) -> bool, S: BuildHasher + Clone> Resolver<'config, F, 
     ///
     /// The filter, if there is one, may be called on every text, and answers each in one way.
     ///
-    /// The one refusal is [`Error::Memory`], where there was no room for the answer.
+    /// The one refusal is [`Error::Memory`], when out of memory.
     pub fn parse_custom<'m: 'd, 'd, S2: BuildHasher>(
         &self,
         alloc: Global,

@@ -57,7 +57,7 @@ pub trait LeftOut: ToValue {
 }
 
 /// Puts a value at a key, in place of one that stood there, which is dropped. Other keys stay. It
-/// fails only where memory runs out; no clause says what it then leaves.
+/// fails only when out of memory; no clause says what it then leaves.
 pub fn put(table: &mut Table, alloc: Global, key: &str, value: Value) -> Result<(), Error>
     ensures ok { OnOk result (table_view table.new
         ≡ put_member key.now (view value) (table_view table.old)) }

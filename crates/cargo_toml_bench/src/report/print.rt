@@ -18,9 +18,9 @@ use std::io::Write;
 /// key of its table `dependencies`, and then a line `unreferenced NAME` for each feature other than
 /// `default` that nothing in it enables.
 ///
-/// Refuses as [`HeldManifest::from_slice`] does, with `Memory` where there was no room, and with
-/// `Io` where `output` can't be written. All lines stand before the first is written, so that a
-/// fault of the manifest leaves `output` as it was.
+/// Refuses as [`HeldManifest::from_slice`] does, with `Memory` when out of memory, and with `Io`
+/// where `output` can't be written. All lines stand before the first is written, so that a fault of
+/// the manifest leaves `output` as it was.
 pub fn print_report<W: Write>(alloc: Global, bytes: &[u8], output: &mut W) -> Result<(), Error>
     ensures printed { OnOk result ((text : Text) × IsReport bytes.now text
         × Appends (W.contents output.old) (W.contents output.new) text) }

@@ -9,7 +9,7 @@ ghost use Rattle.cargo_toml_write.specs.Requirements.{sign_of, comparator_text, 
 use semver::{Comparator, Op, Prerelease, VersionReq};
 use std::alloc::{AllocError, Global};
 
-/// The text of a requirement: `*` is any version. It fails only where memory runs out.
+/// The text of a requirement: `*` is any version. It fails only when out of memory.
 pub fn requirement_text(alloc: Global, requirement: &VersionReq) -> Result<String, AllocError>
     ensures { IfOk result (λ text. string_bytes text
         ≡ requirement_text (requirement_meaning requirement.now)) }

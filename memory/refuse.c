@@ -1,7 +1,7 @@
 /* Counts what a program asks of the heap between two lines that it prints, `-- call` and `-- end`,
- * and refuses the asking of the number REFUSE, counted from one, and all after it where REFUSE_REST
- * is set. At the end it prints how many were asked for and how many were refused. Preloaded by
- * `memory/run`; for programs of one thread. */
+ * and refuses the request of the number REFUSE, counted from one, and all after it where
+ * REFUSE_REST is set. At the end it prints how many were asked for and how many were refused.
+ * Preloaded by `memory/run`; for programs of one thread. */
 #define _GNU_SOURCE
 #include <errno.h>
 #include <stdio.h>

@@ -40,7 +40,7 @@ def lines_of(path):
 
 
 def files_below(folder):
-    """The files below a folder, but for what is made of others."""
+    """The files below a folder, except what is made of others."""
     found = []
     for at, folders, names in os.walk(folder):
         folders[:] = [it for it in folders if it not in (".git", "out", "__pycache__")]

@@ -2,7 +2,7 @@
 //!
 //! `original OPERATION FILE .. COUNT` makes ready what the call needs, makes it COUNT times,
 //! and prints the best time of one call in nanoseconds and how many things the answer holds. The
-//! answer's release is timed too, but for that of `complete`. Right before and right after each
+//! answer's release is timed too, except that of `complete`. Right before and right after each
 //! call the clock is asked, and at no other time: the counter of memory goes by that.
 //!
 //! `original print FILE ..` completes each manifest and prints it as a line of JSON.

@@ -18,6 +18,7 @@ import subprocess
 import sys
 import tempfile
 
+from judging import without_network
 from workspaces import OddWorkspaces
 
 HERE = os.path.dirname(os.path.realpath(__file__))
@@ -41,7 +42,7 @@ class Judge:
     """Cargo in a folder of its own, which has no network."""
 
     def __init__(self, folder):
-        self.env = os.environ | {"CARGO_HOME": f"{folder}/home", "CARGO_NET_OFFLINE": "true"}
+        self.env = without_network(f"{folder}/home")
 
     def metadata(self, folder):
         """What Cargo knows of the package in a folder, or why it refuses that."""

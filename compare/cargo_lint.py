@@ -19,6 +19,8 @@ import subprocess
 import sys
 import tempfile
 
+from judging import listed, put, quoted, without_network
+
 HERE = os.path.dirname(os.path.realpath(__file__))
 KEYS = ["d", "e", "x-y", "_h"]
 NAMES = ["default", "a", "b", "c", "_p", "d", "std", "1.0"]
@@ -154,21 +156,6 @@ class Manifest:
             put(f"{folder}/stubs/{key}/src/lib.rs", "")
 
 
-def put(path, text):
-    os.makedirs(os.path.dirname(path), exist_ok=True)
-    with open(path, "w", encoding="utf-8") as file:
-        file.write(text)
-
-
-def quoted(text):
-    plain = text.replace("\\", "\\\\").replace('"', '\\"')
-    return '"' + "".join(c if c >= " " else f"\\u{ord(c):04x}" for c in plain) + '"'
-
-
-def listed(texts):
-    return "[" + ", ".join(map(quoted, texts)) + "]"
-
-
 class Judge:
     """Cargo in a home of its own, with a compiler that does nothing."""
 
@@ -177,7 +164,7 @@ class Judge:
         asks = 'case "$*" in *-vV* | *--print*) exec rustc "$@" ;; esac'
         put(compiler, f"#!/bin/sh\n{asks}\nexit 1\n")
         os.chmod(compiler, 0o755)
-        self.env = os.environ | {"CARGO_HOME": f"{top}/home", "CARGO_NET_OFFLINE": "true"}
+        self.env = without_network(f"{top}/home")
         self.env |= {"RUSTC": compiler, "CARGO_TERM_COLOR": "never"}
 
     def said(self, words, folder):

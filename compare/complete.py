@@ -15,7 +15,8 @@ import subprocess
 import sys
 import tempfile
 
-from workspaces import Workspaces, put, quoted_list
+from judging import listed, put
+from workspaces import Workspaces
 
 NAMES = ["a", "b", "main", "x-y", "a.rs", "é"]
 KINDS = {"bin": "src/bin", "example": "examples", "test": "tests", "bench": "benches"}
@@ -34,7 +35,7 @@ class Completions(Workspaces):
             path = self.random.choice([f"{name}.rs", f"{name}/main.rs"])
             lines.append(f'path = "{KINDS.get(kind, "src")}/{path}"')
         if self.happens(0.2):
-            lines.append(f"required-features = {quoted_list(self.some(NAMES, 2))}")
+            lines.append(f"required-features = {listed(self.some(NAMES, 2))}")
         return lines
 
     def package(self, number):
@@ -71,7 +72,7 @@ class Completions(Workspaces):
             while above[-1] != folder:
                 above.append(os.path.dirname(above[-1]))
             if not os.path.exists(path) and not any(map(os.path.isfile, above)):
-                put(path, [])
+                put(path, "")
 
     def manifests(self, folder):
         """Some of the manifests of a workspace that is written into this folder."""

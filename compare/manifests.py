@@ -3,6 +3,8 @@ names, so that they often meet."""
 
 import random
 
+from judging import listed, quoted
+
 CORP = "https://example.com/corp/index"
 KEYS = ["log", "serde", "rand", "x-y"]
 REQUIREMENTS = ["1", "0.4", "^0.4", "=1.2.3", ">=1, <2", "*", "1.*", "~1.2"]
@@ -55,8 +57,7 @@ class Manifests:
         return f"{key} = {{ {', '.join(parts)} }}", is_optional
 
     def some(self, of):
-        chosen = [one for one in of if self.happens(0.5)]
-        return "[" + ", ".join(f'"{one}"' for one in chosen) + "]"
+        return listed(one for one in of if self.happens(0.5))
 
     def tables(self, path, is_member):
         """Tables of dependencies. One key has one source and is optional everywhere or nowhere."""
@@ -145,11 +146,3 @@ class Manifests:
                 parts.append(f"features = {self.some(['std', 'derive'])}")
             lines.append(f"{key} = {{ {', '.join(parts)} }}")
         return "\n".join(lines) + "\n"
-
-
-def quoted(text):
-    return '"' + text.replace("\\", "\\\\").replace('"', '\\"') + '"'
-
-
-def listed(texts):
-    return "[" + ", ".join(map(quoted, texts)) + "]"

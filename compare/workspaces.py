@@ -4,6 +4,8 @@ what they inherit, and what is odd of them. Few names, so that they often meet."
 import os
 import random
 
+from judging import listed, put
+
 FOLDERS = ["a", "b", "ab", "c-1", "c-2", "x.y", "é"]
 ENTRIES = ["a*", "?", "*b", "c-?", "crates/*", "crates/?", "more/*/*", "c*/a", "./a/", "b/../a"]
 ENTRIES += ["*", "absent", "crates/a"]
@@ -15,10 +17,6 @@ PUBLISH = ["true", "false", '["here"]', '["x", "y"]', "[]"]
 LICENSES = ["MIT", "MIT OR Apache-2.0", "a|b"]
 TABLES = ["dependencies", "dev-dependencies", "build-dependencies"]
 TABLES += ["target.'cfg(unix)'.dependencies"]
-
-
-def quoted_list(texts):
-    return "[" + ", ".join(f'"{text}"' for text in texts) + "]"
 
 
 class Workspaces:
@@ -62,10 +60,10 @@ class Workspaces:
         entries = self.some(ENTRIES + FOLDERS, 4)
         if self.happens(0.2):
             entries.append(self.random.choice(OUTSIDE))
-        lines = ["[workspace]", f"members = {quoted_list(entries)}"]
+        lines = ["[workspace]", f"members = {listed(entries)}"]
         if self.happens(0.4):
             excluded = self.some(FOLDERS + ["crates", "crates/a", "more/b", "."], 2)
-            lines.append(f"exclude = {quoted_list(excluded)}")
+            lines.append(f"exclude = {listed(excluded)}")
         if self.happens(0.9):
             lines += self.given()
         if self.happens(0.9):
@@ -111,13 +109,13 @@ class Workspaces:
         places += [f"{root}/crates/{name}" for name in FOLDERS]
         places += [f"{root}/more/{name}/a" for name in FOLDERS[:3]] + [f"{folder}/side"]
         lines = self.root()
-        put(f"{root}/Cargo.toml", lines + (self.package(0) if self.happens(0.3) else []))
+        put_manifest(root, lines + (self.package(0) if self.happens(0.3) else []))
         for number, place in enumerate(places):
             if self.happens(0.7):
-                put(f"{place}/Cargo.toml", self.member(number + 1))
-                put(f"{place}/src/lib.rs", [])
+                put_manifest(place, self.member(number + 1))
+                put(f"{place}/src/lib.rs", "")
             elif self.happens(0.3):
-                put(place, ["a file, and no folder"])
+                put(place, "a file, and no folder\n")
         return root
 
 
@@ -146,7 +144,7 @@ class OddWorkspaces(Workspaces):
 
     def features(self):
         texts = self.some(["std", "log", "dep:log", "log/std"] if self.odd(0.3) else ["std"], 2)
-        return ["[features]", "std = []", f"all = {quoted_list(texts)}"]
+        return ["[features]", "std = []", f"all = {listed(texts)}"]
 
     def paths(self, place):
         """Dependencies by paths, some of them of the workspace."""
@@ -190,12 +188,12 @@ class OddWorkspaces(Workspaces):
         return lines + self.paths(place)
 
     def root_lines(self):
-        lines = ["[workspace]", f"members = {quoted_list(self.entries(4))}", 'resolver = "2"']
+        lines = ["[workspace]", f"members = {listed(self.entries(4))}", 'resolver = "2"']
         if self.happens(0.3):
             excluded = self.some(PLACES + ["c", "m", "m/a", "./a", "a/../b", "[ab]"], 2)
-            lines.append(f"exclude = {quoted_list(excluded)}")
+            lines.append(f"exclude = {listed(excluded)}")
         if self.odd(1.5):
-            lines.append(f"default-members = {quoted_list(self.entries(2))}")
+            lines.append(f"default-members = {listed(self.entries(2))}")
         if self.has_package:
             lines += ["[workspace.package]", 'version = "1.2.3"']
             if self.has_edition:
@@ -216,23 +214,21 @@ class OddWorkspaces(Workspaces):
         lines = self.root_lines()
         if self.happens(0.5):
             lines = self.crate(".") + lines
-            put(f"{root}/src/lib.rs", [])
-        put(f"{root}/Cargo.toml", lines)
+            put(f"{root}/src/lib.rs", "")
+        put_manifest(root, lines)
         for place in [*PLACES, "../out"]:
             if self.odd(0.3):
                 continue
             if not self.odd(0.4):
-                put(f"{root}/{place}/Cargo.toml", self.crate(place))
+                put_manifest(f"{root}/{place}", self.crate(place))
             target = self.random.choice(["src/lib.rs"] * 6 + ["src/main.rs", "src/bin/x.rs"])
-            put(f"{root}/{place}/{target if not self.odd(0.2) else 'notes'}", [])
+            put(f"{root}/{place}/{target if not self.odd(0.2) else 'notes'}", "")
         if self.odd():
-            put(f"{root}/{self.random.choice(['file', 'c/file', 'm/file'])}", [])
+            put(f"{root}/{self.random.choice(['file', 'c/file', 'm/file'])}", "")
         if self.odd():
             os.symlink(self.random.choice(["loop", "a", "nowhere"]), f"{root}/loop")
         return f"{root}/{self.random.choice(PLACES)}" if self.odd(0.8) else root
 
 
-def put(path, lines):
-    os.makedirs(os.path.dirname(path), exist_ok=True)
-    with open(path, "w", encoding="utf-8") as file:
-        file.write("".join(f"{line}\n" for line in lines))
+def put_manifest(folder, lines):
+    put(f"{folder}/Cargo.toml", "".join(f"{line}\n" for line in lines))

@@ -12,10 +12,10 @@ use std::hash::BuildHasher;
 
 /// The graph of all features, and of the dependencies that they act on, in Graphviz's language.
 ///
-/// Hidden and private features are dashed, `default` is bold where it is listed, and else left out.
-/// Dependencies are boxes, and an action that counts only where something else turns the dependency
-/// on is dotted. `resolved` is what the manifest resolves to with no feature removed. The one
-/// refusal is out of memory.
+/// Hidden and private features are dashed, `default` is bold where it is listed, and else left out
+/// with the edges to it. Dependencies are boxes, and an action that counts only where something
+/// else turns the dependency on is dotted. `resolved` is what the manifest resolves to with no
+/// feature removed. The one refusal is out of memory.
 pub fn graph<M, S: BuildHasher>(
     alloc: Global,
     manifest: &Manifest<M>,
@@ -39,7 +39,7 @@ pub fn graph<M, S: BuildHasher>(
                 _ => "style=solid",
             };
             push_node(&mut graph, "feature", feature.key, style)?;
-            push_edges(&mut graph, feature, &links, place)?;
+            push_edges(&mut graph, feature, &links, place, has_default)?;
             keys.extend(feature.enables_deps.keys().copied())?;
         }
     }
@@ -63,17 +63,21 @@ fn push_edge(graph: &mut String, from: &str, kind: &str, to: &str) -> AllocResul
 }
 
 /// The edges from a feature to those that it turns on in one step, and to what it acts on, each of
-/// these with what is asked for, and whether that is conditional.
+/// these with what is asked for, and whether that is conditional. `default` has edges to it only
+/// where it has a node.
 fn push_edges(
     graph: &mut String,
     feature: &Feature<'_>,
     links: &Links<'_>,
     place: usize,
+    has_default: bool,
 ) -> AllocResult<()> {
     let mut targets = BTreeSet::new(*graph.allocator());
     for other in links.next(place) {
         if let Some(name) = links.names.get(*other) {
-            targets.insert(*name)?;
+            if has_default || *name != "default" {
+                targets.insert(*name)?;
+            }
         }
     }
     for name in &targets {

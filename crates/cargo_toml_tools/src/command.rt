@@ -25,7 +25,7 @@ const TOOLS: [&[&str]; 7] = [
         "registry-name NAME=URL: What a registry is called in manifests",
         "checksum HEX: The SHA-256 of the only crate",
         "checksums FILE: Lines of sha256sum, for NAME-VERSION.crate each",
-        "force: Also what is published nowhere, or has errors by lint",
+        "force: Also what isn't published there, lacks a checksum, or has errors by lint",
         "with-names: Put the file and a tab before each line",
         "layout FOLDER: Add each line to its file of an index in FOLDER",
     ],

@@ -54,7 +54,7 @@ pub struct Wanted<'a> {
     pub checksum: Option<&'a str>,
     /// The file of checksums.
     pub checksums: Option<&'a str>,
-    /// Whether what isn't published, or has errors by lint, has a line too.
+    /// Whether what isn't published there, lacks a checksum, or has errors by lint has a line too.
     pub force: bool,
     /// Whether its file and a tab stand before each line.
     pub with_names: bool,

@@ -206,7 +206,7 @@ fn entry_refusal<'a>(
         Some((Fault::Incomplete, key))
     } else if flag_in(section, key, "default_features").is_some() || keeps_other_flag(dependency) {
         Some((Fault::OtherFlag, key))
-    } else if terms.1 & turns_off(section, key, dependency) {
+    } else if terms.1 && turns_off(section, key, dependency) {
         Some((Fault::TurnsOff, key))
     } else if is_left_out(section.kind, dependency) {
         None

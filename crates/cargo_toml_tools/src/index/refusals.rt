@@ -212,12 +212,14 @@ fn entry_refusal<'a>(
         None
     } else if required_version(dependency).is_none() {
         Some((Fault::NoRequirement, key))
-    } else if source_of(terms.0.names, dependency).is_none() {
-        Some((Fault::NoAddress, key))
     } else {
         let source = source_of(terms.0.names, dependency);
-        let is_other = terms.0.registry == CRATES_IO && elsewhere(CRATES_IO, source).is_some();
-        is_other.then_some((Fault::OtherRegistry, key))
+        if source.is_none() {
+            Some((Fault::NoAddress, key))
+        } else {
+            let is_other = terms.0.registry == CRATES_IO && elsewhere(CRATES_IO, source).is_some();
+            is_other.then_some((Fault::OtherRegistry, key))
+        }
     }
 }
 

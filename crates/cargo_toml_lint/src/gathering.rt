@@ -13,7 +13,7 @@ use crate::faults::{required_fault, text_fault};
 use crate::finding::{Code, Finding};
 use crate::known::Known;
 use crate::linking::FeatureMap;
-use crate::names::may_name;
+use crate::names::is_feature_name;
 use cargo_toml::{FeatureDetails, Manifest, Product};
 use std::hash::BuildHasher;
 
@@ -62,7 +62,7 @@ fn add_feature<'m>(
     ensures { OnOk result (Finds (feature_findings (held_names known.now) is_over name.now
         (map string_bytes texts.now)) found.old.items found.new.items) }
 {
-    add_if(found, !may_name(name, true), Code::BadName, name)?;
+    add_if(found, !is_feature_name(name), Code::BadName, name)?;
     let is_left_alone = known.optional.contains(name) & !known.acted.contains(name);
     add_if(found, is_left_alone, Code::SameName, name)?;
     add_if(found, is_over, Code::OverLimit, name)?;

@@ -17,7 +17,7 @@ pub use cargo_toml_features::admit::MAX_ITEMS;
 pub use finding::{Code, Finding, Level};
 pub use linking::{FeatureMap, Links};
 pub use linting::{lint, lint_limited};
-pub use names::may_name;
+pub use names::{is_feature_name, is_package_name};
 
 /// What a call makes, unless out of memory.
 pub type AllocResult<T> = Result<T, std::alloc::AllocError>;

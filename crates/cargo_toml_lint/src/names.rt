@@ -1,5 +1,5 @@
 //! Which names and texts Cargo takes.
-ghost use Rattle.std.specs.Prelude.{◌≡◌, IfSome, is_some};
+ghost use Rattle.std.specs.Prelude.{◌≡◌, IfSome, false, is_some, true};
 ghost use Rattle.std.specs.List.{after_first, before_first, list_any};
 ghost use Rattle.cargo_toml.specs.Action.{is_slash};
 ghost use Rattle.cargo_toml_lint.specs.Taken.{is_bad_text, is_never_required, may_follow, may_name};
@@ -21,13 +21,27 @@ fn may_follow(c: char, of_feature: bool) -> bool
     is_xid_continue(c) || c == '-' || (of_feature && (c == '+' || c == '.'))
 }
 
-/// Whether Cargo takes the text for a name: of a feature where that is set, and else of a package.
-pub fn may_name(name: &str, of_feature: bool) -> bool
+// Whether Cargo takes the text for a name: of a feature where that is set, and else of a package.
+fn may_name(name: &str, of_feature: bool) -> bool
     ensures { result ≡ may_name of_feature name.now }
 {
     let first = name.chars().next();
     let begins = first.is_some_and(|c| may_start(c, of_feature));
     begins & name.chars().all(|c| may_follow(c, of_feature))
+}
+
+/// Whether Cargo takes the text for a feature's name.
+pub fn is_feature_name(name: &str) -> bool
+    ensures { result ≡ may_name true name.now }
+{
+    may_name(name, true)
+}
+
+/// Whether Cargo takes the text for a package's name.
+pub fn is_package_name(name: &str) -> bool
+    ensures { result ≡ may_name false name.now }
+{
+    may_name(name, false)
 }
 
 // The text up to its first slash, and what follows that.
@@ -49,7 +63,7 @@ pub(crate) fn is_bad_text(text: &str) -> bool
     let parts = split_slash(text);
     let bytes = text.as_bytes();
     match parts.1 {
-        Some(feature) => bytes.starts_with(b"dep:".as_slice()) | !may_name(feature, true),
+        Some(feature) => bytes.starts_with(b"dep:".as_slice()) | !is_feature_name(feature),
         None => bytes.ends_with(b"?".as_slice()),
     }
 }

@@ -8,7 +8,7 @@ ghost use Rattle.cargo_toml_lint.specs.{Known.tables_of, Names.table_of, Steps.F
 use crate::AllocResult;
 use crate::finding::{Code, Finding};
 use crate::gathering::{add, add_if};
-use crate::names::may_name;
+use crate::names::is_feature_name;
 use cargo_toml::{Dependency, DepsSet, Manifest};
 use std::alloc::Global;
 
@@ -50,7 +50,7 @@ fn add_entry<'m>(
     let texts = dependency.req_features();
     for text in texts {
         let text = text.as_str();
-        let fault = (!may_name(text, true)).then_some(Code::BadRequest);
+        let fault = (!is_feature_name(text)).then_some(Code::BadRequest);
         add(found, fault, key, text)?;
     }
     Ok(())

@@ -19,7 +19,7 @@ use super::sections::{Section, flag_in, table_in};
 use crate::requirement::required_version;
 use cargo_toml::features::Kind;
 use cargo_toml::{Dependency, Edition, Inheritable, Package, Publish, SemVer};
-use cargo_toml_lint::{Finding, Level, may_name};
+use cargo_toml_lint::{Finding, Level, is_package_name};
 use cargo_toml_parts::read::member;
 use toml::{Table, Value};
 
@@ -73,7 +73,7 @@ pub(super) fn package_refusal<'a, M>(
         findings.now (table_view document.now) (map table_of sections.now)
         (held_package «package».now) }
 {
-    if !may_name(package.name.as_str(), false) {
+    if !is_package_name(package.name.as_str()) {
         return Some((Fault::BadName, ""));
     }
     if let Some(refusal) = version_refusal(&package.version, document) {

@@ -8,20 +8,14 @@ to be a finding, or a refusal. A difference that is meant is of a class that MEA
 is a failure, and the status is then 1. The first failures are kept, and printed.
 """
 
-import argparse
-import collections
-import concurrent.futures
 import json
 import os
-import shutil
 import subprocess
 import sys
-import tempfile
 
-from judging import without_network
+from judging import Comparison, without_network
 from workspaces import OddWorkspaces
 
-HERE = os.path.dirname(os.path.realpath(__file__))
 KEYS = ["folder", "name", "version", "edition", "license", "rust_version", "publish"]
 # Codes of what Cargo refuses. The others are of what it takes.
 REFUSED = {
@@ -96,33 +90,15 @@ def difference(judge, program, folder):
 
 
 def main():
-    parser = argparse.ArgumentParser(description=__doc__)
-    parser.add_argument("--count", type=int, default=300, help="how many workspaces; 300")
-    parser.add_argument("--seed", type=int, default=1, help="which ones; 1")
-    program = f"{os.path.dirname(HERE)}/cargo-toml-tools"
-    parser.add_argument("--program", default=program, help="another program of the same words")
-    words = parser.parse_args()
-    top = tempfile.mkdtemp()
-    judge, program = Judge(top), words.program.split()
+    comparison = Comparison(__doc__, MEANT, count=300)
+    judge = Judge(comparison.folder)
 
-    def compared(number):
-        asked = OddWorkspaces(f"{words.seed}-{number}").write(f"{top}/{number}")
-        return difference(judge, program, asked)
+    def answer(folder, number):
+        asked = OddWorkspaces(f"{comparison.seed}-{number}").write(folder)
+        return difference(judge, comparison.program, asked)
 
-    kinds = collections.Counter()
-    with concurrent.futures.ThreadPoolExecutor(2) as pool:
-        for number, answer in enumerate(pool.map(compared, range(words.count))):
-            kind = "same" if answer is None else answer if answer in MEANT else "FAILED"
-            kinds[kind] += 1
-            if kind != "FAILED":
-                shutil.rmtree(f"{top}/{number}")
-            elif kinds[kind] <= 5:
-                print(f"{top}/{number}\n{answer}\n")
-    for kind, times in kinds.most_common():
-        print(f"{times:6} {kind}" + (f": {MEANT[kind]}" if kind in MEANT else ""))
-    if not kinds["FAILED"]:
-        shutil.rmtree(top)
-    return min(kinds["FAILED"], 1)
+    comparison.hold(answer, range(comparison.count))
+    return comparison.end()
 
 
 if __name__ == "__main__":

@@ -7,22 +7,17 @@ The manifests are made as those of `cargo_lint.py`, less odd; those that Cargo t
 doesn't name hidden features. A difference that is meant is of a class that `MEANT` names.
 """
 
-import argparse
-import collections
-import concurrent.futures
 import json
-import os
 import re
-import shutil
 import subprocess
 import sys
-import tempfile
 
 from cargo_lint import Judge, Manifest
+from judging import Comparison
 
-HERE = os.path.dirname(os.path.realpath(__file__))
 BATCH = 200
 MEANT = {
+    "refused": "Cargo refuses the manifest, which doesn't count",
     "underscores": "the tables `dev_dependencies` and `build_dependencies`, up to edition 2021",
 }
 
@@ -74,49 +69,34 @@ class Answers(Judge):
         return rows
 
 
-def compare(count, seed, program):
-    top = tempfile.mkdtemp()
-    judge = Answers(f"{top}/cargo")
-    kinds = collections.Counter()
-    number = 0
-    with concurrent.futures.ThreadPoolExecutor(2) as pool:
-        while kinds["same"] + kinds["FAILED"] < count:
-            folders, underscored = {}, set()
-            for number in range(number, number + BATCH):
-                manifest = Manifest(seed, number, odd=0.1)
-                folders[manifest.name] = f"{top}/{number}"
-                manifest.write(folders[manifest.name])
-                if manifest.has_underscores:
-                    underscored.add(manifest.name)
-            number += 1
-            found = pages(program, [f"{folder}/Cargo.toml" for folder in folders.values()])
-            answers = pool.map(judge.rows, folders.values())
-            for (name, folder), want in zip(folders.items(), answers):
-                rows = found.get(name)
-                if want is not None and rows is not None and "default" not in want:
-                    rows.pop("default", None)
-                kind = "refused" if want is None else "same" if rows == want else "FAILED"
-                if kind == "FAILED" and name in underscored:
-                    kind = "underscores"
-                kinds[kind] += 1
-                if kind != "FAILED":
-                    shutil.rmtree(folder)
-                elif kinds["FAILED"] <= 5:
-                    print(f"{folder}\n{rows}\n{want}\n")
-    for kind, times in kinds.most_common():
-        print(f"{times:6} {kind}" + (f": {MEANT[kind]}" if kind in MEANT else ""))
-    if not kinds["FAILED"]:
-        shutil.rmtree(top)
-    return min(kinds["FAILED"], 1)
+def answer_of(judge, manifest, rows, folder):
+    """None where a page has Cargo's rows, a class that is meant, or the rows of both."""
+    want = judge.rows(folder)
+    if want is None:
+        return "refused"
+    if rows is not None and "default" not in want:
+        rows.pop("default", None)
+    if rows == want:
+        return None
+    return "underscores" if manifest.has_underscores else f"{rows}\n{want}"
 
 
 def main():
-    reader = argparse.ArgumentParser(description=__doc__)
-    reader.add_argument("--count", type=int, default=100)
-    reader.add_argument("--seed", type=int, default=1)
-    reader.add_argument("--program", default=f"{os.path.dirname(HERE)}/cargo-toml-tools")
-    words = reader.parse_args()
-    return compare(words.count, words.seed, words.program.split())
+    comparison = Comparison(__doc__, MEANT)
+    judge, kinds, first = Answers(f"{comparison.folder}/cargo"), comparison.found, 0
+    while kinds["same"] + kinds["FAILED"] < comparison.count:
+        numbers = range(first, first + BATCH)
+        first += BATCH
+        made = {number: Manifest(comparison.seed, number, odd=0.1) for number in numbers}
+        for number, manifest in made.items():
+            manifest.write(f"{comparison.folder}/{number}")
+        found = pages(comparison.program, [f"{comparison.folder}/{n}/Cargo.toml" for n in numbers])
+
+        def answer(folder, number):
+            return answer_of(judge, made[number], found.get(made[number].name), folder)
+
+        comparison.hold(answer, numbers)
+    return comparison.end()
 
 
 if __name__ == "__main__":

@@ -1,24 +1,19 @@
 """Holds `index` against the line that Cargo writes into the registry of a workspace."""
 
-import argparse
-import collections
-import concurrent.futures
 import json
 import os
 import re
-import shutil
 import subprocess
 import sys
-import tempfile
 
-from judging import put, without_network
+from judging import Comparison, put, without_network
 from manifests import CORP, KEYS, Manifests
 
 CRATES_IO = "https://github.com/rust-lang/crates.io-index"
 OTHER = "https://example.com/other"
 
-SAME = {"refused": "both refuse it"}
 MEANT = {
+    "refused": "both refuse it",
     "underscores": "the tool refuses `_` for `-` by name, where Cargo reads it up to edition 2021",
     "unversioned": "the tool refuses a package without a version, which Cargo takes as 0.0.0",
     "unpublished": "Cargo packages what isn't published in the registry",
@@ -34,10 +29,6 @@ OF_LINE = ["name", "vers", "links", "rust_version"]
 OF_ENTRY = ["name", "req", "features", "optional", "default_features", "target", "kind"]
 STUB = "[features]\nstd = []\nderive = []\nalloc = []\n"
 HEAD = 'edition = "2021"\ndescription = "x"\nlicense = "MIT"\n'
-# So many calls of Cargo run side by side, and so many failures are printed.
-SIDE_BY_SIDE = 2
-SHOWN = 5
-BUILT = f"{os.path.dirname(os.path.dirname(os.path.realpath(__file__)))}/cargo-toml-tools"
 
 
 def put_crate(folder, manifest):
@@ -56,10 +47,10 @@ def run(words, **how):
 
 
 class Work:
-    """A comparison: the tool's program, Cargo with a home of its own, and a folder for files."""
+    """The tool's program, Cargo with a home of its own, and a folder for files."""
 
-    def __init__(self, program, count, seed, folder):
-        self.program, self.count, self.seed, self.folder = program, count, seed, folder
+    def __init__(self, program, folder):
+        self.program, self.folder = program, folder
         home = f"{folder}/cargo/home"
         self.env = without_network(home)
         vendored = 'replace-with = "vendored"\n'
@@ -92,15 +83,6 @@ class Work:
     def tool(self, *words):
         """Status, output and words of a call of the tool."""
         return run([*self.program, *words])
-
-    def places(self):
-        """A fresh folder for each manifest, with the seed that it is made by."""
-        return [(f"{self.folder}/{n}", f"{self.seed}-{n}") for n in range(self.count)]
-
-    def each(self, answer, places):
-        """What `answer` says of each place, in their order."""
-        with concurrent.futures.ThreadPoolExecutor(SIDE_BY_SIDE) as pool:
-            yield from zip(places, pool.map(lambda place: answer(*place), places))
 
 
 def of_line(line):
@@ -169,25 +151,11 @@ def answer_of(work, folder, seed):
 
 
 def main():
-    reader = argparse.ArgumentParser(description=__doc__)
-    reader.add_argument("--count", type=int, default=100)
-    reader.add_argument("--seed", type=int, default=1)
-    reader.add_argument("--program", default=BUILT)
-    words, folder, found = reader.parse_args(), tempfile.mkdtemp(), collections.Counter()
-    work, named = Work(words.program.split(), words.count, words.seed, folder), SAME | MEANT
-    for (place, seed), answer in work.each(lambda *at: answer_of(work, *at), work.places()):
-        kind = "same" if answer is None else answer if answer in named else "FAILED"
-        found[kind] += 1
-        if kind != "FAILED":
-            shutil.rmtree(place, ignore_errors=True)
-        elif found["FAILED"] <= SHOWN:
-            print(f"{place} (seed {seed})\n{answer}\n", flush=True)
-    for kind, times in found.most_common():
-        print(f"{times:6} {kind}" + (f": {named[kind]}" if kind in named else ""))
-    if found["FAILED"]:
-        return 1
-    shutil.rmtree(folder)
-    return 0
+    comparison = Comparison(__doc__, MEANT)
+    work = Work(comparison.program, comparison.folder)
+    answer = lambda folder, number: answer_of(work, folder, f"{comparison.seed}-{number}")
+    comparison.hold(answer, range(comparison.count))
+    return comparison.end()
 
 
 if __name__ == "__main__":

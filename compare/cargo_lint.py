@@ -8,20 +8,14 @@ Where a target requires features, it also checks all targets, by a compiler that
 difference that is meant is of a class that `MEANT` names, and any other is a failure.
 """
 
-import argparse
-import collections
-import concurrent.futures
 import os
 import random
 import re
-import shutil
 import subprocess
 import sys
-import tempfile
 
-from judging import listed, put, quoted, without_network
+from judging import Comparison, listed, put, quoted, without_network
 
-HERE = os.path.dirname(os.path.realpath(__file__))
 KEYS = ["d", "e", "x-y", "_h"]
 NAMES = ["default", "a", "b", "c", "_p", "d", "std", "1.0"]
 ODD_NAMES = ["", "a b", "a/b", "a:b", "a?", "dep:a", "+a", "-a", ".a", "a+", "a-b", "a.b", "é", "_"]
@@ -236,40 +230,24 @@ def verdict(manifest, refusal, warned, found):
     return "other"
 
 
-def compare(count, seed, program):
-    top = tempfile.mkdtemp()
-    judge = Judge(f"{top}/cargo")
-    manifests = [Manifest(seed, number) for number in range(count)]
-    paths = [f"{top}/{number}/Cargo.toml" for number in range(count)]
+def main():
+    comparison = Comparison(__doc__, MEANT)
+    judge = Judge(f"{comparison.folder}/cargo")
+    manifests = [Manifest(comparison.seed, number) for number in range(comparison.count)]
+    paths = [f"{comparison.folder}/{number}/Cargo.toml" for number in range(comparison.count)]
     for manifest, path in zip(manifests, paths):
         manifest.write(os.path.dirname(path))
     found = {}
-    for first in range(0, count, 500):
-        found |= findings(program, paths[first : first + 500])
-    ask = lambda n: judge.judged(os.path.dirname(paths[n]), bool(manifests[n].products))
-    kinds = collections.Counter()
-    with concurrent.futures.ThreadPoolExecutor(2) as pool:
-        for number, answer in enumerate(pool.map(ask, range(count))):
-            kind = verdict(manifests[number], *answer, found[paths[number]])
-            kinds["same" if kind is None else kind if kind in MEANT else "FAILED"] += 1
-            if kind is None or kind in MEANT:
-                shutil.rmtree(os.path.dirname(paths[number]))
-            elif kinds["FAILED"] <= 5:
-                print(f"{paths[number]}\n{kind}\n")
-    for kind, times in kinds.most_common():
-        print(f"{times:6} {kind}" + (f": {MEANT[kind]}" if kind in MEANT else ""))
-    if not kinds["FAILED"]:
-        shutil.rmtree(top)
-    return min(kinds["FAILED"], 1)
+    for first in range(0, comparison.count, 500):
+        found |= findings(comparison.program, paths[first : first + 500])
 
+    def answer(folder, number):
+        manifest = manifests[number]
+        said = judge.judged(folder, bool(manifest.products))
+        return verdict(manifest, *said, found[paths[number]])
 
-def main():
-    reader = argparse.ArgumentParser(description=__doc__)
-    reader.add_argument("--count", type=int, default=100)
-    reader.add_argument("--seed", type=int, default=1)
-    reader.add_argument("--program", default=f"{os.path.dirname(HERE)}/cargo-toml-tools")
-    words = reader.parse_args()
-    return compare(words.count, words.seed, words.program.split())
+    comparison.hold(answer, range(comparison.count))
+    return comparison.end()
 
 
 if __name__ == "__main__":

@@ -1,6 +1,17 @@
-"""What the comparisons share: texts and lists of TOML, files, and Cargo without a network."""
+"""What the comparisons share: texts and lists of TOML, files, Cargo without a network, and the
+count of what came."""
 
+import argparse
+import collections
+import concurrent.futures
 import os
+import shutil
+import tempfile
+
+ROOT = os.path.dirname(os.path.dirname(os.path.realpath(__file__)))
+# So many calls of Cargo run side by side, and so many failures are printed.
+SIDE_BY_SIDE = 2
+SHOWN = 5
 
 
 def quoted(text):
@@ -21,3 +32,39 @@ def put(path, text):
 def without_network(home):
     """An environment in which Cargo has this home, and no network."""
     return os.environ | {"CARGO_HOME": home, "CARGO_NET_OFFLINE": "true"}
+
+
+class Comparison:
+    """A comparison with Cargo: what the command line asks for, a folder for files, and how often
+    each class came: `same`, one that is meant, or FAILED."""
+
+    def __init__(self, doc, meant, count=100):
+        reader = argparse.ArgumentParser(description=doc)
+        reader.add_argument("--count", type=int, default=count, help=f"how many inputs; {count}")
+        reader.add_argument("--seed", type=int, default=1, help="which ones; 1")
+        program = f"{ROOT}/cargo-toml-tools"
+        reader.add_argument("--program", default=program, help="another program of the same words")
+        words = reader.parse_args()
+        self.count, self.seed, self.program = words.count, words.seed, words.program.split()
+        self.meant, self.folder, self.found = meant, tempfile.mkdtemp(), collections.Counter()
+
+    def hold(self, answer, numbers):
+        """Counts what the function says of each number and its folder: nothing where all is the
+        same, a class that is meant, or the text of a failure."""
+        places = [f"{self.folder}/{number}" for number in numbers]
+        with concurrent.futures.ThreadPoolExecutor(SIDE_BY_SIDE) as pool:
+            for place, came in zip(places, pool.map(answer, places, numbers)):
+                kind = "same" if came is None else came if came in self.meant else "FAILED"
+                self.found[kind] += 1
+                if kind != "FAILED":
+                    shutil.rmtree(place, ignore_errors=True)
+                elif self.found[kind] <= SHOWN:
+                    print(f"{place}\n{came}\n", flush=True)
+
+    def end(self):
+        """Prints the counts, and returns the status. Files of failures stay."""
+        for kind, times in self.found.most_common():
+            print(f"{times:6} {kind}" + (f": {self.meant[kind]}" if kind in self.meant else ""))
+        if not self.found["FAILED"]:
+            shutil.rmtree(self.folder)
+        return min(self.found["FAILED"], 1)

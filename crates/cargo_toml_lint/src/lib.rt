@@ -16,7 +16,7 @@ mod walks;
 pub use cargo_toml_features::admit::MAX_ITEMS;
 pub use finding::{Code, Finding, Level};
 pub use linking::{FeatureMap, Links};
-pub use linting::{lint, lint_limited};
+pub use linting::{lint, lint_limited, resolve_whole};
 pub use names::{is_feature_name, is_package_name};
 
 /// What a call makes, unless out of memory.

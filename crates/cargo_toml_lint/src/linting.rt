@@ -2,7 +2,8 @@
 ghost use Rattle.std.specs.Prelude.{◌≡◌, ◌≤◌, ◌⊎◌, ◌↔◌, [], None, true, IfErr, IfOk, IsTrue, OnOk};
 ghost use Rattle.std.specs.List.Sorted.{IsStrictlySortedBy};
 ghost use Rattle.cargo_toml.specs.{Action.Text, Error.Memory, Graph.Table, Limits.MAX_ITEMS};
-ghost use Rattle.cargo_toml.specs.{Manifests.held, Parsed.IsParsed, Views.answer_of};
+ghost use Rattle.cargo_toml.specs.{Manifests.held, Parsed.IsParsed, Reached.IsKeyed};
+ghost use Rattle.cargo_toml.specs.Views.{answer_of};
 ghost use Rattle.cargo_toml_lint.specs.{Findings.HoldsOf, Findings.IsFound, Linked.AreFound};
 ghost use Rattle.cargo_toml_lint.specs.{Linked.AreLinks, Steps.CountsBy};
 ghost use Rattle.cargo_toml_lint.specs.declared.finding.Code.{Code};
@@ -26,8 +27,9 @@ fn keep_every(_name: &str) -> bool
     true
 }
 
-// The features of a manifest, with none removed.
-fn resolve_whole<'m, M, S: BuildHasher + Clone + Drop>(
+/// The features of a manifest with none removed, at a limit of items, which is at least 1. The one
+/// refusal is [`Error::Memory`].
+pub fn resolve_whole<'m, M, S: BuildHasher + Clone + Drop>(
     alloc: Global,
     state: S,
     manifest: &'m Manifest<M>,
@@ -36,6 +38,7 @@ fn resolve_whole<'m, M, S: BuildHasher + Clone + Drop>(
     requires { 1 ≤ limit }
     ensures resolved { IfOk result (λ a.
         IsParsed limit (held manifest.now) (λ _. true) (answer_of a)) }
+    ensures keyed { IfOk result (λ a. IsKeyed a.features) }
     ensures refused { IfErr result (λ e. e ≡ Memory) }
 {
     let keep = keep_every;

@@ -1,12 +1,14 @@
 //! What is documented of features.
-ghost use Rattle.std.specs.Prelude.{◌≡◌, true, IfErr, IfOk, OnOk};
+ghost use Rattle.std.specs.Prelude.{true, IfErr, IfOk, OnOk};
 ghost use Rattle.cargo_toml.specs.{Limits.MAX_ITEMS, Manifests.held, Parsed.IsParsed};
 ghost use Rattle.cargo_toml.specs.{Reached.IsKeyed, Views.answer_of};
 ghost use Rattle.cargo_toml_tools.specs.FromFiles.{IsDocumented, IsOfInput, IsUndocumented};
 
 use crate::document::{TakesRows, graph, rows};
-use cargo_toml::features::{Features, Resolver};
+use cargo_toml::features::Features;
 use cargo_toml::{Error, Manifest};
+use cargo_toml_features::admit::MAX_ITEMS;
+use cargo_toml_lint::resolve_whole;
 use cargo_toml_manifest::HeldManifest;
 use std::hash::RandomState;
 use std::random::RandomSource;
@@ -50,12 +52,6 @@ pub fn document_text<R: RandomSource + AllocGlobal>(
     Ok(page)
 }
 
-fn keep_every(_name: &str) -> bool
-    ensures { result ≡ true }
-{
-    true
-}
-
 /// The features of a manifest, hidden ones like others.
 pub fn resolved<'m, R: RandomSource + AllocGlobal>(
     rt: &R,
@@ -67,7 +63,5 @@ pub fn resolved<'m, R: RandomSource + AllocGlobal>(
     ensures refused { IfErr result IsOfInput }
 {
     let state = RandomState::new(rt)?;
-    let keep = keep_every;
-    let resolver = Resolver::new_with_hasher_and_filter(state, &keep);
-    resolver.parse(rt.alloc(), manifest)
+    resolve_whole(rt.alloc(), state, manifest, MAX_ITEMS)
 }

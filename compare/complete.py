@@ -1,6 +1,6 @@
 #!/usr/bin/env python3
-"""Compares what two programs print for `complete` of members of random workspaces: this one, and
-one over the original that takes the same words.
+"""Compares what two programs print for `complete` of members of random workspaces: this one,
+which is built first if need be, and one over the original that takes the same words.
 
     compare/complete.py PROGRAM OTHER [--count N] [--seed N]
 
@@ -15,7 +15,7 @@ import subprocess
 import sys
 import tempfile
 
-from judging import listed, put
+from judging import build, listed, put
 from workspaces import Workspaces
 
 NAMES = ["a", "b", "main", "x-y", "a.rs", "é"]
@@ -97,6 +97,7 @@ def main():
     parser.add_argument("--count", type=int, default=1000, help="how many workspaces; 1000")
     parser.add_argument("--seed", type=int, default=1, help="which ones; 1")
     arguments = parser.parse_args()
+    build(arguments.program)
     made = Completions(arguments.seed)
     manifests, refused, differ = 0, 0, 0
     for number in range(arguments.count):

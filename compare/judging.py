@@ -1,14 +1,17 @@
-"""What the comparisons share: texts and lists of TOML, files, Cargo without a network, and the
-count of what came."""
+"""What the comparisons share: texts and lists of TOML, files, the programs, Cargo without a network,
+and the count of what came."""
 
 import argparse
 import collections
 import concurrent.futures
 import os
 import shutil
+import subprocess
+import sys
 import tempfile
 
 ROOT = os.path.dirname(os.path.dirname(os.path.realpath(__file__)))
+CARGO_TOML, CARGO_TOML_TOOLS = f"{ROOT}/cargo-toml", f"{ROOT}/cargo-toml-tools"
 # So many calls of Cargo run side by side, and so many failures are printed.
 SIDE_BY_SIDE = 2
 SHOWN = 5
@@ -29,6 +32,17 @@ def put(path, text):
         file.write(text)
 
 
+def build(program):
+    """Builds the program if need be, where it is one of this repository's, and ends the run where
+    that fails. An unproved answer would have a notice on standard error, and take minutes."""
+    path = os.path.realpath(program)
+    if path in (CARGO_TOML, CARGO_TOML_TOOLS):
+        # it says what it builds, and how long that takes
+        done = subprocess.run([path, "--build"], stdin=subprocess.DEVNULL, stdout=sys.stderr)
+        if done.returncode:
+            sys.exit(done.returncode)
+
+
 def without_network(home):
     """An environment in which Cargo has this home, and no network."""
     return os.environ | {"CARGO_HOME": home, "CARGO_NET_OFFLINE": "true"}
@@ -42,9 +56,10 @@ class Comparison:
         reader = argparse.ArgumentParser(description=doc)
         reader.add_argument("--count", type=int, default=count, help=f"how many inputs; {count}")
         reader.add_argument("--seed", type=int, default=1, help="which ones; 1")
-        program = f"{ROOT}/cargo-toml-tools"
-        reader.add_argument("--program", default=program, help="another program of the same words")
+        program = "another program of the same words; ./cargo-toml-tools, built first if need be"
+        reader.add_argument("--program", default=CARGO_TOML_TOOLS, help=program)
         words = reader.parse_args()
+        build(words.program)
         self.count, self.seed, self.program = words.count, words.seed, words.program.split()
         self.meant, self.folder, self.found = meant, tempfile.mkdtemp(), collections.Counter()
 

@@ -20,9 +20,9 @@ import tempfile
 import tomllib
 
 from definitions import Graph, enabled_by, in_order, join, mention
+from judging import CARGO_TOML_TOOLS, build
 
 HERE = os.path.dirname(os.path.realpath(__file__))
-PROGRAM = os.path.join(os.path.dirname(HERE), "cargo-toml-tools")
 LIMIT = 2048
 TABLES = [("dependencies", "normal"), ("dev-dependencies", "dev"), ("build-dependencies", "build")]
 CRATES_IO = "https://github.com/rust-lang/crates.io-index"
@@ -587,7 +587,7 @@ def wanted(tool, path):
 
 def told(tool, path):
     """What the program tells, with its status where that says what was found."""
-    words = [PROGRAM, *WORDS[tool], path]
+    words = [CARGO_TOML_TOOLS, *WORDS[tool], path]
     done = subprocess.run(words, capture_output=True, text=True, check=False)
     if tool == "lint" and not done.stderr:
         # where a finding stands, the program alone says
@@ -631,10 +631,7 @@ def compare_random(tool, count, seed=1):
 
 def main(words):
     if words[:1] in [["--compare"], ["--random"]]:
-        # an unproved answer has a notice on standard error, and no status of its own
-        built = subprocess.run([PROGRAM, "--build"], stdin=subprocess.DEVNULL, stdout=sys.stderr)
-        if built.returncode:
-            return built.returncode
+        build(CARGO_TOML_TOOLS)
     if words[:1] == ["--compare"]:
         return min(compare(words[1], words[2:]), 1)
     if words[:1] == ["--random"]:

@@ -60,7 +60,7 @@ fn strip_question(text: &str) -> (&str, bool)
 }
 
 // The text up to its first slash, and what follows that.
-fn split_slash(text: &str) -> (&str, Option<&str>)
+pub fn split_slash(text: &str) -> (&str, Option<&str>)
     ensures front { result.0.now ≡ before_first is_slash text.now }
     ensures found { is_some result.1 ≡ list_any is_slash text.now }
     ensures after { IfSome result.1 (λ rest. rest.now ≡ after_first is_slash text.now) }

@@ -1,10 +1,9 @@
 //! Which names and texts Cargo takes.
-ghost use Rattle.std.specs.Prelude.{◌≡◌, IfSome, false, is_some, true};
-ghost use Rattle.std.specs.List.{after_first, before_first, list_any};
-ghost use Rattle.cargo_toml.specs.Action.{is_slash};
+ghost use Rattle.std.specs.Prelude.{◌≡◌, false, true};
 ghost use Rattle.cargo_toml_lint.specs.Taken.{is_bad_text, is_never_required, may_follow, may_name};
 ghost use Rattle.cargo_toml_lint.specs.Taken.{may_start};
 
+use cargo_toml_features::action::split_slash;
 use unicode_ident::{is_xid_continue, is_xid_start};
 
 // Whether a name may begin with the character: a feature's with a digit, too.
@@ -42,18 +41,6 @@ pub fn is_package_name(name: &str) -> bool
     ensures { result ≡ may_name false name.now }
 {
     may_name(name, false)
-}
-
-// The text up to its first slash, and what follows that.
-fn split_slash(text: &str) -> (&str, Option<&str>)
-    ensures front { result.0.now ≡ before_first is_slash text.now }
-    ensures found { is_some result.1 ≡ list_any is_slash text.now }
-    ensures after { IfSome result.1 (λ rest. rest.now ≡ after_first is_slash text.now) }
-{
-    match text.split_once('/') {
-        Some((front, feature)) => (front, Some(feature)),
-        None => (text, None),
-    }
 }
 
 /// Whether the text is of no form that Cargo knows in a feature's list.

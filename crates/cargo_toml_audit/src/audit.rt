@@ -105,7 +105,7 @@ impl Code {
         match self {
             Code::Absent => ("absent", "there is no manifest"),
             Code::BadPattern => ("bad-pattern", "it is no pattern, or longer than a path"),
-            Code::DefaultMember => ("default-member", "it leads to no member"),
+            Code::DefaultMember => ("default-member", "it leads to what is no member"),
             Code::Features => ("features", "`lint` finds errors in its features"),
             Code::Incomplete => ("incomplete", ""),
             Code::ListedTwice => ("listed-twice", "two entries of members lead to it"),

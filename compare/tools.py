@@ -630,15 +630,18 @@ def compare_random(tool, count, seed=1):
 
 
 def main(words):
-    if words[:1] in [["--compare"], ["--random"]]:
-        build(CARGO_TOML_TOOLS)
-    if words[:1] == ["--compare"]:
-        return min(compare(words[1], words[2:]), 1)
-    if words[:1] == ["--random"]:
-        return min(compare_random(*words[1:]), 1)
-    for path in words[1:]:
-        sys.stdout.write(wanted(words[0], path))
-    return 0
+    way = words.pop(0) if words[:1] in [["--compare"], ["--random"]] else None
+    tool, *asked = words or [None]
+    are_numbers = len(asked) <= 2 and all(map(str.isdecimal, asked))
+    if tool not in TOOLS or not asked or way == "--random" and not are_numbers:
+        print(__doc__, file=sys.stderr)
+        return 2
+    if way is None:
+        sys.stdout.writelines(wanted(tool, path) for path in asked)
+        return 0
+    build(CARGO_TOML_TOOLS)
+    differ = compare(tool, asked) if way == "--compare" else compare_random(tool, *asked)
+    return min(differ, 1)
 
 
 if __name__ == "__main__":

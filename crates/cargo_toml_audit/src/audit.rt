@@ -12,9 +12,9 @@ mod report;
 mod root;
 mod summary;
 
-use crate::AllocResult;
 use crate::members::{picked, set_of};
 use cargo_toml::{Manifest, Workspace};
+use cargo_toml_lint::AllocResult;
 use dependencies::{add_inherited, add_uses, entries, further, inherited_keys};
 use findings::{add_differences, add_shared, find_all, names};
 pub use findings::{has_no_target, is_bare, named_by, refusal_rows};

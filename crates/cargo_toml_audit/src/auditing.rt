@@ -10,12 +10,12 @@ mod above;
 mod place;
 mod walk;
 
-use crate::AllocResult;
 use crate::audit::findings::{find_all, find_if};
 use crate::audit::{Audit, Code, Finding, Root, json, lines};
 use crate::members::{Looking, included, manifest_path, picked, set_of, unseen, wrong_entries};
 use above::{absolute, workspace_of};
 use cargo_toml::Error;
+use cargo_toml_lint::AllocResult;
 use cargo_toml_tools::files::manifest_in;
 use std::alloc::Global;
 use std::collections::BTreeSet;

@@ -7,6 +7,3 @@
 pub mod audit;
 pub mod auditing;
 pub mod members;
-
-/// What a call makes, unless out of memory.
-pub type AllocResult<T> = Result<T, std::alloc::AllocError>;

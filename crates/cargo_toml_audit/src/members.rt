@@ -8,8 +8,8 @@ mod places;
 mod sets;
 mod walk;
 
-use crate::AllocResult;
 use cargo_toml::Workspace;
+use cargo_toml_lint::AllocResult;
 use patterns::{is_deep, tokens_of};
 use places::pieces;
 pub use places::{Exclusion, lies_in, manifest_path, place_of, seen_from};

@@ -13,10 +13,10 @@ ghost use Rattle.cargo_toml_audit.specs.Oddities.{asking_key, further_from, furt
 
 use super::findings::find_if;
 use super::{Code, Finding, Use};
-use crate::AllocResult;
 use crate::members::note;
 use cargo_toml::features::Kind;
 use cargo_toml::{Dependency, DepsSet, Inheritable, Manifest, TargetDepsSet};
+use cargo_toml_lint::AllocResult;
 use cargo_toml_package::inheriting::leavable_rows;
 use cargo_toml_tools::index::table_name;
 use cargo_toml_tools::requirement::required_version;

@@ -14,9 +14,9 @@ ghost use Rattle.cargo_toml_audit.specs.{Entries.entries_of, Oddities.lacks_targ
 
 use super::dependencies::entries;
 use super::{Code, Finding, Member, Root};
-use crate::AllocResult;
 use crate::members::place_of;
 use cargo_toml::{Dependency, DepsSet, Edition, Inheritable, Manifest, Package, Workspace};
+use cargo_toml_lint::AllocResult;
 use std::alloc::Global;
 use std::collections::BTreeSet;
 

@@ -1,8 +1,8 @@
 //! How a report is written.
 
 use super::{Audit, Code, Finding, Member, Use};
-use crate::AllocResult;
 use crate::members::seen_from;
+use cargo_toml_lint::AllocResult;
 use cargo_toml_tools::escape::{Format, push_escaped};
 use cargo_toml_tools::json::{put_text, put_texts};
 use serde_json::{Map, Value, push, put};

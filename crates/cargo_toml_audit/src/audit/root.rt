@@ -6,9 +6,9 @@ ghost use Rattle.cargo_toml_audit.specs.AuditedFiles.{base_of, need_at, need_by}
 ghost use Rattle.cargo_toml_audit.specs.Entries.{entries_of, listed_of};
 
 use super::dependencies::{Entry, entries, is_left};
-use crate::AllocResult;
 use crate::members::place_of;
 use cargo_toml::{Dependency, Manifest, Workspace};
+use cargo_toml_lint::AllocResult;
 use std::alloc::Global;
 
 /// A workspace.

@@ -8,8 +8,8 @@ ghost use Rattle.cargo_toml_audit.specs.Audited.{publish_text, stated};
 
 use super::Member;
 use super::dependencies::is_inherited;
-use crate::AllocResult;
 use cargo_toml::{Inheritable, Manifest, Package, Publish};
+use cargo_toml_lint::AllocResult;
 use std::alloc::Global;
 
 /// What is told of a member with this manifest, which was completed. None where nothing can be.

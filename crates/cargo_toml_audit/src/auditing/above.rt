@@ -3,10 +3,10 @@ ghost use Rattle.std.specs.Prelude.{IfErr, IfOk, IsTrue};
 ghost use Rattle.cargo_toml_tools.specs.FromFiles.{IsUnreadable};
 ghost use Rattle.cargo_toml_audit.specs.Places.{lies_in};
 
-use crate::AllocResult;
 use crate::audit::named_by;
 use crate::members::{Exclusion, lies_in, manifest_path, place_of};
 use cargo_toml::{Error, Manifest};
+use cargo_toml_lint::AllocResult;
 use cargo_toml_parts::paths::ancestors;
 use cargo_toml_tools::files::manifest_in;
 use std::alloc::Global;

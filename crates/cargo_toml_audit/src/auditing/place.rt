@@ -9,12 +9,11 @@ ghost use Rattle.cargo_toml_audit.specs.AuditedFiles.{refusal, refusal_code};
 ghost use Rattle.cargo_toml_audit.specs.{Oddities.oddities_of, Places.lies_in};
 
 use super::above::is_of;
-use crate::AllocResult;
 use crate::audit::findings::{find, find_if, find_in, has_no_target, is_bare, refusal_rows};
 use crate::audit::{Audit, Code, Finding, Root, needs, summarize, untold_words};
 use crate::members::{is_absent, manifest_path};
 use cargo_toml::{Error, Manifest};
-use cargo_toml_lint::{Finding as Fault, Level};
+use cargo_toml_lint::{AllocResult, Finding as Fault, Level};
 use cargo_toml_manifest::HeldManifest;
 use cargo_toml_tools::files::{findings_of, manifest_in};
 use std::alloc::Global;

@@ -6,7 +6,7 @@ ghost use Rattle.cargo_toml_audit.specs.Patterns.{accepts, is_among, is_deep, is
 ghost use Rattle.cargo_toml_audit.specs.Patterns.{matches, next, part_of, parts_of};
 ghost use Rattle.cargo_toml_audit.specs.Patterns.{read_in_brackets, read_more, read_of, read_plain};
 
-use crate::AllocResult;
+use cargo_toml_lint::AllocResult;
 use std::alloc::Global;
 use std::mem;
 

@@ -4,8 +4,8 @@ ghost use Rattle.cargo_toml_audit.specs.Places.{begins_at, ends_in_name, exclude
 ghost use Rattle.cargo_toml_audit.specs.Places.{lies_in_some, manifest_path, normalized, or_dot};
 ghost use Rattle.cargo_toml_audit.specs.Places.{outer_paths, pieces, place_of, with_names};
 
-use crate::AllocResult;
 use cargo_toml::Workspace;
+use cargo_toml_lint::AllocResult;
 use cargo_toml_parts::paths::{ancestors, join};
 use std::alloc::Global;
 

@@ -4,7 +4,7 @@ ghost use Rattle.std.specs.Prelude.{if◌then◌else◌, map, string_bytes};
 ghost use Rattle.std.specs.BTreeSet.{contains_text};
 ghost use Rattle.cargo_toml_audit.specs.{MemberFolders.picked, Places.is_in};
 
-use crate::AllocResult;
+use cargo_toml_lint::AllocResult;
 use std::alloc::Global;
 use std::collections::BTreeSet;
 

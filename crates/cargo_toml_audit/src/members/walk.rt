@@ -16,7 +16,7 @@ use super::is_wrong;
 use super::patterns::{Token, is_deep, is_pattern, matches, tokens_of};
 use super::places::{begins_at, normalized, pieces, place_of};
 use super::sets::picked;
-use crate::AllocResult;
+use cargo_toml_lint::AllocResult;
 use cargo_toml_parts::paths::join;
 use std::alloc::{AllocError, Global};
 use std::collections::BTreeMap;

@@ -59,7 +59,7 @@ fn strip_question(text: &str) -> (&str, bool)
     }
 }
 
-// The text up to its first slash, and what follows that.
+/// The text up to its first slash, and what follows that slash, if there is one.
 pub fn split_slash(text: &str) -> (&str, Option<&str>)
     ensures front { result.0.now ≡ before_first is_slash text.now }
     ensures found { is_some result.1 ≡ list_any is_slash text.now }

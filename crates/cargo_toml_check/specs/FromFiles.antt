@@ -1,11 +1,11 @@
 -- What is found and shown of a text of a file.
-use Rattle.std.specs.Prelude.{◌⊎◌, Bool, false, true}
+use Rattle.std.specs.Prelude.{◌≢◌, ◌⊎◌, Bool, false, true}
 use Rattle.std.specs.declared.hash.{DefaultHasher.DefaultHasher, RandomState.RandomState}
 use Rattle.serde_json.specs.Data as json
 use Rattle.serde_json.specs.Written.{IsInOrder}
 use Rattle.toml.specs.declared.value.Value.{Value}
-use Rattle.cargo_toml.specs.{Action.Text, Error.Error, Limits.MAX_ITEMS, Manifest.Manifest}
-use Rattle.cargo_toml.specs.{Manifests.held, Parsed.IsParsed, Views.answer_of}
+use Rattle.cargo_toml.specs.{Action.Text, Error.Error, Error.Memory, Limits.MAX_ITEMS}
+use Rattle.cargo_toml.specs.{Manifest.Manifest, Manifests.held, Parsed.IsParsed, Views.answer_of}
 use Rattle.cargo_toml_features.specs.declared.features.Features.{Features}
 use Rattle.cargo_toml_check.specs.Listed.{IsListing, is_cut}
 use Rattle.cargo_toml_tools.specs.FromFiles.{IsCompletedIn, IsUncompleted}
@@ -21,11 +21,11 @@ abbrev pub IsRefusedFor : Text → Text → (Manifest Value → Error → Type 0
 IsRefusedFor path text refuses e =
     IsUncompleted path text e ⊎ HoldsOfCompleted path text (λ m. refuses m e)
 
--- nothing is told only where the text reads and completes. That something is told says nothing of a
--- text: out of memory is always such a fault
+-- nothing is told only where the text reads and completes, and something only where it doesn't read,
+-- or some answers of files keep it from completing. For any manifest there are such answers
 abbrev pub IsChecked : Text → Text → Bool → Type 0
 IsChecked path text false = (m : Manifest Value) × IsCompletedIn path text m
-IsChecked path text true = (e : Error) × IsUncompleted path text e
+IsChecked path text true = (e : Error) × IsUncompleted path text e × (e ≢ Memory)
 
 -- the text is printed of a value of JSON that lists the features that this manifest resolves to
 pub record IsListed (m : Manifest Value) (shown : Text) : Type 0 where

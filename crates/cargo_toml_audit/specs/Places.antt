@@ -6,9 +6,13 @@ use Rattle.std.specs.List.{join_by, list_any, slice_split, starts_with}
 use Rattle.std.specs.Path.{path_join}
 use Rattle.cargo_toml.specs.Action.{Text}
 
+-- a path begins where all paths do: at the root
+abbrev pub is_rooted : Text → Bool
+is_rooted path = starts_with nat_eq path (codes "/")
+
 -- where a path begins: where all paths do, or in a folder
 abbrev pub begins_at : Text → Text → Text
-begins_at folder path = if starts_with nat_eq path (codes "/") then codes "/" else folder
+begins_at folder path = if is_rooted path then codes "/" else folder
 
 -- a name that leads nowhere, and the one that leads to the folder around
 abbrev pub is_nothing : Text → Bool
@@ -21,13 +25,17 @@ is_up name = bytes_eq name (codes "..")
 abbrev pub ends_in_name : List Text → Bool
 ends_in_name names = not (is_up (get_or names (length names - 1) (codes "..")))
 
--- names, and one further: `..` takes back the last one, unless that is a `..` itself, or each is to
--- stay
-abbrev pub one_further : Bool → List Text → Text → List Text
-one_further keeps_up names name =
+-- `..` behind these names of a path takes back the last one, or is at the root, and leads nowhere
+abbrev pub can_go_back : Text → List Text → Bool
+can_go_back path names = is_rooted path || ends_in_name names
+
+-- names of a path, and one further: `..` takes back the last one, unless that is a `..` itself, or
+-- each is to stay. At the root it takes back none
+abbrev pub one_further : Text → Bool → List Text → Text → List Text
+one_further path keeps_up names name =
     if is_nothing name then names
-    else (if (is_up name && not keeps_up) && ends_in_name names then take (length names - 1) names
-    else names ++ name ∷ [])
+    else (if (is_up name && not keeps_up) && can_go_back path names
+    then take (length names - 1) names else names ++ name ∷ [])
 
 -- what stands between the slashes of a path
 abbrev pub pieces : Text → List Text
@@ -40,10 +48,10 @@ or_dot text = if length text == 0 then codes "." else text
 abbrev pub with_names : Text → List Text → Text
 with_names path names = or_dot (begins_at [] path ++ join_by (λ name. name) (codes "/") names)
 
--- the path with no `.` in it, and with `..` at its front alone, unless each is to stay as it is
--- written
+-- the path with no `.` in it, and with `..` at its front alone, and not at the root, unless each is
+-- to stay as it is written
 abbrev pub normalized : Bool → Text → Text
-normalized keeps_up path = with_names path (fold (one_further keeps_up) [] (pieces path))
+normalized keeps_up path = with_names path (fold (one_further path keeps_up) [] (pieces path))
 
 -- the place to which a path leads that is written in a folder
 abbrev pub place_of : Text → Text → Text

@@ -1,6 +1,6 @@
 //! Places of folders: absolute paths with no `.` and no `..` in them.
 ghost use Rattle.std.specs.Prelude.{◌≡◌, IfOk, map, string_bytes};
-ghost use Rattle.cargo_toml_audit.specs.Places.{begins_at, ends_in_name, excluded_by, lies_in};
+ghost use Rattle.cargo_toml_audit.specs.Places.{begins_at, can_go_back, excluded_by, lies_in};
 ghost use Rattle.cargo_toml_audit.specs.Places.{lies_in_some, manifest_path, normalized, or_dot};
 ghost use Rattle.cargo_toml_audit.specs.Places.{outer_paths, pieces, place_of, with_names};
 
@@ -23,8 +23,8 @@ pub fn pieces<'a>(alloc: Global, path: &'a str) -> AllocResult<Vec<&'a str>>
     path.split('/').collect(alloc)
 }
 
-/// The path with no `.` in it, and with `..` at its front alone, unless each is to stay as it is
-/// written. The folder itself is `.`.
+/// The path with no `.` in it, and with `..` at its front alone, and not at the root, unless each
+/// is to stay as it is written. The folder itself is `.`.
 pub fn normalized(alloc: Global, path: &str, keeps_up: bool) -> AllocResult<String>
     ensures { IfOk result (λ text. string_bytes text ≡ normalized keeps_up path.now) }
 {
@@ -33,7 +33,7 @@ pub fn normalized(alloc: Global, path: &str, keeps_up: bool) -> AllocResult<Stri
         if name.is_empty() || *name == "." {
             continue;
         }
-        if (*name == "..") & !keeps_up && can_go_back(names.as_slice()) {
+        if (*name == "..") & !keeps_up && can_go_back(path, names.as_slice()) {
             names.pop();
         } else {
             names.push(*name)?;
@@ -42,11 +42,12 @@ pub fn normalized(alloc: Global, path: &str, keeps_up: bool) -> AllocResult<Stri
     with_names(alloc, path, names.as_slice())
 }
 
-/// Whether the last name can be taken back.
-fn can_go_back(names: &[&str]) -> bool
-    ensures { result ≡ ends_in_name (map (λ t. t.now) names.now) }
+/// Whether `..` behind these names of a path takes back the last one, or is at the root, and leads
+/// nowhere.
+fn can_go_back(path: &str, names: &[&str]) -> bool
+    ensures { result ≡ can_go_back path.now (map (λ t. t.now) names.now) }
 {
-    !names.is_empty() && names[names.len() - 1] != ".."
+    path.starts_with('/') || (!names.is_empty() && names[names.len() - 1] != "..")
 }
 
 /// The path that begins as this one and has these names, or `.` where that is nothing.

@@ -10,6 +10,7 @@ use Rattle.cargo_toml_features.specs.{Recorded.target_cmp, Views.target_in}
 abbrev pub IsKindOrder : (Kind → Kind → Ordering) → Type 0
 IsKindOrder cmp = (a b : Kind) → cmp a b ≡ nat_cmp (rank a) (rank b)
 
+-- a kind is equal to itself and to no other
 abbrev pub IsKindEquality : (Kind → Kind → Bool) → Type 0
 IsKindEquality eq = (a b : Kind) → IsTrue (eq a b) ↔ (a ≡ b)
 

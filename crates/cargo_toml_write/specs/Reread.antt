@@ -69,11 +69,12 @@ told = record nothing_asked {
 abbrev pub IsTold : {M : Type 0} → ManifestMeaning M → Type 0
 IsTold m = ManifestMeets told m
 
--- each dependency that says whether the workspace gives it says that it does
+-- a dependency that says whether the workspace gives it says that it does
 abbrev pub SaysTrue : DependencyMeaning → Type 0
 SaysTrue (kind.inherited i) = i.workspace ≡ true
 SaysTrue other = Unit {0}
 
+-- what is asked of a manifest: that each of its dependencies does so
 abbrev pub says_true : {M : Type 0} → Asked M
 says_true = record nothing_asked { dependency = SaysTrue }
 

@@ -20,6 +20,7 @@ use findings::{add_differences, add_shared, find_all, names};
 pub use findings::{has_no_target, is_bare, named_by, refusal_rows};
 pub use report::{json, lines};
 pub use root::{Root, needs};
+use std::collections::BTreeSet;
 pub use summary::{summarize, untold_words};
 
 /// What a member is. What isn't there is `None`.
@@ -186,6 +187,8 @@ pub struct Audit {
     pub uses: Vec<Use>,
     /// The keys of the workspace's dependencies that members inherit.
     pub inherited: Vec<String>,
+    /// The places of members, and of what is refused as one, though no clause says which.
+    pub places: BTreeSet<String>,
 }
 
 impl Audit {
@@ -201,6 +204,7 @@ impl Audit {
             findings: Vec::new(alloc),
             uses: Vec::new(alloc),
             inherited: Vec::new(alloc),
+            places: BTreeSet::new(alloc),
         }
     }
 

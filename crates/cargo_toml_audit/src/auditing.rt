@@ -94,6 +94,8 @@ fn report_on<R: Files + Eprint + RandomSource + AllocGlobal>(
     known.members = add_members(rt, root, first, &mut audit, shows)?;
     find_beside(looking, root, (&known, asked), &mut audit.findings)?;
     audit.finish(root.workspace)?;
+    let Known { members, .. } = known;
+    audit.places = members;
     Ok(audit)
 }
 

@@ -67,8 +67,8 @@ fn push_told<R: Files + AllocGlobal>(
     Ok(())
 }
 
-/// The manifests of the members of the workspace around a folder, and of what is absent or doesn't
-/// complete: of members, and of dependencies by a path outside the workspace.
+/// The manifests of the members of the workspace around a folder, and of what is refused as one:
+/// what is absent or doesn't read, and members that don't complete.
 pub(crate) fn members<R: Files + Eprint + RandomSource + AllocGlobal>(
     rt: &R,
     folder: &str,
@@ -82,8 +82,10 @@ pub(crate) fn members<R: Files + Eprint + RandomSource + AllocGlobal>(
         files.insert(file_of(alloc, here.as_str(), member.folder.as_str())?)?;
     }
     for finding in &report.findings {
-        if matches!(finding.code, Code::Absent | Code::Incomplete) {
-            files.insert(file_of(alloc, here.as_str(), finding.subject.as_str())?)?;
+        let place = finding.subject.as_str();
+        let is_refused = matches!(finding.code, Code::Absent | Code::Incomplete);
+        if is_refused && report.places.contains(place) {
+            files.insert(file_of(alloc, here.as_str(), place)?)?;
         }
     }
     Ok(files)

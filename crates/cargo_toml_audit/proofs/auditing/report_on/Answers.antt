@@ -38,9 +38,11 @@ pub returns-clause-report : goal.returns-clause-report
 returns-clause-report g c =
     let looks = c.find_beside.new.looking.looks in
     let beside = c.in_ok-find_beside.ensures (disk_of looks) (disk_agrees looks) in
+    let ended : IsReport (base_of c.args.root) c.args.asked.now c.finish.new.self =
     reported (base_of c.args.root) c.args.asked.now looks c.in_ok-lists.lists _ c.new-audit.result c.add_members.new.audit c.finish.new.self
     c.read_lists.new.findings c.find_beside.new.findings c.new-audit.ensures.empty (c.in_ok-lists.ensures (disk_of looks) beside.0).1
-    c.in_ok-known.ensures.walked beside.1 c.in_ok-finish.ensures
+    c.in_ok-known.ensures.walked beside.1 c.in_ok-finish.ensures in
+    record { looks = ended.looks; readings = ended.readings; read = ended.read; members = ended.members; found = ended.found }
 
 pub returns-clause-place : goal.returns-clause-place
 returns-clause-place g c =

@@ -25,7 +25,7 @@ REFUSED = {
 }
 MEANT = {
     "manifest": "Cargo refuses of one manifest what `audit` isn't about, as two sources of one key",
-    "no workspace": "Cargo takes a package alone, where `audit` refuses a folder without a workspace",
+    "no workspace": "Cargo takes a package alone, where `audit` refuses one without a workspace",
     "from a member": "Cargo looks at `default-members` where it is asked in the root alone",
 }
 # What Cargo says where a refusal is of the class `manifest`.

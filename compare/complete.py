@@ -110,7 +110,8 @@ def main():
                     differ += 1
                     if differ <= 3:
                         print(open(manifest, encoding="utf-8").read(), own, other, sep="\n")
-    print(f"{arguments.count} workspaces, {manifests} manifests, {refused} refused, {differ} differ")
+    made = f"{arguments.count} workspaces, {manifests} manifests"
+    print(f"{made}, {refused} refused, {differ} differ")
     return min(differ, 1)
 
 

@@ -1,4 +1,4 @@
-"""What the comparisons share: texts and lists of TOML, files, the programs, Cargo without a network,
+"""What the comparisons share: texts and lists of TOML, files, programs, Cargo without a network,
 and the count of what came."""
 
 import argparse

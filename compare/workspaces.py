@@ -123,8 +123,9 @@ PLACES = ["a", "b", "ab", "c", "c/a", "c/b", "c/d", "c/d/x", "c/x", "m/a/inner",
 PLACES += ["m/a", "n", "n/s", "x"]
 PATTERNS = ["?", "[ab]", "[a-c]", "a*", "c/[!s]*", "c/?", "c/[a-b]", "m/*/inner", "m/a/[!s]*"]
 PATTERNS += ["**/x", "c/**/x", "**/inner", "m/**/inner", "[!b-z]b", "c/*/x", "*/a", "[!ms]*", "?/"]
-ODD_ENTRIES = ["a/../b", "./a", "a/", ".", "", "absent", "c/../m/a/inner", "a**", "***", "[a", "a//b"]
-ODD_ENTRIES += ["file", "link", "loop", "c/*/../a", "absent/../a", "m/*/absent", "z*", "[]", "[!]"]
+ODD_ENTRIES = ["a/../b", "./a", "a/", ".", "", "absent", "c/../m/a/inner", "a**", "***", "[a"]
+ODD_ENTRIES += ["a//b", "file", "link", "loop", "c/*/../a", "absent/../a", "m/*/absent", "z*"]
+ODD_ENTRIES += ["[]", "[!]"]
 ODDITIES = 0.06
 
 
@@ -158,7 +159,8 @@ class OddWorkspaces(Workspaces):
                 path = os.path.relpath(key, place)
                 name = key.replace("/", "-")
                 if key in self.shared_paths and self.happens(0.5):
-                    lines.append(f"{name} = {{ workspace = {'false' if self.odd(0.3) else 'true'} }}")
+                    flag = "false" if self.odd(0.3) else "true"
+                    lines.append(f"{name} = {{ workspace = {flag} }}")
                 else:
                     path = "../" * 3 + "out" if self.odd(0.2) else path
                     lines.append(f'{name} = {{ path = "{path}" }}')
@@ -167,7 +169,8 @@ class OddWorkspaces(Workspaces):
     def crate(self, place):
         name = "same" if self.odd(0.3) else place.replace("/", "-").replace(".", "root")
         lines = ["[package]", f'name = "{name}"']
-        lines += self.inheritable("version", '"0.1.0"') if self.has_package else ['version = "1.0.0"']
+        version = ['version = "1.0.0"']
+        lines += self.inheritable("version", '"0.1.0"') if self.has_package else version
         if self.happens(0.6):
             lines.append(f'edition = "{self.random.choice(EDITIONS[:3])}"')
         elif self.has_package and self.has_edition:

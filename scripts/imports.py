@@ -9,8 +9,8 @@ IMPORT = re.compile(
 
 
 def imports(text, is_ghost=False):
-    """Each definition of this repository that the text imports: its crate, its module, its name, and
-    what the text calls it. A module that is imported whole has its own name for both."""
+    """Each definition of this repository that the text imports: its crate, its module, its name,
+    and what the text calls it. A module that is imported whole has its own name for both."""
     for ghost, crate, path, inside in IMPORT.findall(text):
         if bool(ghost) != is_ghost:
             continue

@@ -174,7 +174,8 @@ class Run:
         self.name, self.crate, self.words = f"{what} of {crate}", crate, words
         self.folder, self.below = f"{CRATES}/{crate}", below(crate)
         self.data = files_below(f"{self.folder}/data")
-        self.sources = [f"{self.folder}/{it}" for it in ("args", "stdin", "stdout", "status")] + self.data
+        stored = [f"{self.folder}/{it}" for it in ("args", "stdin", "stdout", "status")]
+        self.sources = stored + self.data
         self.passed, self.failed, self.skipped = 0, {}, {}
 
 

@@ -21,8 +21,8 @@ pub struct Told {
     /// Where the key is first mentioned, or where the text stops being TOML. It is 1:1 where
     /// neither is known.
     pub place: Place,
-    /// The path of the key, escaped as for a line, and cut after 200 bytes. It is empty where the
-    /// whole text is at fault.
+    /// The path of the key as TOML has it, cut after 200 bytes, and not escaped for a line. It is
+    /// empty where the whole text is at fault.
     pub key: String,
     /// What is wrong with it.
     pub words: String,
@@ -97,7 +97,8 @@ fn told_lines(alloc: Global, file: &str, all: &[Told]) -> AllocResult<String> {
     for told in all {
         push_place(&mut lines, file, told.place)?;
         if !told.key.is_empty() {
-            write!(lines, "{}: ", told.key)?;
+            let key = Escaped(told.key.as_str(), Format::Line);
+            write!(lines, "{key}: ")?;
         }
         let words = Escaped(told.words.as_str().trim_end(), Format::Line);
         writeln!(lines, "{words}")?;

@@ -1,7 +1,6 @@
 //! Where the keys of a manifest stand in its text.
 use crate::alone::Step;
 use cargo_toml_lint::AllocResult;
-use cargo_toml_tools::escape::{Format, push_escaped};
 use std::alloc::{AllocError, Global};
 use std::collections::BTreeMap;
 use std::fmt::Write;
@@ -15,8 +14,8 @@ pub type Place = (usize, usize);
 /// The most bytes that a line has of a path or a name: each of many lines may have a long one.
 const MAX_NAME: usize = 200;
 
-/// A path as a text that is cut: keys with dots between them, those that aren't bare between
-/// quotes, and the numbers of items between brackets.
+/// A path as a text that is cut: keys with dots between them, as TOML has them, and the numbers of
+/// items between brackets.
 pub fn path_text(alloc: Global, path: &[Step<'_>]) -> AllocResult<String> {
     let mut text = String::new(alloc);
     for step in path {
@@ -134,11 +133,28 @@ fn push_key(text: &mut String, key: &str) -> AllocResult<()> {
     if !key.is_empty() && key.bytes().all(is_bare) {
         return text.push_str(key);
     }
-    for (place, piece) in key.split('"').enumerate() {
-        text.push_str(if place == 0 { "\"" } else { "\\\"" })?;
-        push_escaped(text, piece, Format::Line)?;
+    if is_literal(key) {
+        return write!(text, "'{key}'");
+    }
+    text.push_str("\"")?;
+    for c in key.chars() {
+        match c {
+            '"' | '\\' => write!(text, "\\{c}")?,
+            '\0'..='\u{1f}' | '\u{7f}' => {
+                let number = u32::from(c);
+                write!(text, "\\u{number:04x}")?
+            }
+            _ => text.push(c)?,
+        }
     }
     text.push_str("\"")
+}
+
+/// Whether a key stands between `'`, as `'cfg(unix = "x")'`: it would need escapes between `"`, and
+/// has nothing that can't be there.
+fn is_literal(key: &str) -> bool {
+    let needs_escapes = key.bytes().any(|byte| matches!(byte, b'"' | b'\\'));
+    needs_escapes && !key.bytes().any(|byte| byte == b'\'' || byte.is_ascii_control())
 }
 
 /// What is behind the plain value that a text begins with. As the document reads, a fault is one of

@@ -1,19 +1,27 @@
 //! Places of folders: absolute paths with no `.` and no `..` in them.
 ghost use Rattle.std.specs.Prelude.{◌≡◌, IfOk, map, string_bytes};
-ghost use Rattle.cargo_toml_audit.specs.Places.{begins_at, can_go_back, excluded_by, lies_in};
-ghost use Rattle.cargo_toml_audit.specs.Places.{lies_in_some, manifest_path, normalized, or_dot};
-ghost use Rattle.cargo_toml_audit.specs.Places.{outer_paths, pieces, place_of, with_names};
+ghost use Rattle.cargo_toml_audit.specs.Places.{begins_at, can_go_back, ends_in_name, excluded_by};
+ghost use Rattle.cargo_toml_audit.specs.Places.{is_rooted, lies_in, lies_in_some, manifest_path};
+ghost use Rattle.cargo_toml_audit.specs.Places.{normalized, or_dot, outer_paths, pieces, place_of};
+ghost use Rattle.cargo_toml_audit.specs.Places.{with_names};
 
 use cargo_toml::Workspace;
 use cargo_toml_lint::AllocResult;
 use cargo_toml_parts::paths::{ancestors, join};
 use std::alloc::Global;
 
+/// Whether a path begins where all paths do: at the root.
+fn is_rooted(path: &str) -> bool
+    ensures { result ≡ is_rooted path.now }
+{
+    path.starts_with('/')
+}
+
 /// Where a path begins: where all paths do, or in this folder.
 pub fn begins_at<'a>(folder: &'a str, path: &str) -> &'a str
     ensures { result.now ≡ begins_at folder.now path.now }
 {
-    if path.starts_with('/') { "/" } else { folder }
+    if is_rooted(path) { "/" } else { folder }
 }
 
 /// What stands between the slashes of a path.
@@ -47,7 +55,14 @@ pub fn normalized(alloc: Global, path: &str, keeps_up: bool) -> AllocResult<Stri
 fn can_go_back(path: &str, names: &[&str]) -> bool
     ensures { result ≡ can_go_back path.now (map (λ t. t.now) names.now) }
 {
-    path.starts_with('/') || (!names.is_empty() && names[names.len() - 1] != "..")
+    is_rooted(path) || ends_in_name(names)
+}
+
+/// Whether the last name can be taken back.
+fn ends_in_name(names: &[&str]) -> bool
+    ensures { result ≡ ends_in_name (map (λ t. t.now) names.now) }
+{
+    !names.is_empty() && names[names.len() - 1] != ".."
 }
 
 /// The path that begins as this one and has these names, or `.` where that is nothing.

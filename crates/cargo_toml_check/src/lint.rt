@@ -6,7 +6,7 @@ ghost use Rattle.cargo_toml_check.specs.Judged.{counts, is_odd};
 use crate::alone::Step;
 use crate::check::{faults_in, push_place};
 use crate::places::{Paths, Place, cut, places};
-use cargo_toml::{DepsSet, Error, Manifest, Product, Value};
+use cargo_toml::{DepsSet, Edition, Error, Inheritable, Manifest, Product, Value};
 use cargo_toml_lint::{AllocResult, Code, Finding, Level};
 use cargo_toml_manifest::HeldManifest;
 use cargo_toml_tools::Judging;
@@ -64,7 +64,7 @@ fn readable<R: RandomSource + AllocGlobal>(
     for (cells, place) in &told {
         push_line(&mut lines, alloc, file, *place, *cells, judging.json)?;
     }
-    // no two findings are alike: further lines are warnings of tables
+    // no two findings are alike: further lines are of tables, as errors or warnings
     let is_odd = is_odd(kept.as_slice(), judging.denies_hints);
     Ok((lines, is_odd || told.len() > kept.len()))
 }
@@ -182,14 +182,29 @@ fn told<'m>(
     for (name, path) in &keys.others {
         if let Some(place) = found.get(path) {
             if !is_allowed(allowed, "other-name", *name) {
-                let words = "is a table that Cargo reads up to edition 2021 alone";
-                told.push((("warning", "other-name", *name, "", words), *place))?;
+                told.push((other_cells(manifest, *name), *place))?;
             }
         }
     }
     told.sort_unstable();
     told.dedup_by_key(|line| line.0);
     Ok(told)
+}
+
+/// What is told of the table with another name in a manifest.
+fn other_cells<'m>(manifest: &Manifest, name: &'m str) -> Cells<'m> {
+    let is_refused = states_2024(manifest);
+    let level = if is_refused { "error" } else { "warning" };
+    let words = "is a table that Cargo reads up to edition 2021 alone";
+    (level, "other-name", name, "", words)
+}
+
+/// Whether a manifest states edition 2024 itself. What it inherits isn't known: it is read alone.
+fn states_2024(manifest: &Manifest) -> bool {
+    let Some(package) = &manifest.package else {
+        return false;
+    };
+    matches!(&package.edition, Inheritable::Set(Edition::E2024))
 }
 
 /// The keys that findings may stand at.

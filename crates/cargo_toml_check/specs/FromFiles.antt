@@ -21,8 +21,8 @@ abbrev pub IsRefusedFor : Text → Text → (Manifest Value → Error → Type 0
 IsRefusedFor path text refuses e =
     IsUncompleted path text e ⊎ HoldsOfCompleted path text (λ m. refuses m e)
 
--- nothing is told only where the text reads and completes, and something only where it doesn't read,
--- or some answers of files keep it from completing. For any manifest there are such answers
+-- nothing is told only where the text reads and completes, and something only where it doesn't
+-- read, or some answers of files keep it from completing. For any manifest there are such answers
 abbrev pub IsChecked : Text → Text → Bool → Type 0
 IsChecked path text false = (m : Manifest Value) × IsCompletedIn path text m
 IsChecked path text true = (e : Error) × IsUncompleted path text e × (e ≢ Memory)

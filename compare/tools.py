@@ -372,7 +372,7 @@ class Document(Features):
             style = "dashed" if self.is_private(name) else style
             front = f'    "feature:{for_dot(name)}"'
             text += f'{front} [label="{for_dot(name)}", style={style}];\n'
-            for other in in_order(self.turned_on(name)):
+            for other in in_order(self.turned_on(name) & {*self.shown()}):
                 text += f'{front} -> "feature:{for_dot(other)}";\n'
             for key in in_order(self.graph.actions[name]):
                 is_conditional, _, features = self.graph.actions[name][key]

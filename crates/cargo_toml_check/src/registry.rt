@@ -23,9 +23,9 @@ pub fn checksums<'t>(alloc: Global, lines: &'t str) -> AllocResult<BTreeMap<&'t 
     Ok(all)
 }
 
-/// Adds a line to the file that the index in a folder has of a crate, also where the file has that
-/// line already. The file is written anew beside the old one, and then takes its place. Two calls
-/// at once must not write one file.
+/// Adds a line to the file that the index in a folder has of a crate, unless the file has that line
+/// already. The file is written anew beside the old one, and then takes its place. Two calls at
+/// once must not write one file.
 ///
 /// A name is refused as `InvalidInput` where it is empty, or has more than ASCII letters, digits,
 /// `-` and `_`. Each fault of reading, making or writing is handed on. The old file then stays.
@@ -42,6 +42,12 @@ pub fn add_to_index<R: Files + AllocGlobal>(rt: &R, index: &str, made: &Indexed)
         Err(fault) if fault.kind() == ErrorKind::NotFound => String::new(alloc),
         Err(fault) => return Err(fault),
     };
+    // what a run before this one has added
+    for line in text.as_str().lines() {
+        if line == made.line.as_str().trim_end() {
+            return Ok(());
+        }
+    }
     // a last line without its end
     if !text.is_empty() && !text.as_str().ends_with('\n') {
         text.push_str("\n")?;

@@ -43,8 +43,9 @@ pub fn add_to_index<R: Files + AllocGlobal>(rt: &R, index: &str, made: &Indexed)
         Err(fault) => return Err(fault),
     };
     // what a run before this one has added
+    let new = made.line.as_str().trim_end();
     for line in text.as_str().lines() {
-        if line == made.line.as_str().trim_end() {
+        if line == new {
             return Ok(());
         }
     }

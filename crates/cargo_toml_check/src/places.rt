@@ -154,7 +154,12 @@ fn push_key(text: &mut String, key: &str) -> AllocResult<()> {
 /// has nothing that can't be there.
 fn is_literal(key: &str) -> bool {
     let needs_escapes = key.bytes().any(|byte| matches!(byte, b'"' | b'\\'));
-    needs_escapes && !key.bytes().any(|byte| byte == b'\'' || byte.is_ascii_control())
+    needs_escapes && !key.bytes().any(is_beyond_literal)
+}
+
+/// Whether a key with this byte can't stand between `'`.
+fn is_beyond_literal(byte: u8) -> bool {
+    byte == b'\'' || byte.is_ascii_control()
 }
 
 /// What is behind the plain value that a text begins with. As the document reads, a fault is one of

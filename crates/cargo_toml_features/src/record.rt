@@ -70,6 +70,11 @@ fn counts<'m>(mentions: &Mentions<'m>, entry: &ParseDependency<'m, '_>) -> bool
         || is_there(mentions.features.as_slice(), entry.key)
 }
 
+// Whether there is no feature except `default`, which is always there.
+fn has_default_alone(mentions: &Mentions<'_>) -> bool {
+    mentions.features.len() == 1
+}
+
 // Whether one of the entries counts by itself.
 fn counts_any<'m>(mentions: &Mentions<'m>, entries: &[ParseDependency<'m, '_>]) -> bool
     requires { AreInOrder mentions.now.features.items }
@@ -182,7 +187,7 @@ pub fn record_dependencies<'m: 'd, 'd>(
         → recorded_at s k ≡ recorded_of (entries_at listed (map entry_of entries.now) k)) }
 {
     // Most manifests have no feature except `default`, and no optional dependency either.
-    if mentions.features.len() == 1 && !counts_any(mentions, entries) {
+    if has_default_alone(mentions) && !counts_any(mentions, entries) {
         return empty_slots(alloc, Vec::new(alloc));
     }
     let Counting { flags, keys } = counting_entries(alloc, mentions, entries)?;

@@ -1,5 +1,5 @@
 -- One more entry of those that count.
-use Rattle.cargo_toml_features.proofs.Cited.{Among, Bool, Bor, Entry, IfOk-weaker, IsTrue, List, Listed, Option, ParseDependency, RecordedKey, Some, Text, [], and_from, ap, append-nil, arith, bytes_eq, bytes_eq-Decides, common_steps, cond, counting, counts_alone, counts_at, dependency_meaning, entries_at, entry_of, false, filter, filter-append, find, find-append, get_or, get_or-map}
+use Rattle.cargo_toml_features.proofs.Cited.{Among, Ascend, Bool, Bor, Entry, IfOk-weaker, IsStrictlySortedBy, IsTrue, List, Listed, Option, ParseDependency, RecordedKey, Some, Text, [], and_from, ap, append-nil, arith, bytes_eq, bytes_eq-Decides, common_steps, cond, counting, counts_alone, counts_at, dependency_meaning, entries_at, entry_of, false, filter, filter-append, find, find-append, get_or, get_or-map}
 use Rattle.cargo_toml_features.proofs.Cited.{is_mentioned, is_mentioned_in, is_optional, is_some, length, length-map, list_any, list_any_at, map, option_map, or-false, or-true, recorded_after, recorded_at, recorded_in, recorded_of, recorded_with, refl, rules, subst, sym, take, take_all, ℕ, ◌&&◌, ◌++◌, ◌<◌, ◌||◌, ◌∙◌, ◌∷◌, ◌≡◌}
 use Rattle.cargo_toml_features.proofs.{GatheredKeys.flag_there, Placed.same_then, ByPlace.taken_more}
 use Rattle.cargo_toml_features.proofs.record.record_dependencies.Goals as goal
@@ -71,6 +71,11 @@ counted_there mentioned es i p below is counts =
 flag_is : (mentioned : Text → Bool) (es : List ParseDependency) (i j : ℕ) (p : ParseDependency) (flags : List Bool) (b d : Bool) → j ≡ i → i < length es → p ≡ get_or es i p
     → flags ≡ map (counts_alone mentioned) (map entry_of es) → b ≡ get_or flags j d → b ≡ counts_alone mentioned (entry_of p)
 flag_is mentioned es i j p flags b d same inside is are read = read ∙ ap (λ k. get_or flags k d) same ∙ flag_there mentioned es i p flags d inside is are
+
+-- no name ascends
+pub empty_slots-requires : goal.empty_slots-requires
+unfolding IsStrictlySortedBy
+empty_slots-requires c = subst (λ (ns : List (Bor Text)). Ascend (map (λ (n : Bor Text). n.now) ns)) (sym c.new.ensures.items) tt
 
 pub record_entry-requires : goal.record_entry-requires
 record_entry-requires c = record {

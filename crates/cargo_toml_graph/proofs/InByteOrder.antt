@@ -1,5 +1,5 @@
 -- Removed features in byte order, and what they pass on in that order.
-use Rattle.std.proofs.Common.{◌≡◌, ◌⊎◌, ◌↔◌, ◌≤◌, Bool, IsTrue, List, [], ◌∷◌, ◌++◌, refl, sym, ap₂, subst, inl, inr, ◌∙◌, arith, rules}
+use Rattle.std.proofs.Common.{◌≡◌, ◌↔◌, ◌≤◌, Bool, IsTrue, List, [], ◌∷◌, ◌++◌, refl, sym, ap₂, subst, inl, inr, ◌∙◌, arith, rules}
 use Rattle.std.proofs.lemmas.{Bool.false≢true, Grind.common_steps}
 use Rattle.cargo_toml_graph.specs.{Ascending.Ascend, Action.Text, Admitted.is_below, Reach.Among, Reach.IsOnce, Graph.Table, Graph.Resolution, Graph.IsKept, Removal.is_removed}
 use Rattle.cargo_toml_graph.specs.{Removal.pass_bins, Removal.pass_all, Removal.unremoved, Removal.without_one, Removal.without_all, Bins.ArePassedOn, Bins.HasBins, Bins.IsComplete, Bins.mentions}

@@ -1,5 +1,5 @@
 -- What a removed feature names at its turn, where they are taken in ascending order.
-use Rattle.std.proofs.Common.{◌↔◌, IsTrue, List, [], ◌∷◌, ◌++◌, refl, sym, subst, inl, inr, rules}
+use Rattle.std.proofs.Common.{◌↔◌, IsTrue, List, [], ◌∷◌, ◌++◌, refl, inl, rules}
 use Rattle.std.proofs.lemmas.{Bool.false≢true, Cmp.nat_list_cmp_total}
 use Rattle.cargo_toml_graph.specs.{Ascending.Ascend, Action.Text, Admitted.is_below, Reach.Among, Reach.IsOnce, Graph.Table, Graph.Resolution, Graph.IsKept, Graph.IsUnremoved, Removal.without_all}
 use Rattle.cargo_toml_graph.{specs.Redirects.RedirectsTo, proofs.SortedTexts.others_ascend}

@@ -1,4 +1,4 @@
-use Rattle.std.proofs.Common.{arith, ◌≡◌, ◌++◌, List, [], ◌∷◌, map, option_map, string_bytes, take, length, Option, Some, None, String, Global, Bor, refl, sym, ap, ◌∙◌}
+use Rattle.std.proofs.Common.{arith, ◌≡◌, ◌++◌, List, map, option_map, string_bytes, take, length, Option, Some, None, String, Global, Bor, refl, sym, ap, ◌∙◌}
 use Rattle.std.{specs.Prelude.unwrap_or, proofs.Math.Seq.take-length}
 use Rattle.cargo_toml_graph.specs.Action.{Text}
 use Rattle.cargo_toml_features.specs.OwnBins.{bin_requirement}

@@ -131,9 +131,13 @@ def index(path, options=None):
     version = package_value("version", package, workspace)
     if version is None:
         raise Refused("the package has no version")
+    crate = f"{package['name']}-{version}"
+    if options.get("folder", crate) != crate:
+        names_of_both = f"{options['folder']}, {crate}"
+        raise Refused(f"the folder and the crate's NAME-VERSION differ: {names_of_both}")
     deps = [entry for entry in entries(manifest, workspace, own, names) if entry]
     rust = package_value("rust-version", package, workspace)
-    if rust is not None and not re.fullmatch(r"(0|[1-9][0-9]*)(\.(0|[1-9][0-9]*)){0,2}", rust):
+    if rust is not None and not is_rust_version(rust):
         raise Refused(f"the rust-version {rust} isn't a version like 1.70")
     if "force" not in options:
         check_choices(manifest, package_value("publish", package, workspace), own, names)
@@ -157,10 +161,20 @@ def index(path, options=None):
     return json.dumps(line, ensure_ascii=False, separators=(",", ":"), sort_keys=True) + "\n"
 
 
+def is_rust_version(text):
+    is_spelled = re.fullmatch(r"(0|[1-9][0-9]*)(\.(0|[1-9][0-9]*)){0,2}", text)
+    return is_spelled and all(int(part) < 2**64 for part in text.split("."))
+
+
+def bare(address):
+    """An address of a registry without what doesn't count."""
+    return address and address.removeprefix("sparse+").removesuffix("/")
+
+
 def check_choices(manifest, publish, own, names):
     """Refuses what isn't published there, and features with an error."""
     if publish is False or (
-        isinstance(publish, list) and own not in [names.get(name) for name in publish]
+        isinstance(publish, list) and bare(own) not in [bare(names.get(name)) for name in publish]
     ):
         raise Refused("the package isn't published in this registry")
     found = Lint(manifest).found()
@@ -180,6 +194,27 @@ def is_of_second_version(text):
     return text.startswith("dep:") or "?/" in text
 
 
+# names of targets: an expression of `cfg` is folded from its innermost parts to one name, `a`
+
+
+def is_target(name):
+    if not (name.startswith("cfg(") and name.endswith(")")):
+        return re.fullmatch(r"[A-Za-z0-9_.-]*", name)
+    words = re.findall(r'"[^"]*"|(?:r#)?[A-Za-z_][A-Za-z0-9_]*|[^ ]', name[4:-1])
+    kinds = {"not": "n", "all": "m", "any": "m"}
+    text = "".join(kinds.get(word) or kind_of(word) for word in words).replace("a=s", "a")
+    for _ in range(63):
+        text = re.sub(r"n\(a\)|m\((a,)*a?\)", "a", text)
+    return text == "a"
+
+
+def kind_of(word):
+    """A letter for a value or a name, and a sign as it is."""
+    if len(word) > 1 and word[0] == '"':
+        return "s"
+    return "a" if re.match(r"(r#)?[A-Za-z_]", word) else word if word in "()=," else "?"
+
+
 def entries(manifest, workspace, own, names):
     targets = manifest.get("target", {})
     is_new = package_value("edition", manifest["package"], workspace) == "2024"
@@ -187,12 +222,16 @@ def entries(manifest, workspace, own, names):
     every = [*list(tables(manifest))[:3], *list(tables_to_fill(manifest))[3:]]
     for name, kind, target, table in every:
         other = name.replace("-", "_")
+        if target is not None and not is_target(target):
+            raise Refused(f"Cargo doesn't take the target {target}")
         if other != name and other in (manifest if target is None else targets[target]):
             raise Refused(f"the table {other} has `_` in its name")
         for key in in_order(table):
             value = filled(key, table[key], workspace)
             if "default_features" in value or "default_features" in detail(table[key]):
                 raise Refused(f"the dependency {key} has `default_features`")
+            if value.keys() & {"artifact", "lib", "target"}:
+                raise Refused(f"the dependency {key} has `artifact`, `lib` or `target`")
             asked = table[key].get("default-features") if is_inherited(table[key]) else None
             if asked is False and is_new and value.get("default-features", True):
                 raise Refused(f"{key} can't turn off its workspace's default features")
@@ -210,7 +249,8 @@ def entry(key, kind, target, value, own, names):
     registry = value.get("registry-index", names.get(value.get("registry", "crates-io")))
     if registry is None:
         raise Refused(f"the registry of {key} has no address")
-    if own == CRATES_IO != registry:
+    is_own = bare(registry) == bare(own)
+    if bare(own) == CRATES_IO and not is_own:
         raise Refused(f"the dependency {key} isn't of crates.io")
     made = {
         "name": key,
@@ -220,7 +260,7 @@ def entry(key, kind, target, value, own, names):
         "default_features": value.get("default-features", True),
         "target": target,
         "kind": kind,
-        "registry": None if registry == own else registry,
+        "registry": None if is_own else registry,
     }
     return made | ({"package": value["package"]} if "package" in value else {})
 
@@ -568,7 +608,7 @@ WORDS = {
 def options_beside(path):
     """What a row asks of `index`: texts in files beside its manifest."""
     options = {}
-    for name in ("registry", "checksum", "force", "names"):
+    for name in ("registry", "checksum", "folder", "force", "names"):
         beside = os.path.join(os.path.dirname(path), name)
         if os.path.exists(beside):
             with open(beside, encoding="utf-8") as file:

@@ -6,6 +6,7 @@
 #   crate         the program's crate
 #   usage         the line that says how the program is called
 #   tells         what a refusal tells: `words` alone, or `both`, the file and then words
+#   takes         `bytes` where words need not be UTF-8 once the program is built
 #   is_command    a function: whether its arguments are a command of the program
 # and is_command sets
 #   looks         `alone` where the command reads its files and nothing else; `named` where it
@@ -15,6 +16,8 @@
 #   files         how many of the last words are its files: 1 if it isn't set
 #
 # - Words that are no command print the usage line on standard error, with status 2.
+# - Words that ask for help or the version are answered at once, also where nothing is built: by
+#   docs/help, which keeps what the program prints (scripts/pages), and by the file VERSION.
 # - The program is run where it is built and newer than every source that it stands on, whoever
 #   built it (scripts/stale).
 # - Else the words are answered unproved, by `rt try` (scripts/answer), as one line on standard
@@ -95,8 +98,38 @@ if [ "$#:${1-}" = 1:--build ]; then
     stand_in build
 fi
 
+# Prints the text that the words ask for, where that is the version or help.
+asked_text() {
+    case $#:${1-} in
+        1:-V | 1:--version)
+            printf '%s ' "$name" && cat "$root/VERSION"
+            return
+            ;;
+        1:-h | 1:--help) page=$name ;;
+        1:help)
+            [ "$name" = cargo-toml-tools ] || return
+            page=$name
+            ;;
+        2:help) page=$name-$2 ;;
+        2:*)
+            [ "$2" = -h ] || [ "$2" = --help ] || return
+            page=$name-$1
+            ;;
+        *) return 1 ;;
+    esac
+    case $page in
+        "$name" | "$name-"[!-]*) cat "$root/docs/help/${page##*/}" ;;
+        *) false ;;
+    esac
+}
+
+if text=$(asked_text "$@" 2> /dev/null); then
+    if "$root/scripts/stale" "$root" "$crate" > /dev/null; then exec "$built" "$@"; fi
+    printf '%s\n' "$text"
+    exit 0
+fi
 files=1
-if ! is_command "$@" || ! is_text "$*"; then
+if ! is_command "$@" || { [ "$takes" = text ] && ! is_text "$*"; }; then
     printf '%s\n' "$usage" >&2
     exit 2
 fi

@@ -1,5 +1,5 @@
 -- What `audit` answers, by what was read: the answers of the system, and a manifest at each place.
-use Rattle.std.specs.Prelude.{◌≡◌, ◌≢◌, ◌⊎◌, ◌++◌, ◌&&◌, ◌||◌, ◌==◌, Bool, true, false, List, []}
+use Rattle.std.specs.Prelude.{◌≡◌, ◌≢◌, ◌⊎◌, ◌++◌, ◌&&◌, ◌||◌, ◌==◌, Bool, true, false, List, [], ℕ}
 use Rattle.std.specs.Prelude.{◌∷◌, Option, Some, IsTrue, bytes_eq, codes, filter, if◌then◌else◌}
 use Rattle.std.specs.Prelude.{is_none, map, not, option_map, string_bytes}
 use Rattle.std.specs.BTreeMap.{btree_map_len, get_by_text}
@@ -24,8 +24,9 @@ use Rattle.cargo_toml_audit.specs.Oddities.{found_in, has_no_target, is_bare, od
 use Rattle.cargo_toml_audit.specs.Oddities.{only_found, overall_oddities, refusals}
 use Rattle.cargo_toml_audit.specs.Places.{excludes, is_in, lies_in, manifest_path, place_of}
 use Rattle.cargo_toml_audit.specs.declared.audit.Code.TheVariants as kind
-use Rattle.cargo_toml_audit.specs.{Entries.left_keys, MemberFolders.unseen, Audited.IsMemberOf}
-use Rattle.cargo_toml_audit.specs.{Audited.is_untold, declared.audit.Code.Code}
+use Rattle.cargo_toml_audit.specs.{Entries.left_keys, Limits.IsTooMany, MemberFolders.unseen}
+use Rattle.cargo_toml_audit.specs.{Audited.IsMemberOf, Audited.is_untold}
+use Rattle.cargo_toml_audit.specs.{declared.audit.Code.Code}
 use Rattle.cargo_toml_audit.specs.{declared.audit.Audit.Audit, declared.audit.Member.Member}
 use Rattle.cargo_toml_audit.specs.{declared.audit.root.Root.Root, declared.members.walk.Looks.Looks}
 
@@ -316,8 +317,14 @@ pub record IsAudited (audit : Audit) : Type 0 where
   pub place : string_bytes audit.root ≡ base.place
   pub report : IsReport base asked audit
 
--- why there is none: a file can't be read, there is no workspace, or it has too many places
+-- why there is none, with so many steps left: a file can't be read, there is no workspace, or it
+-- has too many places, and then no step is left
+abbrev pub IsReportFault : ℕ → Error → Type 0
+IsReportFault left e =
+    IsUnreadable e
+    ⊎ (IsOther (codes "there is no workspace") e ⊎ (IsTooMany e × (left ≡ 0)))
+
+-- the same, whatever is left
 abbrev pub IsAuditFault : Error → Type 0
 IsAuditFault e =
-    IsUnreadable e
-    ⊎ (IsOther (codes "there is no workspace") e ⊎ IsOther (codes "there are too many places") e)
+    IsUnreadable e ⊎ (IsOther (codes "there is no workspace") e ⊎ IsTooMany e)

@@ -3,8 +3,10 @@ ghost use Rattle.std.specs.Prelude.{◌≡◌, ◌++◌, IfErr, IfOk, OnOk, map,
 ghost use Rattle.std.specs.List.{list_any};
 ghost use Rattle.cargo_toml_audit.specs.Steps.{AreListed, known_of};
 ghost use Rattle.cargo_toml_audit.specs.AuditedFiles.{IsAuditFault, IsAudited, IsReport, base_of};
-ghost use Rattle.cargo_toml_audit.specs.AuditedFiles.{found_beside, found_in_lists, is_astray};
-ghost use Rattle.cargo_toml_audit.specs.{MemberFolders.OnDisks, Oddities.oddities_of};
+ghost use Rattle.cargo_toml_audit.specs.AuditedFiles.{IsReportFault, found_beside};
+ghost use Rattle.cargo_toml_audit.specs.AuditedFiles.{found_in_lists, is_astray};
+ghost use Rattle.cargo_toml_audit.specs.{Limits.IsLookFault, MemberFolders.OnDisks};
+ghost use Rattle.cargo_toml_audit.specs.{Oddities.oddities_of};
 
 mod above;
 mod place;
@@ -12,6 +14,7 @@ mod walk;
 
 use crate::audit::findings::{find_all, find_if};
 use crate::audit::{Audit, Code, Finding, Root, json, lines};
+use crate::limits::LookResult;
 use crate::members::{Looking, included, manifest_path, picked, set_of, unseen, wrong_entries};
 use above::{absolute, workspace_of};
 use cargo_toml::Error;
@@ -27,7 +30,8 @@ use walk::add_members;
 /// error how far it is.
 ///
 /// Refused where the folder isn't there, no workspace is found at or above it, a manifest on the
-/// way there can't be read, or patterns lead too far. A member that is refused is a finding.
+/// way there can't be read, or there are too many places: lists and members lead further than
+/// [`MAX_STEPS`](crate::limits::MAX_STEPS). A member that is refused is a finding.
 pub fn audit<R: Files + Eprint + RandomSource + AllocGlobal>(
     rt: &R,
     folder: &str,
@@ -43,11 +47,7 @@ pub fn audit<R: Files + Eprint + RandomSource + AllocGlobal>(
     };
     let mut looking = Looking::new(rt);
     let (root, asked) = (found.root.as_str(), found.asked.as_str());
-    let made = report_at(&mut looking, root, asked, shows);
-    if looking.left == 0 {
-        return Err(Error::Other("there are too many places"));
-    }
-    made
+    report_at(&mut looking, root, asked, shows)
 }
 
 /// The report on the workspace that lies at a place, in which another one is asked for.
@@ -58,7 +58,7 @@ fn report_at<R: Files + Eprint + RandomSource + AllocGlobal>(
     shows: bool,
 ) -> Result<Audit, Error>
     ensures audited { IfOk result IsAudited }
-    ensures refused { IfErr result IsAuditFault }
+    ensures refused { IfErr result (IsReportFault looking.new.steps.left) }
 {
     let path = manifest_path(looking.rt.alloc(), place)?;
     let held = manifest_in(looking.rt, path.as_str())?;
@@ -85,13 +85,13 @@ fn report_on<R: Files + Eprint + RandomSource + AllocGlobal>(
 ) -> Result<Audit, Error>
     ensures report { IfOk result (IsReport (base_of root.entry) asked.now) }
     ensures place { IfOk result (λ a. string_bytes a.root ≡ root.entry.place.now) }
-    ensures refused { IfErr result IsAuditFault }
+    ensures refused { IfErr result (IsReportFault looking.new.steps.left) }
 {
     let rt = looking.rt;
     let mut audit = Audit::new(String::from_str(rt.alloc(), root.place)?);
     let lists = read_lists(looking, root, &mut audit.findings)?;
     let (first, mut known) = lists;
-    known.members = add_members(rt, root, first, &mut audit, shows)?;
+    known.members = add_members(looking, root, first, &mut audit, shows)?;
     find_beside(looking, root, (&known, asked), &mut audit.findings)?;
     audit.finish(root.workspace)?;
     let Known { members, .. } = known;
@@ -105,10 +105,11 @@ fn read_lists<R: Files + AllocGlobal>(
     looking: &mut Looking<'_, R>,
     root: Root<'_>,
     findings: &mut Vec<Finding>,
-) -> AllocResult<(Vec<String>, Known)>
-    ensures { IfOk result (λ lists. OnDisks
+) -> LookResult<(Vec<String>, Known)>
+    ensures listed { IfOk result (λ lists. OnDisks
         (λ d. AreListed (base_of root.entry) d lists findings.old findings.new)
         looking.old.looks looking.new.looks) }
+    ensures refused { IfErr result (IsLookFault looking.new.steps.left) }
 {
     let alloc = looking.rt.alloc();
     let all = looking.listed(root.place, root.workspace.members.as_slice())?;
@@ -130,10 +131,11 @@ fn find_beside<R: Files + AllocGlobal>(
     root: Root<'_>,
     by: (&Known, &str),
     findings: &mut Vec<Finding>,
-) -> AllocResult<()>
-    ensures { OnOk result (OnDisks (λ d. oddities_of findings.new ≡ oddities_of findings.old
+) -> LookResult<()>
+    ensures found { OnOk result (OnDisks (λ d. oddities_of findings.new ≡ oddities_of findings.old
         ++ found_beside (base_of root.entry) looking.new.looks d (known_of by.entry.0.now)
         by.entry.1.now) looking.old.looks looking.new.looks) }
+    ensures refused { IfErr result (IsLookFault looking.new.steps.left) }
 {
     let (known, asked) = by;
     let is_unlisted = !known.members.contains(asked);
@@ -145,7 +147,8 @@ fn find_beside<R: Files + AllocGlobal>(
         find_if(findings, Code::DefaultMember, is_astray, entry)?;
     }
     let unseen = unseen(looking.rt.alloc(), &looking.looks)?;
-    find_all(findings, Code::Unseen, unseen.as_slice())
+    find_all(findings, Code::Unseen, unseen.as_slice())?;
+    Ok(())
 }
 
 /// Finds what is listed twice, by the places that are entered, and entries that are no patterns.

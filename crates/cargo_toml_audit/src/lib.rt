@@ -6,4 +6,5 @@
 
 pub mod audit;
 pub mod auditing;
+pub mod limits;
 pub mod members;

@@ -5,7 +5,7 @@ pub use Rattle.cargo_toml_check.specs.Blamed.{blamed_items, blamed_members, blam
 pub use Rattle.cargo_toml_check.specs.Listed.{action_json, is_cut_target, is_over, row_at}
 pub use Rattle.cargo_toml_check.specs.Shown.{IsShown, IsShownAsJson, IsUnshown, json_items, json_of, with_json}
 pub use Rattle.cargo_toml_check.specs.{Alone.Part, Alone.part_of, FromFiles.HoldsOfCompleted, FromFiles.IsListed, FromFiles.IsRefusedFor, declared.search.Fault.Fault}
-pub use Rattle.cargo_toml_tools.specs.{FromFiles.IsCompletedIn, FromFiles.IsOfInput, IndexEntries.with_rows}
+pub use Rattle.cargo_toml_tools.specs.{Alone.IsCompletedFrom, FromFiles.IsOfInput, declared.files.alone.Source.Source, IndexEntries.with_rows}
 pub use Rattle.serde_json.specs.Data.{Data as Json, Members as JsonMembers, array, item, no_members, object}
 pub use Rattle.serde_json.specs.View.{items_of, members_view as json_members, view as json_view}
 pub use Rattle.std.proofs.Common.{Bool, Bor, Global, IsSome, List, Option, String, [], ap, arith, drop, false, if◌then◌else◌, inl, inr, is_some, length, map, refl, rules, string_bytes, subst, sym, take, tests, true, ◌++◌, ◌<◌, ◌↔◌, ◌∙◌, ◌∷◌, ◌≡◌}

@@ -1,2 +1,4 @@
 pub mod Cited
 pub mod Completed
+pub mod Latest
+pub mod Joins

@@ -8,29 +8,30 @@ use Rattle.cargo_toml.specs.{Action.Text, Error.Error, Error.Memory, Limits.MAX_
 use Rattle.cargo_toml.specs.{Manifest.Manifest, Manifests.held, Parsed.IsParsed, Views.answer_of}
 use Rattle.cargo_toml_features.specs.declared.features.Features.{Features}
 use Rattle.cargo_toml_check.specs.Listed.{IsListing, is_cut}
-use Rattle.cargo_toml_tools.specs.FromFiles.{IsCompletedIn, IsUncompleted}
+use Rattle.cargo_toml_tools.specs.Alone.{IsCompletedFrom, IsUncompletedFrom}
+use Rattle.cargo_toml_tools.specs.declared.files.alone.Source.{Source}
 
 -- the text reads as a manifest, and this holds of what completion around the path makes of it
-pub record HoldsOfCompleted (path text : Text) (P : Manifest Value → Type 0) : Type 0 where
+pub record HoldsOfCompleted (s : Source) (P : Manifest Value → Type 0) : Type 0 where
   pub manifest : Manifest Value
-  pub completed : IsCompletedIn path text manifest
+  pub completed : IsCompletedFrom s manifest
   pub exact : P manifest
 
 -- the text doesn't read or complete, or else what is made of it is refused
-abbrev pub IsRefusedFor : Text → Text → (Manifest Value → Error → Type 0) → Error → Type 0
-IsRefusedFor path text refuses e =
-    IsUncompleted path text e ⊎ HoldsOfCompleted path text (λ m. refuses m e)
+abbrev pub IsRefusedFor : Source → (Manifest Value → Error → Type 0) → Error → Type 0
+IsRefusedFor s refuses e =
+    IsUncompletedFrom s e ⊎ HoldsOfCompleted s (λ m. refuses m e)
 
 -- nothing is told only where the text reads and completes, and something only where it doesn't
 -- read, or some answers of files keep it from completing. For any manifest there are such answers
-abbrev pub IsChecked : Text → Text → Bool → Type 0
-IsChecked path text false = (m : Manifest Value) × IsCompletedIn path text m
-IsChecked path text true = (e : Error) × IsUncompleted path text e × (e ≢ Memory)
+abbrev pub IsChecked : Source → Bool → Type 0
+IsChecked s false = (m : Manifest Value) × IsCompletedFrom s m
+IsChecked s true = (e : Error) × IsUncompletedFrom s e × (e ≢ Memory)
 
 -- the text is printed of a value of JSON that lists the features that this manifest resolves to
 pub record IsListed (m : Manifest Value) (shown : Text) : Type 0 where
   pub features : Features RandomState DefaultHasher
   pub resolved : IsParsed MAX_ITEMS (held m) (λ _. false) (answer_of features)
   pub listing : json.Data
-  pub exact : IsListing (is_cut (held m)) features listing
+  pub exact : IsListing (is_cut MAX_ITEMS (held m)) features listing
   pub printed : IsInOrder shown listing

@@ -4,3 +4,4 @@ pub mod Listed
 pub mod Shown
 pub mod FromFiles
 pub mod Judged
+pub mod IndexFiles

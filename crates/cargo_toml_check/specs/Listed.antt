@@ -3,7 +3,7 @@ use Rattle.std.specs.Prelude.{◌≡◌, ◌||◌, Bool, List, [], ◌∷◌, co
 use Rattle.std.specs.{BTreeMap.BTreeMap, BTreeSet.BTreeSet, List.flat_map, List.list_any, Prelude.ℕ}
 use Rattle.std.specs.{Borrow.Bor, HashMap.HashMap, Option.option_copied, Option.option_map_or}
 use Rattle.serde_json.specs.Data.{Data, boolean, no_members, object}
-use Rattle.cargo_toml.specs.{Action.Text, Feature.Feature, Limits.MAX_ITEMS, Targets.TargetMeaning}
+use Rattle.cargo_toml.specs.{Action.Text, Feature.Feature, Targets.TargetMeaning}
 use Rattle.cargo_toml.specs.{Manifests.ManifestMeaning, Views.set_has, Views.value_at}
 use Rattle.cargo_toml_features.specs.declared.features.{DepAction.DepAction, Features.Features}
 use Rattle.cargo_toml_tools.specs.IndexEntries.{text_array, text_or_null, with_rows}
@@ -45,30 +45,32 @@ pub record AreMembers {X S : Type 0} (json : X → Data) (found : HashMap (Bor T
   pub members : all ≡ object (with_rows (flat_map (λ k. row_at json found k.now) names.keys)
       no_members)
 
--- more than count
-abbrev pub is_over : ℕ → Bool
-is_over n = nat_lt MAX_ITEMS n
+-- at a limit of items
+module _ (limit : ℕ) where
+  -- more than count
+  abbrev pub is_over : ℕ → Bool
+  is_over n = nat_lt limit n
 
-abbrev pub is_cut_target : TargetMeaning → Bool
-is_cut_target t =
-    is_over (length t.dependencies)
-    || (is_over (length t.build_dependencies) || is_over (length t.dev_dependencies))
+  abbrev pub is_cut_target : TargetMeaning → Bool
+  is_cut_target t =
+      is_over (length t.dependencies)
+      || (is_over (length t.build_dependencies) || is_over (length t.dev_dependencies))
 
-abbrev pub are_cut_targets : List (Text × TargetMeaning) → Bool
-are_cut_targets ts = list_any (λ t. is_cut_target t.1) ts
+  abbrev pub are_cut_targets : List (Text × TargetMeaning) → Bool
+  are_cut_targets ts = list_any (λ t. is_cut_target t.1) ts
 
-abbrev pub has_long : List (Text × List Text) → Bool
-has_long fs = list_any (λ f. is_over (length f.1)) fs
+  abbrev pub has_long : List (Text × List Text) → Bool
+  has_long fs = list_any (λ f. is_over (length f.1)) fs
 
--- the manifest has more features, more texts of one, or more keys of a table of dependencies, than
--- count
-abbrev pub is_cut : {M : Type 0} → ManifestMeaning M → Bool
-is_cut m =
-    is_over (length m.features)
-    || (has_long m.features
-    || (is_over (length m.dependencies)
-    || (is_over (length m.build_dependencies)
-    || (is_over (length m.dev_dependencies) || are_cut_targets m.target))))
+  -- the manifest has more features, more texts of one, or more keys of a table of dependencies,
+  -- than count
+  abbrev pub is_cut : {M : Type 0} → ManifestMeaning M → Bool
+  is_cut m =
+      is_over (length m.features)
+      || (has_long m.features
+      || (is_over (length m.dependencies)
+      || (is_over (length m.build_dependencies)
+      || (is_over (length m.dev_dependencies) || are_cut_targets m.target))))
 
 -- the features that are left, those that were removed, and whether there are more than count
 pub record IsListing {S H : Type 0} (cut : Bool) (resolved : Features S H) (all : Data)

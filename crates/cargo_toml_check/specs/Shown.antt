@@ -1,15 +1,17 @@
 -- How a manifest is shown.
-use Rattle.std.specs.Prelude.{◌≡◌, ◌⊎◌, ℕ, List, Some, codes, false}
+use Rattle.std.specs.Prelude.{◌≡◌, ◌⊎◌, ℕ, IsSome, List, Some, codes, false}
 use Rattle.toml_datetime.specs.Text.{datetime_text}
 use Rattle.serde_json.specs.Data as json
 use Rattle.serde_json.specs.{Find.of_integer, Written.IsInOrder}
 use Rattle.toml.specs.Data.{Data, Items, Members, array, boolean, datetime, float, integer, item}
 use Rattle.toml.specs.Data.{member, no_items, no_members, string, table}
+use Rattle.toml.specs.Parse.{parse_document}
 use Rattle.toml.specs.Text.{IsDocumentText}
 use Rattle.cargo_toml.specs.{Error.Error, Error.Memory, Faults.IsOther, Manifests.ManifestMeaning}
 use Rattle.cargo_toml.specs.{Reread.IsTold, Reread.reread, Writes.Refuses}
 use Rattle.cargo_toml.specs.{WrittenManifests.manifest_way, Ways.free_way}
 use Rattle.cargo_toml_check.specs.Blamed.{reads}
+use Rattle.cargo_toml_depth.specs.Nesting.{is_too_deep}
 
 -- a tree as a value of JSON: a date is its text. A manifest's tree holds no float
 abbrev mutual
@@ -31,12 +33,14 @@ abbrev mutual
   with_json no_members js = js
   with_json (member k d ms) js = with_json ms (json.put k (json_of d) js)
 
--- the text is printed of a tree. Where the manifest meets the conditions of reading again, the tree
--- reads as the manifest, except the mark of what was inherited, `workspace = false`, and the rule
--- of version 0.0.0
+-- the text is printed of a tree, doesn't nest too deep, and is TOML. Where the manifest meets the
+-- conditions of reading again, the tree reads as the manifest, except the mark of what was
+-- inherited, `workspace = false`, and the rule of version 0.0.0
 pub record IsShown (m : ManifestMeaning Data) (text : List ℕ) : Type 0 where
   pub tree : Members
   pub printed : IsDocumentText false tree text
+  pub shallow : is_too_deep text ≡ false
+  pub parses : IsSome (parse_document text)
   pub again : IsTold m → reads (table tree) ≡ Some (reread m)
 
 -- the same as JSON
@@ -46,6 +50,7 @@ pub record IsShownAsJson (m : ManifestMeaning Data) (text : List ℕ) : Type 0 w
   pub again : IsTold m → reads (table tree) ≡ Some (reread m)
 
 -- why a manifest isn't shown: there was no memory, no tree is written of it, or no text of that
+-- tree reads again
 abbrev pub IsUnshown : ManifestMeaning Data → Error → Type 0
 IsUnshown m e =
     (e ≡ Memory)

@@ -1,7 +1,8 @@
 //! Resolved features as JSON.
 ghost use Rattle.std.specs.Prelude.{◌≡◌, IfOk, OnOk};
 ghost use Rattle.serde_json.specs.View.{members_view, view};
-ghost use Rattle.cargo_toml.specs.{Manifests.held, Reads.map_meaning, Targets.target_meaning};
+ghost use Rattle.cargo_toml.specs.{Limits.MAX_ITEMS, Manifests.held, Reads.map_meaning};
+ghost use Rattle.cargo_toml.specs.Targets.{target_meaning};
 ghost use Rattle.cargo_toml_tools.specs.{Sections.lists_meaning, IndexEntries.with_rows};
 ghost use Rattle.cargo_toml_check.specs.Listed.{AreMembers, IsListing, action_json, actions_json};
 ghost use Rattle.cargo_toml_check.specs.Listed.{are_cut_targets, feature_json, has_long, is_cut};
@@ -26,12 +27,18 @@ pub fn features_json<M, S: BuildHasher>(
     manifest: &Manifest<M>,
     features: &Features<'_, '_, S>,
 ) -> AllocResult<Value>
-    ensures { IfOk result (λ v. IsListing (is_cut (held manifest.now)) features.now (view v)) }
+    ensures { IfOk result
+        (λ v. IsListing (is_cut MAX_ITEMS (held manifest.now)) features.now (view v)) }
 {
     let left = all_of(alloc, &features.features)?;
     let removed = all_of(alloc, &features.hidden_features)?;
     let mut members = Map::new(alloc);
-    put(&mut members, alloc, "cut", Value::from(is_cut(manifest)))?;
+    put(
+        &mut members,
+        alloc,
+        "cut",
+        Value::from(is_cut(manifest, MAX_ITEMS)),
+    )?;
     put(&mut members, alloc, "features", left)?;
     put(&mut members, alloc, "hidden", removed)?;
     Ok(Value::from(members))
@@ -134,34 +141,34 @@ fn action_json(alloc: Global, action: &DepAction<'_>) -> AllocResult<Value>
 }
 
 /// Whether a manifest has more features, more texts of one, or more keys of a table of dependencies
-/// than count.
-fn is_cut<M>(manifest: &Manifest<M>) -> bool
-    ensures { result ≡ is_cut (held manifest.now) }
+/// than this limit.
+pub fn is_cut<M>(manifest: &Manifest<M>, limit: usize) -> bool
+    ensures { result ≡ is_cut limit (held manifest.now) }
 {
-    manifest.features.len() > MAX_ITEMS
-        || has_long(&manifest.features)
-        || manifest.dependencies.len() > MAX_ITEMS
-        || manifest.build_dependencies.len() > MAX_ITEMS
-        || manifest.dev_dependencies.len() > MAX_ITEMS
-        || are_cut_targets(&manifest.target)
+    manifest.features.len() > limit
+        || has_long(&manifest.features, limit)
+        || manifest.dependencies.len() > limit
+        || manifest.build_dependencies.len() > limit
+        || manifest.dev_dependencies.len() > limit
+        || are_cut_targets(&manifest.target, limit)
 }
 
-fn has_long(features: &FeatureSet) -> bool
-    ensures { result ≡ has_long (lists_meaning features.now) }
+fn has_long(features: &FeatureSet, limit: usize) -> bool
+    ensures { result ≡ has_long limit (lists_meaning features.now) }
 {
-    features.values().any(|texts| texts.len() > MAX_ITEMS)
+    features.values().any(|texts| texts.len() > limit)
 }
 
-fn are_cut_targets(targets: &TargetDepsSet) -> bool
-    ensures { result ≡ are_cut_targets (map_meaning target_meaning targets.now) }
+fn are_cut_targets(targets: &TargetDepsSet, limit: usize) -> bool
+    ensures { result ≡ are_cut_targets limit (map_meaning target_meaning targets.now) }
 {
-    targets.values().any(is_cut_target)
+    targets.values().any(|target| is_cut_target(target, limit))
 }
 
-fn is_cut_target(target: &Target) -> bool
-    ensures { result ≡ is_cut_target (target_meaning target.now) }
+fn is_cut_target(target: &Target, limit: usize) -> bool
+    ensures { result ≡ is_cut_target limit (target_meaning target.now) }
 {
-    target.dependencies.len() > MAX_ITEMS
-        || target.build_dependencies.len() > MAX_ITEMS
-        || target.dev_dependencies.len() > MAX_ITEMS
+    target.dependencies.len() > limit
+        || target.build_dependencies.len() > limit
+        || target.dev_dependencies.len() > limit
 }

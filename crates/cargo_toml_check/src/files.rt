@@ -10,46 +10,45 @@ use crate::features::features_json;
 use crate::show::{manifest_json, manifest_toml};
 use cargo_toml::features::Resolver;
 use cargo_toml::{Error, Manifest};
-use cargo_toml_tools::files::completed_of;
+use cargo_toml_tools::files::{Source, completed_from};
 use std::hash::RandomState;
 use std::random::RandomSource;
 use std::rt::Files;
 
-/// The manifest in this text of a file as it is once it is completed, as TOML. Refused where it
+/// The manifest in a text as it is once it is completed, as TOML. Refused where it
 /// doesn't read or complete, or isn't shown.
-pub fn toml_of<R: Files + AllocGlobal>(rt: &R, file: &str, text: &str) -> Result<String, Error>
-    ensures shown { IfOk result (λ shown. HoldsOfCompleted file.now text.now
+pub fn toml_of<R: Files + AllocGlobal>(rt: &R, source: Source<'_>) -> Result<String, Error>
+    ensures shown { IfOk result (λ shown. HoldsOfCompleted source.entry
         (λ m. IsShown (manifest_meaning view m) (string_bytes shown))) }
-    ensures refused { IfErr result (IsRefusedFor file.now text.now
+    ensures refused { IfErr result (IsRefusedFor source.entry
         (λ m. IsUnshown (manifest_meaning view m))) }
 {
-    let completed = completed_of(rt, file, text)?;
+    let completed = completed_from(rt, source)?;
     manifest_toml(rt.alloc(), &*completed.manifest)
 }
 
 /// The same as JSON.
-pub fn json_of<R: Files + AllocGlobal>(rt: &R, file: &str, text: &str) -> Result<String, Error>
-    ensures shown { IfOk result (λ shown. HoldsOfCompleted file.now text.now
+pub fn json_of<R: Files + AllocGlobal>(rt: &R, source: Source<'_>) -> Result<String, Error>
+    ensures shown { IfOk result (λ shown. HoldsOfCompleted source.entry
         (λ m. IsShownAsJson (manifest_meaning view m) (string_bytes shown))) }
-    ensures refused { IfErr result (IsRefusedFor file.now text.now
+    ensures refused { IfErr result (IsRefusedFor source.entry
         (λ m. IsUnshown (manifest_meaning view m))) }
 {
-    let held = completed_of(rt, file, text)?;
+    let held = completed_from(rt, source)?;
     manifest_json(rt.alloc(), &*held.manifest)
 }
 
-/// The features that the completed manifest in this text of a file resolves to, as JSON. Those
+/// The features that the completed manifest in a text resolves to, as JSON. Those
 /// whose names begin with `_` are removed. Refused where it doesn't read or complete.
 pub fn features_of<R: Files + RandomSource + AllocGlobal>(
     rt: &R,
-    file: &str,
-    text: &str,
+    source: Source<'_>,
 ) -> Result<String, Error>
-    ensures listed { IfOk result (λ shown. HoldsOfCompleted file.now text.now
+    ensures listed { IfOk result (λ shown. HoldsOfCompleted source.entry
         (λ m. IsListed m (string_bytes shown))) }
-    ensures refused { IfErr result (IsRefusedFor file.now text.now (λ _. IsOfInput)) }
+    ensures refused { IfErr result (IsRefusedFor source.entry (λ _. IsOfInput)) }
 {
-    let held = completed_of(rt, file, text)?;
+    let held = completed_from(rt, source)?;
     listing_of(rt, &*held.manifest)
 }
 

@@ -4,14 +4,13 @@ ghost use Rattle.cargo_toml_tools.specs.FromFiles.{IsOfInput};
 ghost use Rattle.cargo_toml_check.specs.Judged.{counts, is_odd};
 
 use crate::alone::Step;
-use crate::check::{faults_in, push_place};
+use crate::check::{Told, faults_in, no_text, push_place};
 use crate::places::{Paths, Place, cut, places};
 use cargo_toml::{DepsSet, Edition, Error, Inheritable, Manifest, Product, Value};
 use cargo_toml_lint::{AllocResult, Code, Finding, Level};
-use cargo_toml_manifest::HeldManifest;
 use cargo_toml_tools::Judging;
 use cargo_toml_tools::escape::{Escaped, Format};
-use cargo_toml_tools::files::findings_of;
+use cargo_toml_tools::files::{findings_of, manifest_of};
 use cargo_toml_tools::json::put_text;
 use serde_json::{Map, Value as Json, put};
 use std::alloc::Global;
@@ -20,7 +19,10 @@ use std::fmt::Write;
 use std::random::RandomSource;
 
 /// What a line tells behind its place: the level, the code, the feature, the text and the words.
-type Cells<'a> = (&'a str, &'a str, &'a str, &'a str, &'a str);
+pub type Cells<'a> = (&'a str, &'a str, &'a str, &'a str, &'a str);
+
+/// What is told, and its place.
+pub type Line<'a> = (Cells<'a>, Place);
 
 /// What is passed over: a code, of one feature or of any.
 type Allowed<'a> = (&'a str, Option<&'a str>);
@@ -38,10 +40,16 @@ pub fn lint_lines<R: RandomSource + AllocGlobal>(
 ) -> Result<(String, bool), Error>
     ensures refused { IfErr result IsOfInput }
 {
-    match HeldManifest::from_str(rt.alloc(), text) {
+    match manifest_of(rt.alloc(), text) {
         Ok(held) => readable(rt, file, text, &*held.manifest, judging),
         Err(Error::Memory) => Err(Error::Memory),
-        Err(_) => Ok((unreadable(rt.alloc(), file, text, judging.json)?, true)),
+        Err(_) => {
+            let faults = faults_in(rt.alloc(), text)?;
+            Ok((
+                unreadable(rt.alloc(), file, faults.as_slice(), judging.json)?,
+                true,
+            ))
+        }
     }
 }
 
@@ -55,11 +63,8 @@ fn readable<R: RandomSource + AllocGlobal>(
     ensures refused { IfErr result IsOfInput }
 {
     let alloc = rt.alloc();
-    let allowed = allowed(alloc, manifest, judging.allowed.as_slice())?;
-    let allowed = allowed.as_slice();
     let mut kept = findings_of(rt, manifest)?;
-    kept.retain(|finding| !is_allowed(allowed, finding.code.name(), finding.feature));
-    let told = told(alloc, text, manifest, allowed, kept.as_slice())?;
+    let told = lines_of(alloc, text, manifest, judging.allowed.as_slice(), &mut kept)?;
     let mut lines = String::new(alloc);
     for (cells, place) in &told {
         push_line(&mut lines, alloc, file, *place, *cells, judging.json)?;
@@ -67,6 +72,22 @@ fn readable<R: RandomSource + AllocGlobal>(
     // no two findings are alike: further lines are of tables, as errors or warnings
     let is_odd = is_odd(kept.as_slice(), judging.denies_hints);
     Ok((lines, is_odd || told.len() > kept.len()))
+}
+
+/// What is told of the manifest in a text, each once, in order: these findings, of which those are
+/// kept that neither a text passes over nor the manifest itself, and the tables with other names.
+/// The one refusal is out of memory.
+pub fn lines_of<'m>(
+    alloc: Global,
+    text: &str,
+    manifest: &'m Manifest,
+    passed: &[&'m str],
+    findings: &mut Vec<Finding<'m>>,
+) -> AllocResult<Vec<Line<'m>>> {
+    let allowed = allowed(alloc, manifest, passed)?;
+    let allowed = allowed.as_slice();
+    findings.retain(|finding| !is_allowed(allowed, finding.code.name(), finding.feature));
+    told(alloc, text, manifest, allowed, findings.as_slice())
 }
 
 /// What these texts pass over, and those that the manifest itself has for it, in order.
@@ -158,7 +179,7 @@ fn told<'m>(
     manifest: &'m Manifest,
     allowed: &[Allowed<'m>],
     findings: &[Finding<'m>],
-) -> AllocResult<Vec<(Cells<'m>, Place)>> {
+) -> AllocResult<Vec<Line<'m>>> {
     let mut keys = Keys {
         paths: Paths::new(alloc),
         owners: BTreeMap::new(alloc),
@@ -332,9 +353,14 @@ impl<'m> Keys<'m> {
     }
 }
 
-fn unreadable(alloc: Global, file: &str, text: &str, json: bool) -> AllocResult<String> {
+/// The line of a file whose bytes aren't UTF-8.
+pub fn no_text_line(alloc: Global, file: &str, judging: &Judging<'_>) -> AllocResult<String> {
+    unreadable(alloc, file, &[no_text(alloc)?], judging.json)
+}
+
+fn unreadable(alloc: Global, file: &str, faults: &[Told], json: bool) -> AllocResult<String> {
     let mut lines = String::new(alloc);
-    for told in &faults_in(alloc, text)? {
+    for told in faults {
         let words = told.words.as_str().trim_end();
         let cells = ("error", "unreadable", told.key.as_str(), "", words);
         push_line(&mut lines, alloc, file, told.place, cells, json)?;

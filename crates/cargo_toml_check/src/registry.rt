@@ -1,73 +1,166 @@
-//! The files of a registry's index.
+//! The files of a registry's index on the disk, and what they hold (`entries`, `gathering`,
+//! `joining`, `yanking`), and the checksums of archives (`sums`).
+pub mod entries;
+mod floats;
+pub mod gathering;
+pub mod joining;
+pub mod sums;
+pub mod yanking;
+
 use cargo_toml_lint::AllocResult;
-use cargo_toml_tools::files::Indexed;
-use cargo_toml_tools::is_checksum;
-use std::alloc::Global;
-use std::collections::BTreeMap;
+use entries::Line;
+use joining::{FileFault, Place, add_lines};
+use serde_json::Value;
+use std::alloc::{AllocError, Global};
 use std::io::ErrorKind;
 use std::rt::Files;
-use std::{fs, io};
+use std::{fmt, fs, io};
 use toml_parser::bytes::is_bare;
+use yanking::{Version, with_yanked};
 
-/// The SHA-256 of each of these files by its name, as lines of `sha256sum` have it. A line that
-/// doesn't begin with one as an index writes it is passed over.
-pub fn checksums<'t>(alloc: Global, lines: &'t str) -> AllocResult<BTreeMap<&'t str, &'t str>> {
-    let mut all = BTreeMap::new(alloc);
-    for line in lines.lines() {
-        let (sum, path) = line.split_once(' ').unwrap_or(("", ""));
-        if is_checksum(sum) {
-            let path = path.trim_start_matches(' ').trim_start_matches('*');
-            all.insert(path.rsplit('/').next().unwrap_or(path), sum)?;
-        }
-    }
-    Ok(all)
+/// Why a file of an index stays as it is.
+#[derive(Debug, Drop)]
+pub enum LayoutFault {
+    /// It can't be read, made or written.
+    Input(io::Error),
+    /// What it holds.
+    File(FileFault),
+    /// It has no line of the version in which `yanked` can be set.
+    NoVersion,
+    /// It is there, and says something else.
+    Config,
+    /// Out of memory.
+    Memory,
 }
 
-/// Adds a line to the file that the index in a folder has of a crate, unless the file has that line
-/// already. The file is written anew beside the old one, and then takes its place. Two calls at
-/// once must not write one file.
-///
-/// A name is refused as `InvalidInput` where it is empty, or has more than ASCII letters, digits,
-/// `-` and `_`. Each fault of reading, making or writing is handed on. The old file then stays.
-pub fn add_to_index<R: Files + AllocGlobal>(rt: &R, index: &str, made: &Indexed) -> io::Result<()> {
-    let alloc = rt.alloc();
-    if made.name.is_empty() || !made.name.bytes().all(is_bare) {
-        return Err(io::Error::from(ErrorKind::InvalidInput));
+impl From<io::Error> for LayoutFault {
+    fn from(fault: io::Error) -> LayoutFault {
+        LayoutFault::Input(fault)
     }
-    let (above, name) = place_of(alloc, index, made.name.as_str())?;
-    let path = format!(in alloc; "{above}/{name}")?;
-    let fresh = format!(in alloc; "{above}/.{name}.new")?;
-    let mut text = match fs::read_to_string(rt, path.as_str()) {
-        Ok(text) => text,
-        Err(fault) if fault.kind() == ErrorKind::NotFound => String::new(alloc),
-        Err(fault) => return Err(fault),
-    };
-    // what a run before this one has added
-    let new = made.line.as_str().trim_end();
-    for line in text.as_str().lines() {
-        if line == new {
-            return Ok(());
+}
+
+impl From<FileFault> for LayoutFault {
+    fn from(fault: FileFault) -> LayoutFault {
+        LayoutFault::File(fault)
+    }
+}
+
+impl From<AllocError> for LayoutFault {
+    fn from(_fault: AllocError) -> LayoutFault {
+        LayoutFault::Memory
+    }
+}
+
+impl fmt::Display for LayoutFault {
+    fn fmt<W: fmt::Write>(&self, f: &mut fmt::Formatter<W>) -> fmt::Result {
+        match self {
+            LayoutFault::Input(fault) => fault.fmt(f),
+            LayoutFault::File(fault) => fault.fmt(f),
+            LayoutFault::NoVersion => f.write_str("the index has no such version"),
+            LayoutFault::Config => f.write_str("it is there, and says something else"),
+            LayoutFault::Memory => f.write_str("out of memory"),
         }
     }
-    // a last line without its end
-    if !text.is_empty() && !text.as_str().ends_with('\n') {
-        text.push_str("\n")?;
+}
+
+impl std::error::Error for LayoutFault {}
+
+/// Whether a folder is there. Refused where something else is, or nothing.
+pub fn require_folder<R: Files>(rt: &R, path: &str) -> io::Result<()> {
+    if fs::metadata(rt, path)?.is_dir() {
+        return Ok(());
     }
-    text.push_str(made.line.as_str())?;
-    let (above, fresh) = (above.as_str(), fresh.as_str());
-    let done = replace(rt, above, fresh, path.as_str(), text.as_str());
+    Err(io::Error::from(ErrorKind::NotADirectory))
+}
+
+/// The file that the index in a folder has of a crate. `None` where the name is empty, or has more
+/// than ASCII letters, digits, `-` and `_`.
+pub fn file_in(alloc: Global, index: &str, name: &str) -> AllocResult<Option<String>> {
+    if name.is_empty() || !name.bytes().all(is_bare) {
+        return Ok(None);
+    }
+    let (above, name) = place_of(alloc, index, name)?;
+    Ok(Some(format!(in alloc; "{above}/{name}")?))
+}
+
+/// Adds lines to the file that an index has of the crate `name`, and tells what became of each. The
+/// file is written anew beside the old one, and then takes its place; where nothing is added, it
+/// stays. Two calls at once must not write one file.
+///
+/// Each fault of reading, making or writing, and of what the file holds, is handed on; the old file
+/// then stays.
+pub fn add_to_index<R: Files + AllocGlobal>(
+    rt: &R,
+    file: &str,
+    name: &str,
+    new: &[Line],
+) -> Result<Vec<Place>, LayoutFault> {
+    let old = match fs::read_to_string(rt, file) {
+        Ok(text) => text,
+        Err(fault) if fault.kind() == ErrorKind::NotFound => String::new(rt.alloc()),
+        Err(fault) => return Err(LayoutFault::Input(fault)),
+    };
+    let joined = add_lines(rt.alloc(), name, old.as_str(), new)?;
+    if joined.places.contains(&Place::New) {
+        replace(rt, file, joined.text.as_str())?;
+    }
+    Ok(joined.places)
+}
+
+/// Yanks a version in the file that an index has of its crate, or takes that back. Refused as
+/// above, and where the file has no line of the version.
+pub fn set_yanked<R: Files + AllocGlobal>(
+    rt: &R,
+    file: &str,
+    of: Version<'_>,
+    yanked: bool,
+) -> Result<(), LayoutFault> {
+    let old = fs::read_to_string(rt, file)?;
+    let Some(text) = with_yanked(rt.alloc(), old.as_str(), of, yanked)? else {
+        return Err(LayoutFault::NoVersion);
+    };
+    if text != old {
+        replace(rt, file, text.as_str())?;
+    }
+    Ok(())
+}
+
+/// Writes the file `config.json` of an index, which says where archives are loaded from, once.
+/// Refused as above, and where the file is there and says something else.
+pub fn write_config<R: Files + AllocGlobal>(
+    rt: &R,
+    file: &str,
+    address: &str,
+) -> Result<(), LayoutFault> {
+    let alloc = rt.alloc();
+    let address = Value::try_from_str(alloc, address)?.to_string(alloc)?;
+    let text = format!(in alloc; "{{\"dl\":{address}}}\n")?;
+    match fs::read_to_string(rt, file) {
+        Ok(old) if old == text => Ok(()),
+        Ok(_) => Err(LayoutFault::Config),
+        Err(fault) if fault.kind() == ErrorKind::NotFound => {
+            Ok(replace(rt, file, text.as_str())?)
+        }
+        Err(fault) => Err(LayoutFault::Input(fault)),
+    }
+}
+
+/// Puts a text in the place of a file, by a fresh one beside it. That is removed where this fails.
+fn replace<R: Files + AllocGlobal>(rt: &R, file: &str, text: &str) -> io::Result<()> {
+    let (above, name) = file.rsplit_once('/').unwrap_or((".", file));
+    let fresh = format!(in rt.alloc(); "{above}/.{name}.new")?;
+    let done = replace_by(rt, above, fresh.as_str(), file, text);
     if done.is_err() {
-        let _ = fs::remove_file(rt, fresh);
+        let _ = fs::remove_file(rt, fresh.as_str());
     }
     done
 }
 
-/// Writes a fresh file in a folder, and puts it in the place of another.
-fn replace<R: Files + AllocGlobal>(
+fn replace_by<R: Files + AllocGlobal>(
     rt: &R,
     folder: &str,
     fresh: &str,
-    path: &str,
+    file: &str,
     text: &str,
 ) -> io::Result<()> {
     // of most crates the folder is there
@@ -78,7 +171,7 @@ fn replace<R: Files + AllocGlobal>(
         fs::create_dir_all(rt, folder)?;
         fs::write(rt, fresh, text)?;
     }
-    fs::rename(rt, fresh, path)
+    fs::rename(rt, fresh, file)
 }
 
 /// The folder in which an index has the file of a crate, and the name of the file.

@@ -11,6 +11,28 @@ use std::process::ExitCode;
 use std::rt::{Env, Files};
 use std::{env, fs, io};
 
+/// What `--help` prints. `docs/help` keeps it, too.
+const HELP: &str = "\
+Prints the features of a Cargo.toml, or what Cargo finds around it
+
+Usage: cargo-toml features [--max N] FILE
+       cargo-toml complete FILE
+
+Arguments:
+  FILE  A manifest
+
+Options:
+      --max <N>  How many items count, from 1 to 65535 [default: 2048]
+  -h, --help     Print help
+  -V, --version  Print version
+
+Statuses: 0 done; 1 the file can't be read or is refused, or the output can't be written;
+2 no command.
+";
+
+/// What `--version` prints.
+const VERSION: &str = "cargo-toml 1.0.1+1\n";
+
 /// The environment, where the program's own name is empty. That is no word, and need not be text.
 #[derive(Drop)]
 struct Unnamed<'a, R>(&'a R);
@@ -48,12 +70,27 @@ fn words<R: Env + AllocGlobal>(rt: &R) -> io::Result<Vec<String>> {
     Ok(env::args(&named)?.skip(1).collect(rt.alloc())?)
 }
 
+/// The text that the words ask for, where they are no command, but ask for help or the version.
+fn asked_text(words: &[String]) -> Option<&'static str> {
+    let [word] = words else {
+        return None;
+    };
+    match word.as_str() {
+        "-h" | "--help" => Some(HELP),
+        "-V" | "--version" => Some(VERSION),
+        _ => None,
+    }
+}
+
 /// What the program is asked to do, done.
 fn run<R: Env + Files + Print + AllocGlobal>(rt: &R) -> Outcome {
     let words = match words(rt) {
         Ok(words) => words,
         Err(fault) => return Outcome::of_words(fault),
     };
+    if let Some(text) = asked_text(words.as_slice()) {
+        return Outcome::of_command(print!(rt; "{text}").map_err(Error::from));
+    }
     match command(words.as_slice()) {
         Some(Command::Features(file, max_items)) => {
             Outcome::of_command(features(rt, file, max_items))

@@ -8,6 +8,7 @@ ghost use Rattle.cargo_toml_program.specs.Printing.{IsOfManifest, IsOfOutput};
 use crate::completion::completion_lines;
 use cargo_toml_manifest::Manifest;
 use cargo_toml_parts::Error;
+use cargo_toml_shallow::{complete_from_path, refuse_deep};
 use std::fs;
 use std::io::Write;
 use std::rt::Files;
@@ -15,9 +16,10 @@ use std::rt::Files;
 /// Reads the manifest in a file, completes it from the files around it, and writes the lines of
 /// `print_complete` to `output`. The manifest is on the heap, so the caller's stack holds none.
 ///
-/// Refuses as `Manifest::from_str` and `Manifest::complete_from_path` do, with `Io` where the file
-/// can't be read or `output` can't be written, and with `Memory` when out of memory. Nothing is
-/// written before all lines stand, so a fault of the manifest leaves `output` as it was.
+/// Refuses with `Other` a text that nests deeper than 128, before it is read, that of the
+/// workspace's root too; as `Manifest::from_str` and `Manifest::complete_from_path` do; with `Io`
+/// where the file can't be read or `output` can't be written; and with `Memory` when out of memory.
+/// Nothing is written before all lines stand, so a fault of the manifest leaves `output` as it was.
 pub fn print_completed<R: Files + AllocGlobal, W: Write>(
     rt: &R,
     file: &str,
@@ -48,7 +50,7 @@ fn completed_lines<R: Files + AllocGlobal>(
     ensures named { OnOk result (IsSome (path_parent file.now)) }
     ensures refused { IsSpelled manifest.old → IfErr result (IsFileFault file.now) }
 {
-    manifest.complete_from_path(rt, rt.alloc(), file)?;
+    complete_from_path(rt, rt.alloc(), file, manifest)?;
     Ok(completion_lines(rt.alloc(), manifest)?)
 }
 
@@ -59,6 +61,7 @@ fn manifest_in<R: Files + AllocGlobal>(rt: &R, file: &str) -> Result<Box<Manifes
     ensures refused { IfErr result (IsFileFault file.now) }
 {
     let text = fs::read_to_string(rt, file)?;
+    refuse_deep(rt.alloc(), text.as_str())?;
     match Manifest::from_str(rt.alloc(), text.as_str()) {
         Ok(manifest) => Ok(Box::new(rt.alloc(), manifest)?),
         Err(fault) => Err(fault),

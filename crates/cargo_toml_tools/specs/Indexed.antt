@@ -1,10 +1,13 @@
 -- Which crates an index takes, and what it refuses of others.
 use Rattle.std.specs.Prelude.{◌++◌, ◌&&◌, ◌||◌, Bool, true, false, if◌then◌else◌, not, List, []}
 use Rattle.std.specs.Prelude.{◌∷◌, Option, Some, None, is_none, is_some, map, bytes_eq, codes}
-use Rattle.std.specs.Prelude.{◌==◌, length, option_and_then, option_map, slice_get, unwrap_or}
+use Rattle.std.specs.Prelude.{◌==◌, ◌^◌, length, nat_lt, option_and_then, option_map, slice_get}
+use Rattle.std.specs.Prelude.{slice_index}
+use Rattle.std.specs.Prelude.{unwrap_or}
+use Rattle.std.specs.Str.Parse.{digits_value}
 use Rattle.std.specs.List.{flat_map, list_all, list_any, slice_split}
 use Rattle.std.specs.{Char.is_ascii_digit, Option.option_map_or, Option.option_or}
-use Rattle.semver.specs.Parse.{Held}
+use Rattle.semver.specs.{Identifiers.parts_text, Parse.Held}
 use Rattle.toml.specs.Data.{Data, Members, as_bool, as_table, get_member, no_members}
 use Rattle.toml.specs.Parse.{parse_document}
 use Rattle.cargo_toml.specs.Dependencies.{DependencyMeaning, simple, inherited, detailed}
@@ -13,12 +16,14 @@ use Rattle.cargo_toml.specs.Settings.{Registries, among, everywhere}
 use Rattle.cargo_toml.specs.{Inheritable.TheVariants.Inherited, Inheritable.TheVariants.Set}
 use Rattle.cargo_toml.specs.{InheritedDependencies.Entries, InheritedDependencies.is_left}
 use Rattle.cargo_toml.specs.{Manifests.ManifestMeaning, Manifests.is_zero, Action.Text}
-use Rattle.cargo_toml.specs.{Inheritable.Inheritable, Kind.Kind}
+use Rattle.cargo_toml.specs.{Inheritable.Inheritable, InheritableValues.value_of, Kind.Kind}
+use Rattle.cargo_toml.specs.Action.{without_end, without_start}
 use Rattle.cargo_toml.specs.{Packages.PackageMeaning, Targets.TargetMeaning, Versions.Parts}
 use Rattle.cargo_toml_parts.specs.declared.settings.Edition.{Edition, TheVariants.E2024}
 use Rattle.cargo_toml_lint.specs.{Findings.code_level, declared.finding.Finding.Finding}
 use Rattle.cargo_toml_lint.specs.{Taken.may_name, declared.finding.Level.Level}
 use Rattle.cargo_toml_lint.specs.declared.finding.Level.TheVariants.{Error}
+use Rattle.cargo_toml_tools.specs.Platforms.{is_target}
 use Rattle.cargo_toml_tools.specs.declared.index.refusals.Fault.{Fault}
 use Rattle.cargo_toml_tools.specs.declared.index.refusals.Fault.TheVariants as fault
 
@@ -132,22 +137,31 @@ abbrev pub source_of : List (Text × Text) → DependencyMeaning → Option Text
 source_of names (detailed d) = address_of names d.registry_index d.registry
 source_of names other = Some crates_io
 
+-- an address without `sparse+` in front and a last `/`, which don't count
+abbrev pub bare : Text → Text
+bare address = without_end (codes "/") (without_start (codes "sparse+") address)
+
+abbrev pub is_same : Text → Text → Bool
+is_same one other = bytes_eq (bare one) (bare other)
+
 -- an address, unless it is the registry's own
 abbrev pub elsewhere : Text → Option Text → Option Text
 elsewhere own None = None
-elsewhere own (Some address) = if bytes_eq address own then None else Some address
+elsewhere own (Some address) = if is_same address own then None else Some address
 
 -- what a line is asked for
 pub record Wanted : Type 0 where
   pub registry : Text
   pub names : List (Text × Text)
   pub checksum : Option Text
+  pub folder : Option Text
   pub force : Bool
 
 -- ---- refusals
 
 -- what an index doesn't take, and what is at fault: a key, a name, or the text of a `rust-version`.
--- It is empty for a package that is missing, its name, its version, and publishing
+-- Of another crate it is both names. It is empty for a package that is missing, its name, its
+-- version, and publishing
 abbrev pub Refusal : Type 0
 Refusal = Fault × Text
 
@@ -170,13 +184,19 @@ abbrev pub is_left_out : Kind → DependencyMeaning → Bool
 is_left_out Dev (detailed d) = is_none d.version && (is_some d.path || is_some d.git)
 is_left_out kind other = false
 
--- `default_features`, which Cargo reads as `default-features`, and the library doesn't
-abbrev pub other_flag : Text
-other_flag = codes "default_features"
+-- a dependency, or what it inherits, has this key, which the library doesn't read
+abbrev pub keeps : Text → DependencyMeaning → Bool
+keeps key (detailed d) = list_any (λ e. bytes_eq key e.0) d.unstable
+keeps key other = false
 
-abbrev pub keeps_other_flag : DependencyMeaning → Bool
-keeps_other_flag (detailed d) = list_any (λ e. bytes_eq other_flag e.0) d.unstable
-keeps_other_flag other = false
+-- `default_features`, which Cargo reads as `default-features`, in an entry or in what it inherits
+abbrev pub has_other_flag : Option Members → Text → DependencyMeaning → Bool
+has_other_flag table key d =
+    is_some (written_flag table key (codes "default_features")) || keeps (codes "default_features") d
+
+-- the dependency is on artifacts, which stable Cargo refuses
+abbrev pub is_artifact : DependencyMeaning → Bool
+is_artifact d = keeps (codes "artifact") d || keeps (codes "lib") d || keeps (codes "target") d
 
 -- an entry turns off the default features that its workspace asks for
 abbrev pub turns_off : Option Members → Text → DependencyMeaning → Bool
@@ -193,18 +213,24 @@ abbrev pub entry_refusal : Wanted → Bool → DependencyTable → Text × Depen
     → Option Refusal
 entry_refusal w in_2024 t e =
     if is_left e.1 then Some (fault.Incomplete, e.0)
-    else if is_some (written_flag t.written e.0 other_flag) || keeps_other_flag e.1
-    then Some (fault.OtherFlag, e.0)
+    else if has_other_flag t.written e.0 e.1 then Some (fault.OtherFlag, e.0)
+    else if is_artifact e.1 then Some (fault.Artifact, e.0)
     else if in_2024 && turns_off t.written e.0 e.1 then Some (fault.TurnsOff, e.0)
     else if is_left_out t.kind e.1 then None
     else if is_none (required_version e.1) then Some (fault.NoRequirement, e.0)
     else if is_none (source_of w.names e.1) then Some (fault.NoAddress, e.0)
-    else refuse_if (bytes_eq w.registry crates_io
+    else refuse_if (is_same w.registry crates_io
     && is_some (elsewhere crates_io (source_of w.names e.1))) fault.OtherRegistry e.0
+
+abbrev pub target_refusal : Option Text → Option Refusal
+target_refusal None = None
+target_refusal (Some name) = refuse_if (not (is_target name)) fault.BadTarget name
 
 abbrev pub table_refusal : Wanted → Bool → DependencyTable → Option Refusal
 table_refusal w in_2024 t =
-    option_or (option_map (λ name. (fault.OtherTable, name)) t.other_name)
+    option_or
+    (option_or (target_refusal t.target)
+    (option_map (λ name. (fault.OtherTable, name)) t.other_name))
     (first_refusal (entry_refusal w in_2024 t) t.entries)
 
 -- what the table `package` has under a key
@@ -218,10 +244,17 @@ version_refusal document (Set v) =
     refuse_if (is_zero (Set v) && is_none (in_package (codes "version") document))
     fault.NoVersion []
 
--- a number: decimal digits, with no zero in front of another
+-- a zero stands in front of another byte
+abbrev pub is_padded : Text → Bool
+is_padded ds = nat_lt 1 (length ds) && slice_index ds 0 == 48
+
+-- decimal digits, of a number of 64 bits
+abbrev pub is_u64 : Text → Bool
+is_u64 ds =
+    list_all is_ascii_digit ds && (nat_lt 0 (length ds) && nat_lt (digits_value 10 ds) (2 ^ 64))
+
 abbrev pub is_number : Text → Bool
-is_number [] = false
-is_number (b ∷ bs) = (length bs == 0 || not (b == 48)) && list_all is_ascii_digit (b ∷ bs)
+is_number ds = not (is_padded ds) && is_u64 ds
 
 -- one to three numbers, with dots between: there is no fourth part
 abbrev pub are_numbers : Text → Bool
@@ -229,8 +262,7 @@ are_numbers text =
     let parts = slice_split (λ b. b == 46) text in
     is_none (slice_get parts 3) && list_all is_number parts
 
--- the refusal of the version of Rust. Cargo takes one with spaces around, too, and no number above
--- 64 bits
+-- the refusal of the version of Rust. Cargo takes one with spaces around, too
 abbrev pub rust_refusal : Option (Inheritable Text) → Option Refusal
 rust_refusal None = None
 rust_refusal (Some Inherited) = Some (fault.Incomplete, codes "rust-version")
@@ -239,7 +271,7 @@ rust_refusal (Some (Set text)) = refuse_if (not (are_numbers text)) fault.OddRus
 -- a name is that of the registry with this address
 abbrev pub is_named : Text → List (Text × Text) → Text → Bool
 is_named own names name =
-    option_map_or (λ address. bytes_eq address own) (address_named names name) false
+    option_map_or (λ address. is_same address own) (address_named names name) false
 
 -- nothing is written of publishing, or that it is wanted. A package of version 0.0.0 reads as not
 -- published all the same
@@ -264,17 +296,29 @@ is_error other = false
 abbrev pub finding_refusal : Finding → Option Refusal
 finding_refusal x = refuse_if (is_error (code_level x.code)) fault.Features x.feature.now
 
--- the first refusal of a package. What isn't published in the registry, or has features at fault,
--- may be forced
+-- the refusal of the name or the version of a package
+abbrev pub naming_refusal : {M : Type 0} → Members → PackageMeaning M → Option Refusal
+naming_refusal document p =
+    option_or (refuse_if (not (may_name false p.name)) fault.BadName [])
+    (version_refusal document p.version)
+
+-- the name of the folder that the archive of a package unpacks to
+abbrev pub folder_of : {M : Type 0} → PackageMeaning M → Option Text
+folder_of p = option_map (λ v. p.name ++ codes "-" ++ parts_text v) (value_of p.version)
+
+-- the refusal of a folder with another name, which tells both
+abbrev pub folder_refusal : Option Text → Option Text → Option Refusal
+folder_refusal (Some folder) (Some own) =
+    refuse_if (not (bytes_eq folder own)) fault.OtherCrate (folder ++ codes ", " ++ own)
+folder_refusal folder own = None
+
+-- the first refusal of a package that is well named. What isn't published in the registry, or has
+-- features at fault, may be forced
 abbrev pub package_refusal : {M : Type 0} → Wanted → List Finding → Members
     → List DependencyTable → PackageMeaning M → Option Refusal
 package_refusal w findings document ts p =
     option_or
-    (option_or
-    (option_or
-    (option_or (refuse_if (not (may_name false p.name)) fault.BadName [])
-    (version_refusal document p.version))
-    (first_refusal (table_refusal w (is_2024 p.edition)) ts))
+    (option_or (first_refusal (table_refusal w (is_2024 p.edition)) ts)
     (rust_refusal p.rust_version))
     (if w.force then None
     else option_or (publish_refusal w document p.publish) (first_refusal finding_refusal findings))
@@ -284,5 +328,7 @@ package_refusal w findings document ts p =
 abbrev pub refusal_of : {M : Type 0} → Wanted → List Finding → Text → ManifestMeaning M
     → Option Refusal
 refusal_of w findings text m = option_map_or
-    (package_refusal w findings (written text) (dependency_tables (written text) m))
+    (λ p. option_or (naming_refusal (written text) p)
+    (option_or (folder_refusal w.folder (folder_of p))
+    (package_refusal w findings (written text) (dependency_tables (written text) m) p)))
     m.«package» (Some (fault.NoPackage, []))

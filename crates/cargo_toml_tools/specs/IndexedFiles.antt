@@ -11,17 +11,18 @@ use Rattle.cargo_toml.specs.Manifests.{held, ManifestMeaning}
 use Rattle.cargo_toml.specs.{Action.Text, InheritableValues.value_of, Manifest.Manifest}
 use Rattle.cargo_toml_parts.specs.OwnWords.{HasOwnWords, WritesSome}
 use Rattle.cargo_toml_lint.specs.declared.finding.Finding.{Finding}
-use Rattle.cargo_toml_tools.specs.FromFiles.{IsCompletedIn, IsOfInput, IsUncompleted}
+use Rattle.cargo_toml_tools.specs.Alone.{IsCompletedFrom, IsUncompletedFrom}
+use Rattle.cargo_toml_tools.specs.FromFiles.{IsOfInput}
 use Rattle.cargo_toml_tools.specs.Indexed.{Wanted, refusal_of}
 use Rattle.cargo_toml_tools.specs.{IndexEntries.index_data, declared.index.IndexError.IndexError}
-use Rattle.cargo_toml_tools.specs.{Linted.AreFindingsOf, declared.files.indexing.Fault.Fault}
+use Rattle.cargo_toml_tools.specs.{Linted.AreFindingsOf, declared.files.alone.Source.Source}
 use Rattle.cargo_toml_tools.specs.{Sections.told, declared.index.IndexError.TheVariants.Memory}
 use Rattle.cargo_toml_tools.specs.declared.files.indexing.Fault.TheVariants as fault
+use Rattle.cargo_toml_tools.specs.declared.files.indexing.Fault.{Fault}
 
 -- the text reads and completes as this manifest, of which lint finds this
-pub record IsLookedAt (path text : Text) (m : Manifest Value) (findings : List Finding)
-    : Type 0 where
-  pub completed : IsCompletedIn path text m
+pub record IsLookedAt (s : Source) (m : Manifest Value) (findings : List Finding) : Type 0 where
+  pub completed : IsCompletedFrom s m
   pub found : AreFindingsOf (held m) findings
 
 -- what these sums have for a name
@@ -41,33 +42,33 @@ name_of m = option_map (λ p. p.name) m.«package»
 
 -- what is printed is the line of such a manifest, which an index takes, and a line feed. Its
 -- checksum is the one that is asked for, or else the one that the sums have of the crate
-pub record IsLineOf (path text : Text) (w : Wanted) (sums : Text → Option Text)
-    (name printed : Text) : Type 0 where
+pub record IsLineOf (s : Source) (w : Wanted) (sums : Text → Option Text) (name printed : Text)
+    : Type 0 where
   pub manifest : Manifest Value
   pub findings : List Finding
-  pub looked_at : IsLookedAt path text manifest findings
-  pub taken : refusal_of w findings text (held manifest) ≡ None
+  pub looked_at : IsLookedAt s manifest findings
+  pub taken : refusal_of w findings s.text.now (held manifest) ≡ None
   pub named : name_of (held manifest) ≡ Some name
   pub line : Data
   pub is :
       Some line
       ≡ index_data (record w { checksum = option_or w.checksum (sum_of sums (held manifest)) })
-      text (held manifest)
+      s.text.now (held manifest)
   pub spelled : Text
   pub exact : IsInOrder spelled line
   pub ended : printed ≡ spelled ++ 10 ∷ []
 
 -- it is a manifest that an index doesn't take, for what is told
-pub record IsUntaken (path text : Text) (w : Wanted) (e : IndexError) : Type 0 where
+pub record IsUntaken (s : Source) (w : Wanted) (e : IndexError) : Type 0 where
   pub manifest : Manifest Value
   pub findings : List Finding
-  pub looked_at : IsLookedAt path text manifest findings
-  pub told_so : (e ≡ Memory) ⊎ (told e ≡ refusal_of w findings text (held manifest))
+  pub looked_at : IsLookedAt s manifest findings
+  pub told_so : (e ≡ Memory) ⊎ (told e ≡ refusal_of w findings s.text.now (held manifest))
 
 -- why the text gives no line
-abbrev pub IsIndexFault : Text → Text → Wanted → Fault → Type 0
-IsIndexFault path text w (fault.Manifest e) = IsOfInput e ⊎ IsUncompleted path text e
-IsIndexFault path text w (fault.Index e) = IsUntaken path text w e
+abbrev pub IsIndexFault : Source → Wanted → Fault → Type 0
+IsIndexFault s w (fault.Manifest e) = IsOfInput e ⊎ IsUncompletedFrom s e
+IsIndexFault s w (fault.Index e) = IsUntaken s w e
 
 -- a manifest's fault writes its own words, whatever `toml` and input write after them
 abbrev pub WritesOwnWords : {W : Type 0} → (W → Text → W → Type 0) → Formatter W

@@ -31,6 +31,7 @@ wanted_of o = record {
   registry = o.registry.now;
   names = names_of o.names.now;
   checksum = option_copied o.checksum;
+  folder = option_copied o.folder;
   force = o.force;
 }
 

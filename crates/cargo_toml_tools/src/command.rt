@@ -7,8 +7,11 @@ use std::alloc::Global;
 const STATUSES: &str = "Statuses: 0 all is well; 1 a file can't be read or is refused, or the \
     output can't be written; 2 no command; 3 check, lint or audit found something. 1 outranks 3.";
 
+const ALONE: &str = "alone: Complete it from itself and the names beside it; no workspace is \
+    looked for";
+
 /// The tools. Each has its name and what it does, and then its options: a name, what the option
-/// takes unless it is a flag, and its help.
+/// takes unless it is a flag, and its help. Those with files have further ones.
 const TOOLS: [&[&str]; 7] = [
     &["check: Tells which keys keep a manifest from being read and completed, and where"],
     &[
@@ -25,9 +28,13 @@ const TOOLS: [&[&str]; 7] = [
         "registry-name NAME=URL: What a registry is called in manifests",
         "checksum HEX: The SHA-256 of the only crate",
         "checksums FILE: Lines of sha256sum, for NAME-VERSION.crate each",
+        "crates FOLDER: Take the SHA-256 of NAME-VERSION.crate in FOLDER",
         "force: Also what isn't published there, lacks a checksum, or has errors by lint",
         "with-names: Put the file and a tab before each line",
         "layout FOLDER: Add each line to its file of an index in FOLDER",
+        "config URL: Write config.json there, with the address of archives",
+        "yank NAME@VERSION: Yank this version there",
+        "unyank NAME@VERSION: Take that back",
     ],
     &[
         "lint: Tells what is amiss with the features of a crate",
@@ -51,7 +58,7 @@ pub(crate) fn command<'a>(alloc: Global) -> AllocResult<Command<'a>> {
     let mut command = Command::new(alloc, "cargo-toml-tools")
         .bin_name("cargo-toml-tools")?
         .about("Tools over the manifests of Cargo")
-        .version("1.0.1")
+        .version("1.0.1+1")
         .after_help(STATUSES)
         .subcommand_required(true);
     for lines in &TOOLS {
@@ -71,8 +78,13 @@ fn tool<'a>(alloc: Global, lines: &'a [&'a str]) -> AllocResult<Command<'a>> {
         let folder = folder.value_parser(ValueParser::NonEmptyString);
         return tool.arg(folder.help("The folder").required(true));
     }
+    if matches!(name, "check" | "show" | "features" | "index") {
+        tool = tool.arg(option(alloc, name, ALONE)?.required(false))?;
+    }
     let from = "files-from LIST: A file with the name of a manifest a line; `-` too";
-    let tool = tool.arg(option(alloc, name, from)?)?;
+    let null = "null: Names in LIST end by NUL";
+    let null = option(alloc, name, null)?.required(false).short('0');
+    let tool = tool.arg(option(alloc, name, from)?)?.arg(null)?;
     let files = Arg::new(alloc, "files")
         .value_name("FILE")
         .value_parser(ValueParser::NonEmptyString)
@@ -80,10 +92,15 @@ fn tool<'a>(alloc: Global, lines: &'a [&'a str]) -> AllocResult<Command<'a>> {
         .action(ArgAction::Append)
         .num_args(1..)
         .required_unless_present("files-from")?;
-    if name == "lint" {
-        return tool.arg(files.required_unless_present("workspace")?);
+    match name {
+        "lint" => tool.arg(files.required_unless_present("workspace")?),
+        "index" => {
+            let files = files.required_unless_present("config")?;
+            let files = files.required_unless_present("yank")?;
+            tool.arg(files.required_unless_present("unyank")?)
+        }
+        _ => tool.arg(files),
     }
-    tool.arg(files)
 }
 
 /// What stands before and behind the colon of a line.
@@ -105,6 +122,11 @@ fn option<'a>(alloc: Global, tool: &str, line: &'a str) -> AllocResult<Arg<'a>> 
     match name {
         "registry-name" | "allow" => Ok(option.action(ArgAction::Append)),
         "checksums" => option.conflicts_with("checksum"),
+        "crates" => option
+            .conflicts_with("checksum")?
+            .conflicts_with("checksums"),
+        "config" => option.requires_arg("layout"),
+        "yank" | "unyank" => option.action(ArgAction::Append).requires_arg("layout"),
         "layout" => option.conflicts_with("with-names"),
         "deny" => Ok(option.value_parser(["hint"].as_slice())),
         _ => Ok(option),

@@ -51,6 +51,15 @@ pub fn push_escaped(text: &mut String, words: &str, format: Format) -> AllocResu
     write!(text, "{}", Escaped(words, format))
 }
 
+/// Adds bytes to a line. Those that are no text are written by their numbers, as `\xff`.
+pub fn push_bytes(line: &mut String, bytes: &[u8]) -> AllocResult<()> {
+    for chunk in bytes.utf8_chunks() {
+        push_escaped(line, chunk.valid(), Format::Line)?;
+        write!(line, "{}", chunk.invalid().escape_ascii())?;
+    }
+    Ok(())
+}
+
 /// What stands before the item at this place of a list: a comma, but not before the first.
 pub fn comma_before(place: usize) -> &'static str {
     if place == 0 { "" } else { ", " }

@@ -15,6 +15,7 @@ ghost use Rattle.cargo_toml_tools.specs.Sections.{wanted_of};
 
 mod entry;
 mod features;
+mod platform;
 mod refusals;
 mod registries;
 mod sections;
@@ -24,8 +25,9 @@ use cargo_toml::{FeatureSet, Inheritable, Manifest, Package, SemVer};
 use cargo_toml_lint::{AllocResult, Finding};
 use entry::entries;
 use features::put_features;
+pub use platform::is_target;
 pub use refusals::Fault;
-use refusals::{Refusal, package_refusal};
+use refusals::{Refusal, naming_refusal, other_crate, package_refusal};
 pub use registries::{CRATES_IO, Named};
 pub use sections::table_name;
 use sections::{Section, sections};
@@ -43,6 +45,8 @@ pub struct Options<'a> {
     pub names: &'a [Named<'a>],
     /// The SHA-256 of the crate's archive in hex. Without one the line has no `cksum`.
     pub checksum: Option<&'a str>,
+    /// The name of the folder that the crate's archive unpacks to, where that is known.
+    pub folder: Option<&'a str>,
     /// Whether there is a line, too, of what isn't published there, or whose features have an
     /// error.
     pub force: bool,
@@ -52,7 +56,9 @@ pub struct Options<'a> {
 #[derive(Debug, Drop)]
 pub enum IndexError {
     /// An index doesn't take it. The text is the key or the name that is at fault, and the
-    /// `rust-version` itself where that is odd. It is empty where the fault is the package's own.
+    /// `rust-version` itself where that is odd. Of another crate it is the folder and then the
+    /// manifest's NAME-VERSION, with `, ` between. It is empty where the fault is the package's
+    /// own.
     Refused(Fault, String),
     /// Out of memory.
     Memory,
@@ -76,9 +82,17 @@ impl fmt::Display for IndexError {
             Fault::NoPackage => f.write_str("there is no package"),
             Fault::BadName => f.write_str("Cargo doesn't take the package's name"),
             Fault::NoVersion => f.write_str("the package has no version"),
+            Fault::OtherCrate => write!(
+                f,
+                "the folder and the crate's NAME-VERSION differ: {name}"
+            ),
             Fault::Incomplete => write!(f, "{name} is left to the workspace"),
+            Fault::BadTarget => write!(f, "Cargo doesn't take the target {name}"),
             Fault::OtherTable => write!(f, "the table {name} has `_` in its name"),
             Fault::OtherFlag => write!(f, "the dependency {name} has `default_features`"),
+            Fault::Artifact => {
+                write!(f, "the dependency {name} has `artifact`, `lib` or `target`")
+            }
             Fault::TurnsOff => write!(f, "{name} can't turn off its workspace's default features"),
             Fault::NoRequirement => write!(f, "the dependency {name} has no version"),
             Fault::NoAddress => write!(f, "the registry of {name} has no address"),
@@ -100,8 +114,8 @@ impl std::error::Error for IndexError {}
 /// - A feature whose list has a `dep:` or a `?/` has that list under `features2`, and `v` is 2.
 ///
 /// Refused out of memory, or with the first [`Fault`]: of the package, its name and its version, of
-/// its tables of dependencies, of its `rust-version`. Without `force`, publishing and then an error
-/// of `findings` come last.
+/// the folder, of its tables of dependencies, of its `rust-version`. Without `force`, publishing
+/// and then an error of `findings` come last.
 pub fn index_entry<M>(
     alloc: Global,
     manifest: &Manifest<M>,
@@ -122,6 +136,12 @@ pub fn index_entry<M>(
     let document = document_of(alloc, text)?;
     let sections = sections(alloc, manifest, &document)?;
     let sections = sections.as_slice();
+    if let Some(refusal) = naming_refusal(package, &document) {
+        return refuse(alloc, refusal);
+    }
+    if let Some(names) = other_crate(alloc, package, options.folder)? {
+        return Err(IndexError::Refused(Fault::OtherCrate, names));
+    }
     if let Some(refusal) = package_refusal(package, &document, sections, findings, options) {
         return refuse(alloc, refusal);
     }

@@ -12,7 +12,10 @@ pub mod escape;
 pub mod files;
 pub mod index;
 pub mod json;
+pub mod left;
 pub mod requirement;
 mod words;
 
-pub use words::{Inputs, Judging, Outcome, Request, Wanted, is_checksum, read_request};
+pub use words::{
+    Inputs, Judging, NO_TEXT, Outcome, Release, Request, Wanted, is_checksum, read_request,
+};

@@ -1,6 +1,8 @@
 //! What the words of the command line ask for, and how a run ends.
 ghost use Rattle.std.specs.Prelude.{◌≡◌, IfOk};
-ghost use Rattle.cargo_toml_tools.specs.Asked.{IsOfOneFile, exit_status};
+ghost use Rattle.std.specs.List.{list_all};
+ghost use Rattle.cargo_toml_tools.specs.Asked.{IsOfOneFile, exit_status, is_checksum};
+ghost use Rattle.cargo_toml_tools.specs.Asked.{is_hex_digit};
 
 use crate::command::command;
 use crate::index::{CRATES_IO, Named, Options};
@@ -41,6 +43,29 @@ pub struct Inputs<'a> {
     pub from: Option<&'a str>,
     /// The folder of the workspace whose members are meant.
     pub workspace: Option<&'a str>,
+    /// Whether the names in the file that names others end by a NUL, not by the end of a line.
+    pub null: bool,
+    /// Whether each manifest is completed from itself and the names beside it alone.
+    pub alone: bool,
+}
+
+/// What a word begins with that isn't UTF-8. Its bytes follow, as a line tells them. No word of the
+/// system begins so, since there a NUL ends a word.
+pub const NO_TEXT: char = '\0';
+
+impl Request<'_> {
+    /// The files that it is about, if it is about files.
+    pub fn inputs(&self) -> Option<&Inputs<'_>> {
+        match self {
+            Request::Check(inputs)
+            | Request::Show(inputs, _)
+            | Request::Features(inputs)
+            | Request::Index(inputs, _)
+            | Request::Lint(inputs, _)
+            | Request::Document(inputs, _) => Some(inputs),
+            Request::Audit(_, _) | Request::Text(_) | Request::NoCommand(_) => None,
+        }
+    }
 }
 
 /// Which lines of an index are asked for, and where to.
@@ -54,13 +79,24 @@ pub struct Wanted<'a> {
     pub checksum: Option<&'a str>,
     /// The file of checksums.
     pub checksums: Option<&'a str>,
+    /// The folder of the archives whose checksums are taken.
+    pub crates: Option<&'a str>,
     /// Whether what isn't published there, lacks a checksum, or has errors by lint has a line too.
     pub force: bool,
     /// Whether its file and a tab stand before each line.
     pub with_names: bool,
     /// The folder of the index.
     pub layout: Option<&'a str>,
+    /// What that index is to say of where archives are loaded from.
+    pub config: Option<&'a str>,
+    /// The versions of crates that are yanked in that index.
+    pub yanked: Vec<Release<'a>>,
+    /// Those that are no longer.
+    pub unyanked: Vec<Release<'a>>,
 }
+
+/// A name of a crate, and a version of it.
+pub type Release<'a> = (&'a str, &'a str);
 
 impl Wanted<'_> {
     /// The same as options.
@@ -69,6 +105,7 @@ impl Wanted<'_> {
             registry: self.registry,
             names: self.names.as_slice(),
             checksum: self.checksum,
+            folder: None,
             force: self.force,
         }
     }
@@ -113,8 +150,30 @@ impl Outcome {
 }
 
 /// What these words ask for, of which the first is the program's own name. Behind it may stand the
-/// word that Cargo hands on, `toml-tools`. A checksum is that of the only file.
+/// word that Cargo hands on, `toml-tools`. A checksum is that of the only file. Words that begin
+/// with [`NO_TEXT`] are no command, except as names of files.
 pub fn read_request<'a>(alloc: Global, words: &'a [String]) -> AllocResult<Request<'a>>
+    ensures { IfOk result IsOfOneFile }
+{
+    let request = requested(alloc, words)?;
+    let files = request.inputs().map_or(0, |inputs| {
+        inputs
+            .files
+            .iter()
+            .filter(|file| file.starts_with(NO_TEXT))
+            .count()
+    });
+    let all = words
+        .iter()
+        .filter(|word| word.as_str().starts_with(NO_TEXT))
+        .count();
+    if all > files {
+        return refused(alloc, "a word is no text");
+    }
+    Ok(request)
+}
+
+fn requested<'a>(alloc: Global, words: &'a [String]) -> AllocResult<Request<'a>>
     ensures { IfOk result IsOfOneFile }
 {
     match command(alloc)?.try_get_matches_from(own_words(words)) {
@@ -151,6 +210,8 @@ fn request_of<'a>(alloc: Global, matches: &ArgMatches<'a>) -> AllocResult<Reques
         files: strings(alloc, matches, "files")?,
         from: matches.get_str("files-from"),
         workspace: matches.get_str("workspace"),
+        null: matches.get_flag("null"),
+        alone: matches.get_flag("alone"),
     };
     if is_read_twice(&inputs, matches.get_str("checksums")) {
         return refused(alloc, "standard input, `-`, is read once");
@@ -199,16 +260,43 @@ fn index<'a>(
         let words = "a checksum is 64 hex digits in lower case, of one FILE";
         return refused(alloc, words);
     }
+    let yanked = releases(alloc, matches, "yank")?;
+    let unyanked = releases(alloc, matches, "unyank")?;
+    let (Some(yanked), Some(unyanked)) = (yanked, unyanked) else {
+        return refused(alloc, "a version of a crate is NAME@VERSION");
+    };
     let wanted = Wanted {
         registry: matches.get_str("registry").unwrap_or(CRATES_IO),
         names,
         checksum,
         checksums: matches.get_str("checksums"),
+        crates: matches.get_str("crates"),
         force: matches.get_flag("force"),
         with_names: matches.get_flag("with-names"),
         layout: matches.get_str("layout"),
+        config: matches.get_str("config"),
+        yanked,
+        unyanked,
     };
     Ok(Request::Index(inputs, wanted))
+}
+
+/// The names of crates with a version each under an option. `None` where one is not that.
+fn releases<'a>(
+    alloc: Global,
+    matches: &ArgMatches<'a>,
+    name: &str,
+) -> AllocResult<Option<Vec<Release<'a>>>> {
+    let mut all = Vec::new(alloc);
+    for text in strings(alloc, matches, name)? {
+        match text.split_once('@') {
+            Some((name, version)) if !name.is_empty() && !version.is_empty() => {
+                all.push((name, version))?;
+            }
+            _ => return Ok(None),
+        }
+    }
+    Ok(Some(all))
 }
 
 fn judging_of<'a>(alloc: Global, matches: &ArgMatches<'a>) -> AllocResult<Judging<'a>> {
@@ -224,7 +312,21 @@ fn strings<'a>(alloc: Global, matches: &ArgMatches<'a>, name: &str) -> AllocResu
 }
 
 /// Whether the text is a SHA-256 as an index writes it: 64 hex digits in lower case.
-pub fn is_checksum(text: &str) -> bool {
-    let is_digit = |byte: u8| matches!(byte, b'0'..=b'9' | b'a'..=b'f');
-    text.len() == 64 && text.bytes().all(is_digit)
+pub fn is_checksum(text: &str) -> bool
+    ensures { result ≡ is_checksum text.now }
+{
+    text.len() == 64 && are_hex_digits(text.as_bytes())
+}
+
+/// Whether all are hex digits in lower case.
+fn are_hex_digits(bytes: &[u8]) -> bool
+    ensures { result ≡ list_all is_hex_digit bytes.now }
+{
+    bytes.iter().all(|byte| is_hex_digit(*byte))
+}
+
+fn is_hex_digit(byte: u8) -> bool
+    ensures { result ≡ is_hex_digit byte }
+{
+    matches!(byte, b'0'..=b'9' | b'a'..=b'f')
 }

@@ -1,12 +1,13 @@
 //! `cargo-toml-tools`: tools over the manifests of Cargo. `--help` tells which there are.
 #![tactic(auto)]
 
+mod names;
 mod running;
 mod workspace;
 
 use cargo_toml_tools::{Outcome, Request, read_request};
+use names::Texts;
 use running::Run;
-use std::env::FillError;
 use std::io::IsTerminal;
 use std::process::ExitCode;
 use std::random::RandomSource;
@@ -27,26 +28,10 @@ fn answer<R: Files + Input + Print + Eprint + RandomSource + Clock + AllocGlobal
         | Request::Lint(inputs, _)
         | Request::Document(inputs, _) => Run::new(rt, shows)?.answer_each(request, inputs),
         Request::Audit(folder, as_json) => Run::new(rt, shows)?.audit(*folder, *as_json),
-        Request::Text(text) => print!(rt; "{text}").map(|_| Outcome::Done),
+        Request::Text(text) => {
+            println!(rt; "{}", text.as_str().trim_end()).map(|_| Outcome::Done)
+        }
         Request::NoCommand(text) => eprint!(rt; "{text}").map(|_| Outcome::NoCommand),
-    }
-}
-
-/// The environment, where the program's own name is empty. That is no word, and need not be text.
-#[derive(Drop)]
-struct Unnamed<'a, R>(&'a R);
-
-impl<R: Env> Env for Unnamed<'_, R> {
-    fn arg(&self, i: usize, buf: &mut [u8]) -> Result<usize, FillError> {
-        if i == 0 { Ok(0) } else { self.0.arg(i, buf) }
-    }
-
-    fn var(&self, name: &str, buf: &mut [u8]) -> Result<usize, FillError> {
-        self.0.var(name, buf)
-    }
-
-    fn var_at(&self, i: usize, buf: &mut [u8]) -> Result<usize, FillError> {
-        self.0.var_at(i, buf)
     }
 }
 
@@ -55,7 +40,7 @@ fn run<R: Env + Files + Input + Print + Eprint + RandomSource + Clock + AllocGlo
     rt: &R,
     shows: bool,
 ) -> io::Result<Outcome> {
-    let words: Vec<String> = match env::args(&(Unnamed(rt), rt.alloc())) {
+    let words: Vec<String> = match env::args(&(Texts(rt), rt.alloc())) {
         Ok(words) => words.collect(rt.alloc())?,
         Err(fault) if fault.kind() == io::ErrorKind::OutOfMemory => return Err(fault),
         Err(_) => return eprintln!(rt; "error: a word is no text").map(|_| Outcome::NoCommand),

@@ -1,20 +1,24 @@
 //! What comes of requests about files and folders.
+mod indexing;
+
+use crate::names::{Name, add_listed, name_of};
 use crate::workspace::{members, path_of, report_text, unread_above};
 use cargo_toml::Error;
-use cargo_toml_check::check::{check_lines, refusal_lines};
+use cargo_toml_check::check::{check_lines, is_no_text, no_text_line, refusal_lines};
 use cargo_toml_check::files::{features_of, json_of, toml_of};
-use cargo_toml_check::lint::lint_lines;
-use cargo_toml_check::registry::{add_to_index, checksums};
-use cargo_toml_tools::escape::{Format, push_escaped};
-use cargo_toml_tools::files::{document_text, index_of, text_in};
-use cargo_toml_tools::{Inputs, Outcome, Request, Wanted};
+use cargo_toml_check::lint;
+use cargo_toml_check::registry::gathering::Lines;
+use cargo_toml_check::registry::require_folder;
+use cargo_toml_check::registry::sums::checksums;
+use cargo_toml_tools::files::{Source, document_text, text_in};
+use cargo_toml_tools::{Inputs, Outcome, Request};
 use std::collections::BTreeMap;
 use std::fmt::Display;
-use std::io;
 use std::io::Read;
 use std::random::RandomSource;
 use std::rt::{Clock, Files};
 use std::time::Instant;
+use std::{fs, io};
 
 /// What came of a request, unless the output can't be written.
 type Answer = io::Result<Outcome>;
@@ -29,6 +33,8 @@ pub(crate) struct Run<'a, R> {
     done: usize,
     /// The tenth of a second in which the terminal was told so, or 0 where no words stand there.
     told: u128,
+    /// The lines of an index that were made.
+    lines: Lines,
 }
 
 impl<'a, R: Files + Input + Print + Eprint + RandomSource + Clock + AllocGlobal> Run<'a, R> {
@@ -41,6 +47,7 @@ impl<'a, R: Files + Input + Print + Eprint + RandomSource + Clock + AllocGlobal>
             files: 0,
             done: 0,
             told: 0,
+            lines: Lines::new(rt.alloc()),
         })
     }
 
@@ -48,7 +55,14 @@ impl<'a, R: Files + Input + Print + Eprint + RandomSource + Clock + AllocGlobal>
     pub(crate) fn answer_each(&mut self, request: &Request<'_>, inputs: &Inputs<'_>) -> Answer {
         let alloc = self.rt.alloc();
         let mut lines = String::new(alloc);
+        let mut layout = None;
         if let Request::Index(_, wanted) = request {
+            if let Some(folder) = wanted.layout {
+                if let Err(fault) = require_folder(self.rt, folder) {
+                    return self.refuse(folder, "", fault);
+                }
+                layout = Some((folder, wanted));
+            }
             if let Some(file) = wanted.checksums {
                 match text_of(self.rt, file) {
                     Ok(text) => lines = text,
@@ -60,35 +74,37 @@ impl<'a, R: Files + Input + Print + Eprint + RandomSource + Clock + AllocGlobal>
         let mut outcome = Outcome::Done;
         let files = self.files_of(inputs, &mut outcome)?;
         self.files = files.len();
-        for file in &files {
-            outcome = outcome.max(self.answer_one(request, &sums, file.as_str())?);
+        for name in &files {
+            outcome = outcome.max(match name {
+                Name::File(file) => self.answer_one(request, &sums, file.as_str())?,
+                Name::Refused(line) => self.tell(line.as_str())?,
+            });
+        }
+        if let Some((folder, wanted)) = layout {
+            outcome = outcome.max(self.lay_out(folder, wanted)?);
         }
         self.clear()?;
         Ok(outcome)
     }
 
     /// The names of the files that are meant. What is refused goes into the outcome.
-    fn files_of(&mut self, inputs: &Inputs<'_>, outcome: &mut Outcome) -> io::Result<Vec<String>> {
+    fn files_of(&mut self, inputs: &Inputs<'_>, outcome: &mut Outcome) -> io::Result<Vec<Name>> {
         let alloc = self.rt.alloc();
         let mut files = Vec::new(alloc);
         for file in &inputs.files {
-            files.push(String::from_str(alloc, *file)?)?;
+            files.push(name_of(alloc, *file)?)?;
         }
         if let Some(from) = inputs.from {
-            match text_of(self.rt, from) {
-                Ok(list) => {
-                    for file in list.lines() {
-                        files.push(String::from_str(alloc, file)?)?;
-                    }
-                }
+            match bytes_of(self.rt, from) {
+                Ok(bytes) => add_listed(&mut files, from, bytes.as_slice(), inputs.null)?,
                 Err(fault) => *outcome = self.refuse(from, "", fault)?,
             }
         }
         if let Some(folder) = inputs.workspace {
             match members(self.rt, folder, self.began.is_some()) {
-                Ok(found) => files.extend(found)?,
+                Ok(found) => files.extend(found.into_iter().map(Name::File))?,
                 Err(fault) => match unread_above(self.rt, folder, &fault)? {
-                    Some(file) => files.push(file)?,
+                    Some(file) => files.push(Name::File(file))?,
                     None => *outcome = self.refuse(folder, "", fault)?,
                 },
             }
@@ -106,50 +122,22 @@ impl<'a, R: Files + Input + Print + Eprint + RandomSource + Clock + AllocGlobal>
         self.step()?;
         let read = match text_of(self.rt, file) {
             Ok(text) => text,
-            Err(fault) => return self.refuse(file, "", fault),
+            Err(fault) => return self.refuse_unread(request, file, fault),
         };
         let text = read.as_str();
-        if let Request::Index(_, wanted) = request {
-            return self.index(wanted, sums, file, text);
+        if let Request::Index(inputs, wanted) = request {
+            let path = path_of(self.rt, file)?;
+            let source = Source {
+                path: path.as_str(),
+                text,
+                is_alone: inputs.alone,
+            };
+            return self.index(wanted, sums, file, source);
         }
         match made_of(self.rt, request, file, text) {
             Ok((made, odd)) => self.put(made.as_str(), odd),
             Err(fault) => self.refuse(file, text, fault),
         }
-    }
-
-    /// The line of an index, to where it is wanted.
-    fn index(
-        &mut self,
-        wanted: &Wanted<'_>,
-        sums: &BTreeMap<&str, &str>,
-        file: &str,
-        text: &str,
-    ) -> Answer {
-        let path = path_of(self.rt, file)?;
-        let made = match index_of(self.rt, path.as_str(), text, wanted.options(), sums) {
-            Ok(made) => made,
-            Err(fault) => return self.refuse(file, text, fault),
-        };
-        // a line begins with its checksum, since its keys stand in byte order
-        let is_summed = made.line.as_str().starts_with("{\"cksum\"");
-        if wanted.checksums.is_some() && !is_summed && !wanted.force {
-            let fault = Error::Other("the file of checksums has none of this crate");
-            return self.refuse(file, text, fault);
-        }
-        if let Some(folder) = wanted.layout {
-            return match add_to_index(self.rt, folder, &made) {
-                Ok(()) => Ok(Outcome::Done),
-                Err(fault) => self.refuse(file, "", fault),
-            };
-        }
-        let mut line = String::new(self.rt.alloc());
-        if wanted.with_names {
-            push_escaped(&mut line, file, Format::Line)?;
-            line.push_str("\t")?;
-        }
-        line.push_str(made.line.as_str())?;
-        self.put(line.as_str(), false)
     }
 
     /// The report on the workspace around a folder.
@@ -165,6 +153,27 @@ impl<'a, R: Files + Input + Print + Eprint + RandomSource + Clock + AllocGlobal>
                 None => self.refuse(folder, "", fault),
             },
         }
+    }
+
+    /// Tells why a file can't be read. For `check` and `lint` bytes that are no text are a finding.
+    fn refuse_unread(&mut self, request: &Request<'_>, file: &str, fault: Error) -> Answer {
+        let alloc = self.rt.alloc();
+        let line = match request {
+            Request::Check(_) if is_no_text(&fault) => no_text_line(alloc, file)?,
+            Request::Lint(_, judging) if is_no_text(&fault) => {
+                lint::no_text_line(alloc, file, judging)?
+            }
+            _ => return self.refuse(file, "", fault),
+        };
+        self.put(line.as_str(), true)
+    }
+
+    /// Tells why there is no file.
+    fn tell(&mut self, line: &str) -> Answer {
+        self.step()?;
+        self.clear()?;
+        eprint!(self.rt; "{line}")?;
+        Ok(Outcome::Refused)
     }
 
     /// Writes what came of a file.
@@ -217,6 +226,16 @@ fn text_of<R: Files + Input + AllocGlobal>(rt: &R, file: &str) -> Result<String,
     Ok(text)
 }
 
+/// The bytes of a file, or of standard input where the file is called `-`.
+fn bytes_of<R: Files + Input + AllocGlobal>(rt: &R, file: &str) -> io::Result<Vec<u8>> {
+    if file != "-" {
+        return fs::read(rt, file);
+    }
+    let mut bytes = Vec::new(rt.alloc());
+    rt.reader().read_to_end(&mut bytes)?;
+    Ok(bytes)
+}
+
 /// What is made of the text of a file, and whether it tells something odd.
 fn made_of<R: Files + RandomSource + AllocGlobal>(
     rt: &R,
@@ -225,14 +244,18 @@ fn made_of<R: Files + RandomSource + AllocGlobal>(
     text: &str,
 ) -> Result<(String, bool), Error> {
     let path = path_of(rt, file)?;
-    let path = path.as_str();
+    let source = Source {
+        path: path.as_str(),
+        text,
+        is_alone: request.inputs().is_some_and(|inputs| inputs.alone),
+    };
     let mut line = match request {
-        Request::Check(_) => return Ok(check_lines(rt, file, path, text)?),
-        Request::Show(_, false) => return Ok((toml_of(rt, path, text)?, false)),
-        Request::Lint(_, judging) => return lint_lines(rt, file, text, judging),
+        Request::Check(_) => return Ok(check_lines(rt, file, source)?),
+        Request::Show(_, false) => return Ok((toml_of(rt, source)?, false)),
+        Request::Lint(_, judging) => return lint::lint_lines(rt, file, text, judging),
         Request::Document(_, dot) => return Ok((document_text(rt, text, *dot)?, false)),
-        Request::Show(_, true) => json_of(rt, path, text)?,
-        _ => features_of(rt, path, text)?,
+        Request::Show(_, true) => json_of(rt, source)?,
+        _ => features_of(rt, source)?,
     };
     line.push_str("\n")?;
     Ok((line, false))

@@ -98,7 +98,7 @@ pub(crate) fn unread_above<R: Files + AllocGlobal>(
     folder: &str,
     fault: &Error,
 ) -> io::Result<Option<String>> {
-    if !matches!(fault, Error::Parse(_)) {
+    if !matches!(fault, Error::Parse(_) | Error::Other(_)) {
         return Ok(None);
     }
     let alloc = rt.alloc();
@@ -107,7 +107,7 @@ pub(crate) fn unread_above<R: Files + AllocGlobal>(
     for above in Path::new(start.as_str()).ancestors() {
         let file = file_of(alloc, here.as_str(), above.as_str())?;
         let read = manifest_in(rt, file.as_str());
-        if matches!(&read, Err(Error::Parse(_))) {
+        if matches!(&read, Err(Error::Parse(_) | Error::Other(_))) {
             return Ok(Some(file));
         }
         if let Ok(held) = &read {

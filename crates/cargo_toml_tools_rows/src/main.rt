@@ -4,29 +4,33 @@
 //! The words of the command line are the rows' folders, which end with KIND/NAME. A line for each
 //! says that all is as expected, or what came instead. The file `like` of a row leads to the folder
 //! of another, whose manifest or workspace it has too. The lines of a file `tree` make those of
-//! its row. Rows of `cases` and of `words` have neither. The kinds:
+//! its row. Rows of `cases`, `targets`, `words` and `layout` have neither. The kinds:
 //!
 //! - `check`, `show`, `features`, `index`, `lint`, `document`: what the tool prints.
 //! - `json`, `graph`: the same of `show --json` and `document --dot`.
 //! - `audit`, `report`: the report on a workspace as lines, and as JSON.
 //! - `findings`: what `lint` finds, without places, at the limit in `max` where that is there.
 //! - `cases`: what is at fault in many short texts.
+//! - `targets`: which names of targets are taken.
 //! - `words`: what command lines ask for.
+//! - `layout`: what becomes of the file of a crate in an index.
 #![tactic(auto)]
 
 mod cases;
 mod findings;
+mod layouts;
 mod packages;
+mod targets;
 mod words;
 
 use cargo_toml::Error;
 use cargo_toml_audit::auditing::audit_text;
 use cargo_toml_bench::templates::text_in;
 use cargo_toml_bench::tree::{fresh_folder, make_tree, remove_tree};
-use cargo_toml_check::check::{check_lines, refusal_lines};
+use cargo_toml_check::check::{check_lines, is_no_text, no_text_line, refusal_lines};
 use cargo_toml_check::files::{features_of, json_of, toml_of};
-use cargo_toml_check::lint::lint_lines;
-use cargo_toml_tools::files::{document_text, index_of};
+use cargo_toml_check::lint;
+use cargo_toml_tools::files::{Source, document_text, index_of};
 use cargo_toml_tools::index::{CRATES_IO, Options};
 use cargo_toml_tools::{Judging, Outcome, files};
 use packages::with_packages;
@@ -71,12 +75,12 @@ fn reported(
 fn told_of_index<R: Files + RandomSource + AllocGlobal>(
     rt: &R,
     row: &str,
-    file: &str,
-    text: &str,
+    source: Source<'_>,
 ) -> Result<String, Error> {
     let alloc = rt.alloc();
     let registry = text_in(rt, row, "registry")?;
     let checksum = text_in(rt, row, "checksum")?;
+    let folder = text_in(rt, row, "folder")?;
     let force = text_in(rt, row, "force")?.is_some();
     let listed = text_in(rt, row, "names")?.unwrap_or(String::new(alloc));
     let mut names = Vec::new(alloc);
@@ -91,20 +95,22 @@ fn told_of_index<R: Files + RandomSource + AllocGlobal>(
             .map_or(CRATES_IO, |text| text.as_str().trim_end()),
         names: names.as_slice(),
         checksum: checksum.as_ref().map(|text| text.as_str().trim_end()),
+        folder: folder.as_ref().map(|text| text.as_str().trim_end()),
         force,
     };
-    match index_of(rt, file, text, options, &BTreeMap::new(alloc)) {
+    match index_of(rt, source, options, &BTreeMap::new(alloc)) {
         Ok(indexed) => Ok(indexed.line),
-        Err(fault) => told(alloc, file, text, Err(fault)),
+        Err(fault) => told(alloc, source.path, source.text, Err(fault)),
     }
 }
 
-/// What came of a row of `lint`, with the options that stand beside its manifest.
+/// What came of a row of `lint`, with the options that stand beside its manifest. The manifest need
+/// not be text.
 fn told_of_lint<R: Files + RandomSource + AllocGlobal>(
     rt: &R,
     row: &str,
     file: &str,
-    text: &str,
+    text: Option<&str>,
 ) -> Result<(String, bool), Error> {
     let listed = text_in(rt, row, "allow")?.unwrap_or(String::new(rt.alloc()));
     let mut allowed = Vec::new(rt.alloc());
@@ -116,7 +122,28 @@ fn told_of_lint<R: Files + RandomSource + AllocGlobal>(
         denies_hints: text_in(rt, row, "deny-hints")?.is_some(),
         json: text_in(rt, row, "json")?.is_some(),
     };
-    lint_lines(rt, file, text, &judging)
+    match text {
+        Some(text) => lint::lint_lines(rt, file, text, &judging),
+        None => Ok((lint::no_text_line(rt.alloc(), file, &judging)?, true)),
+    }
+}
+
+/// What came of a row whose manifest can't be read.
+fn told_of_unread<R: Files + RandomSource + AllocGlobal>(
+    rt: &R,
+    kind: &str,
+    row: &str,
+    file: &str,
+    fault: Error,
+) -> Result<String, Error> {
+    let alloc = rt.alloc();
+    match kind {
+        "check" if is_no_text(&fault) => {
+            reported(alloc, file, Ok((no_text_line(alloc, file)?, true)))
+        }
+        "lint" if is_no_text(&fault) => reported(alloc, file, told_of_lint(rt, row, file, None)),
+        _ => told(alloc, file, "", Err(fault)),
+    }
 }
 
 /// What came of a row of which a file is looked at.
@@ -129,16 +156,21 @@ fn answer_of_file<R: Files + RandomSource + AllocGlobal>(
     let alloc = rt.alloc();
     let read = match files::text_in(rt, file) {
         Ok(text) => text,
-        Err(fault) => return told(alloc, file, "", Err(fault)),
+        Err(fault) => return told_of_unread(rt, kind, row, file, fault),
     };
     let text = read.as_str();
+    let source = Source {
+        path: file,
+        text,
+        is_alone: text_in(rt, row, "alone")?.is_some(),
+    };
     match kind {
-        "index" => told_of_index(rt, row, file, text),
-        "check" => reported(alloc, file, Ok(check_lines(rt, file, file, text)?)),
-        "lint" => reported(alloc, file, told_of_lint(rt, row, file, text)),
-        "show" => told(alloc, file, text, toml_of(rt, file, text)),
-        "json" => told(alloc, file, text, json_of(rt, file, text)),
-        "features" => told(alloc, file, text, features_of(rt, file, text)),
+        "index" => told_of_index(rt, row, source),
+        "check" => reported(alloc, file, Ok(check_lines(rt, file, source)?)),
+        "lint" => reported(alloc, file, told_of_lint(rt, row, file, Some(text))),
+        "show" => told(alloc, file, text, toml_of(rt, source)),
+        "json" => told(alloc, file, text, json_of(rt, source)),
+        "features" => told(alloc, file, text, features_of(rt, source)),
         "document" => told(alloc, file, text, document_text(rt, text, false)),
         "graph" => told(alloc, file, text, document_text(rt, text, true)),
         _ => Err(Error::Other("no such kind of row")),
@@ -214,7 +246,9 @@ fn line<R: Files + RandomSource + Eprint + AllocGlobal>(
     let expected = fs::read_to_string(rt, path.as_str())?;
     let made = match kind {
         "cases" => cases::lines(alloc, expected.as_str())?,
+        "targets" => targets::lines(alloc, expected.as_str())?,
         "words" => words::lines(alloc, expected.as_str())?,
+        "layout" => layouts::text(rt, row)?,
         _ => answer_of(rt, kind, row)?,
     };
     if made == expected {

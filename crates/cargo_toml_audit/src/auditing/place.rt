@@ -15,6 +15,7 @@ use crate::members::{is_absent, manifest_path};
 use cargo_toml::{Error, Manifest};
 use cargo_toml_lint::{AllocResult, Finding as Fault, Level};
 use cargo_toml_manifest::HeldManifest;
+use cargo_toml_shallow::complete_from_path;
 use cargo_toml_tools::files::{findings_of, manifest_in};
 use std::alloc::Global;
 use std::random::RandomSource;
@@ -105,7 +106,7 @@ impl<R: Files + RandomSource + AllocGlobal> At<'_, R> {
         let mut held = held;
         let path = manifest_path(alloc, self.place)?;
         let path = path.as_str();
-        if let Err(fault) = held.manifest.complete_from_path(self.rt, alloc, path) {
+        if let Err(fault) = complete_from_path(self.rt, alloc, path, &mut *held.manifest) {
             refuse(self.place, fault, findings)?;
         }
         Ok(())

@@ -2,7 +2,8 @@
 //!
 //! What the system answers is kept, and it is asked once of each path. So a clause speaks of any
 //! disk that answers so.
-ghost use Rattle.std.specs.Prelude.{◌≡◌, ◌&&◌, IfOk, map, not, string_bytes};
+ghost use Rattle.std.specs.Prelude.{◌≡◌, ◌&&◌, ◌-◌, IfErr, IfOk, length, map, not};
+ghost use Rattle.std.specs.Prelude.{string_bytes};
 ghost use Rattle.std.specs.{BTreeMap.IsEmpty, List.flat_map};
 ghost use Rattle.cargo_toml.specs.RealFiles.{is_absent};
 ghost use Rattle.cargo_toml_audit.specs.MemberFolders.{Tells, all_below, below, by_found, by_link};
@@ -11,14 +12,16 @@ ghost use Rattle.cargo_toml_audit.specs.MemberFolders.{is_unseen, led, matched, 
 ghost use Rattle.cargo_toml_audit.specs.MemberFolders.{places_if_right, places_once, subfolders};
 ghost use Rattle.cargo_toml_audit.specs.MemberFolders.{with_dots};
 ghost use Rattle.cargo_toml_audit.specs.Patterns.{begins_with_dot, part_of};
+ghost use Rattle.cargo_toml_audit.specs.{Limits.IsLookFault};
 
 use super::is_wrong;
 use super::patterns::{Token, is_deep, is_pattern, matches, tokens_of};
 use super::places::{begins_at, normalized, pieces, place_of};
 use super::sets::picked;
+use crate::limits::{LookResult, Steps};
 use cargo_toml_lint::AllocResult;
 use cargo_toml_parts::paths::join;
-use std::alloc::{AllocError, Global};
+use std::alloc::Global;
 use std::collections::BTreeMap;
 use std::rt::Files;
 use std::{fs, io};
@@ -63,9 +66,9 @@ pub struct Looking<'a, R> {
     pub rt: &'a R,
     /// What was answered.
     pub looks: Looks,
-    /// How many steps are left: one for a byte of a path, and for a name that is compared 256, and
-    /// one for each part of the pattern.
-    pub left: usize,
+    /// The steps that are left: one for a byte of a path that is asked for, and for a name that is
+    /// compared 256, and one for each part of the pattern.
+    pub steps: Steps,
 }
 
 impl<'a, R: Files + AllocGlobal> Looking<'a, R> {
@@ -78,18 +81,18 @@ impl<'a, R: Files + AllocGlobal> Looking<'a, R> {
             there: BTreeMap::new(rt.alloc()),
             names: BTreeMap::new(rt.alloc()),
         };
-        let left = MAX_STEPS;
-        Looking { rt, looks, left }
+        let steps = Steps::new();
+        Looking { rt, looks, steps }
     }
 
-    /// What lies at a path. Where no step is left it ends as if out of memory.
-    pub fn look_at(&mut self, path: &str) -> AllocResult<There>
-        ensures { IfOk result (λ t. Tells (λ d. d.there path.now) self.old.looks self.new.looks t) }
+    /// What lies at a path.
+    pub fn look_at(&mut self, path: &str) -> LookResult<There>
+        ensures told { IfOk result (λ t. Tells (λ d. d.there path.now)
+            self.old.looks self.new.looks t) }
+        ensures steps { self.new.steps.left ≡ self.old.steps.left - length path.now }
+        ensures refused { IfErr result (IsLookFault self.new.steps.left) }
     {
-        self.left = self.left.saturating_sub(path.len());
-        if self.left == 0 {
-            return Err(AllocError);
-        }
+        self.steps.take(path.len())?;
         if let Some(there) = self.looks.there.get(path) {
             return Ok(*there);
         }
@@ -101,12 +104,13 @@ impl<'a, R: Files + AllocGlobal> Looking<'a, R> {
     }
 
     /// The names of what lies in a folder, as far as it can be read.
-    fn names_in(&mut self, folder: &str) -> AllocResult<Vec<String>>
-        ensures { IfOk result (λ names. Tells (λ d. d.names folder.now)
+    fn names_in(&mut self, folder: &str) -> LookResult<Vec<String>>
+        ensures told { IfOk result (λ names. Tells (λ d. d.names folder.now)
             self.old.looks self.new.looks (map string_bytes names.items)) }
+        ensures refused { IfErr result (IsLookFault self.new.steps.left) }
     {
         if let Some(listing) = self.looks.names.get(folder) {
-            return listing.names.clone();
+            return Ok(listing.names.clone()?);
         }
         let listing = listed_in(self.rt, folder)?;
         let names = listing.names.clone()?;
@@ -118,10 +122,11 @@ impl<'a, R: Files + AllocGlobal> Looking<'a, R> {
 
     /// The places that the entries of a list in `root` lead to, one entry after the other, each
     /// once an entry. One that Cargo can't read leads nowhere.
-    pub fn listed(&mut self, root: &str, entries: &[String]) -> AllocResult<Vec<String>>
-        ensures { IfOk result (λ places. Tells
+    pub fn listed(&mut self, root: &str, entries: &[String]) -> LookResult<Vec<String>>
+        ensures told { IfOk result (λ places. Tells
             (λ d. flat_map (places_once d root.now) (map string_bytes entries.now))
             self.old.looks self.new.looks (map string_bytes places.items)) }
+        ensures refused { IfErr result (IsLookFault self.new.steps.left) }
     {
         let mut all = Vec::new(self.rt.alloc());
         for entry in entries {
@@ -134,9 +139,10 @@ impl<'a, R: Files + AllocGlobal> Looking<'a, R> {
 
     /// The places that an entry of a list in `root` leads to: folders that its names stand for.
     /// Where nothing lies there, it stands for itself. One that Cargo can't read leads nowhere.
-    pub fn places_of_entry(&mut self, root: &str, entry: &str) -> AllocResult<Vec<String>>
-        ensures { IfOk result (λ places. Tells (λ d. places_if_right d root.now entry.now)
+    pub fn places_of_entry(&mut self, root: &str, entry: &str) -> LookResult<Vec<String>>
+        ensures told { IfOk result (λ places. Tells (λ d. places_if_right d root.now entry.now)
             self.old.looks self.new.looks (map string_bytes places.items)) }
+        ensures refused { IfErr result (IsLookFault self.new.steps.left) }
     {
         let alloc = self.rt.alloc();
         let mut places = Vec::new(alloc);
@@ -159,10 +165,11 @@ impl<'a, R: Files + AllocGlobal> Looking<'a, R> {
 
     /// What names lead to from a path, right behind `**` where that is set. `**` leads no further,
     /// nor does the empty name right behind it where no other follows.
-    fn led(&mut self, from: (&str, bool), names: &[&str]) -> AllocResult<Vec<String>>
-        ensures { IfOk result (λ paths. Tells
+    fn led(&mut self, from: (&str, bool), names: &[&str]) -> LookResult<Vec<String>>
+        ensures told { IfOk result (λ paths. Tells
             (λ d. led d from.entry.1 (map (λ t. t.now) names.now) from.entry.0.now)
             self.old.looks self.new.looks (map string_bytes paths.items)) }
+        ensures refused { IfErr result (IsLookFault self.new.steps.left) }
     {
         let Some((name, others)) = names.split_first() else {
             return self.ended(from);
@@ -180,9 +187,10 @@ impl<'a, R: Files + AllocGlobal> Looking<'a, R> {
     }
 
     /// Where names end: the path itself, or behind `**` each folder below it.
-    fn ended(&mut self, from: (&str, bool)) -> AllocResult<Vec<String>>
-        ensures { IfOk result (λ paths. Tells (λ d. ended d from.entry.1 from.entry.0.now)
+    fn ended(&mut self, from: (&str, bool)) -> LookResult<Vec<String>>
+        ensures told { IfOk result (λ paths. Tells (λ d. ended d from.entry.1 from.entry.0.now)
             self.old.looks self.new.looks (map string_bytes paths.items)) }
+        ensures refused { IfErr result (IsLookFault self.new.steps.left) }
     {
         if from.1 {
             return self.all_below(from.0);
@@ -194,9 +202,11 @@ impl<'a, R: Files + AllocGlobal> Looking<'a, R> {
 
     /// What a name leads to from a path: right behind `**`, from that and from each folder below
     /// it.
-    fn further(&mut self, from: (&str, bool), name: &str) -> AllocResult<Vec<String>>
-        ensures { IfOk result (λ all. Tells (λ d. further d from.entry.1 name.now from.entry.0.now)
+    fn further(&mut self, from: (&str, bool), name: &str) -> LookResult<Vec<String>>
+        ensures told { IfOk result (λ all. Tells
+            (λ d. further d from.entry.1 name.now from.entry.0.now)
             self.old.looks self.new.looks (map string_bytes all.items)) }
+        ensures refused { IfErr result (IsLookFault self.new.steps.left) }
     {
         let mut all = self.further_in(from, name)?;
         if !from.1 {
@@ -212,10 +222,11 @@ impl<'a, R: Files + AllocGlobal> Looking<'a, R> {
 
     /// What a name leads to in a folder. One that is no pattern stands for itself, except right
     /// behind `**`, where it is compared with the names there.
-    fn further_in(&mut self, from: (&str, bool), name: &str) -> AllocResult<Vec<String>>
-        ensures { IfOk result (λ all. Tells
+    fn further_in(&mut self, from: (&str, bool), name: &str) -> LookResult<Vec<String>>
+        ensures told { IfOk result (λ all. Tells
             (λ d. further_in d from.entry.1 name.now from.entry.0.now)
             self.old.looks self.new.looks (map string_bytes all.items)) }
+        ensures refused { IfErr result (IsLookFault self.new.steps.left) }
     {
         let mut all = Vec::new(self.rt.alloc());
         if !from.1 && !is_pattern(name) {
@@ -232,35 +243,38 @@ impl<'a, R: Files + AllocGlobal> Looking<'a, R> {
     }
 
     /// What lies in a folder and has a name that the pattern matches.
-    fn matched(&mut self, from: (&str, bool), pattern: &[Token]) -> AllocResult<Vec<String>>
-        ensures { IfOk result (λ all. Tells
+    fn matched(&mut self, from: (&str, bool), pattern: &[Token]) -> LookResult<Vec<String>>
+        ensures told { IfOk result (λ all. Tells
             (λ d. matched d from.entry.1 (map part_of pattern.now) from.entry.0.now)
             self.old.looks self.new.looks (map string_bytes all.items)) }
+        ensures refused { IfErr result (IsLookFault self.new.steps.left) }
     {
         if self.look_at(from.0)? != There::Folder {
             return Ok(Vec::new(self.rt.alloc()));
         }
         let names = self.names_in(from.0)?;
         let steps = pattern.len().saturating_add(256);
-        self.left = self.left.saturating_sub(names.len().saturating_mul(steps));
+        self.steps.take(names.len().saturating_mul(steps))?;
         let names = with_dots(self.rt.alloc(), names, pattern, from.1)?;
-        named_so(self.rt.alloc(), from.0, pattern, names.as_slice())
+        Ok(named_so(self.rt.alloc(), from.0, pattern, names.as_slice())?)
     }
 
     /// The folders below one.
     #[tactic(auto, unfolding(crate::specs::MemberFolders::all_below))]
-    fn all_below(&mut self, folder: &str) -> AllocResult<Vec<String>>
-        ensures { IfOk result (λ all. Tells (λ d. all_below d folder.now)
+    fn all_below(&mut self, folder: &str) -> LookResult<Vec<String>>
+        ensures told { IfOk result (λ all. Tells (λ d. all_below d folder.now)
             self.old.looks self.new.looks (map string_bytes all.items)) }
+        ensures refused { IfErr result (IsLookFault self.new.steps.left) }
     {
         self.below(folder, MAX_DEPTH)
     }
 
     /// The folders below one, so many levels of them, each before those below it.
     #[tactic(auto, using(crate::proofs::Walked::below_more))]
-    fn below(&mut self, folder: &str, levels: usize) -> AllocResult<Vec<String>>
-        ensures { IfOk result (λ all. Tells (λ d. below d levels folder.now)
+    fn below(&mut self, folder: &str, levels: usize) -> LookResult<Vec<String>>
+        ensures told { IfOk result (λ all. Tells (λ d. below d levels folder.now)
             self.old.looks self.new.looks (map string_bytes all.items)) }
+        ensures refused { IfErr result (IsLookFault self.new.steps.left) }
     {
         let mut all = Vec::new(self.rt.alloc());
         if levels == 0 {
@@ -276,9 +290,10 @@ impl<'a, R: Files + AllocGlobal> Looking<'a, R> {
     }
 
     /// The folders that lie right in one.
-    fn subfolders(&mut self, folder: &str) -> AllocResult<Vec<String>>
-        ensures { IfOk result (λ all. Tells (λ d. subfolders d folder.now)
+    fn subfolders(&mut self, folder: &str) -> LookResult<Vec<String>>
+        ensures told { IfOk result (λ all. Tells (λ d. subfolders d folder.now)
             self.old.looks self.new.looks (map string_bytes all.items)) }
+        ensures refused { IfErr result (IsLookFault self.new.steps.left) }
     {
         let mut all = Vec::new(self.rt.alloc());
         if self.look_at(folder)? != There::Folder {
@@ -297,9 +312,6 @@ impl<'a, R: Files + AllocGlobal> Looking<'a, R> {
 
 /// How many folders deep `**` looks. The system takes no path that goes deeper.
 const MAX_DEPTH: usize = 2048;
-
-/// The steps of all entries. Patterns that lead up again, as `*/../*/..`, would take them for ever.
-const MAX_STEPS: usize = 128 * 1024 * 1024;
 
 fn asked<R: Files>(rt: &R, path: &str) -> There {
     match fs::metadata(rt, path) {

@@ -40,7 +40,8 @@ fn around(alloc: Global, fault: Error) -> Shown {
 
 /// The crate's own words before those of the system, of `toml` and of a workspace.
 pub fn before_inner_words(alloc: Global) -> Shown {
-    let absent = around(alloc, Error::from(io::Error::from(io::ErrorKind::NotFound)))?;
+    // A number of the system, which a copy that keeps the kind alone would lose.
+    let absent = around(alloc, Error::from(io::Error::from_raw_os_error(2)))?;
     let unread = match Value::from_str(alloc, "[package") {
         Ok(_) => String::new(alloc),
         Err(fault) => around(alloc, Error::from(fault))?,

@@ -4,12 +4,12 @@ ghost use Rattle.cargo_toml.specs.{Limits.MAX_ITEMS, Manifests.held, Parsed.IsPa
 ghost use Rattle.cargo_toml.specs.{Reached.IsKeyed, Views.answer_of};
 ghost use Rattle.cargo_toml_tools.specs.FromFiles.{IsDocumented, IsOfInput, IsUndocumented};
 
+use super::reading::manifest_of;
 use crate::document::{TakesRows, graph, rows};
 use cargo_toml::features::Features;
 use cargo_toml::{Error, Manifest};
 use cargo_toml_features::admit::MAX_ITEMS;
 use cargo_toml_lint::resolve_whole;
-use cargo_toml_manifest::HeldManifest;
 use std::hash::RandomState;
 use std::random::RandomSource;
 use toml::Value;
@@ -24,7 +24,7 @@ pub fn document<R: RandomSource + AllocGlobal, T: TakesRows>(
     ensures documented { OnOk result (IsDocumented T.took text.now taker.old taker.new) }
     ensures refused { IfErr result (IsUndocumented text.now) }
 {
-    let held = HeldManifest::from_str(rt.alloc(), text)?;
+    let held = manifest_of(rt.alloc(), text)?;
     let manifest = &*held.manifest;
     let resolved = resolved(rt, manifest)?;
     let rows = rows(rt.alloc(), manifest, &resolved.features)?;
@@ -43,7 +43,7 @@ pub fn document_text<R: RandomSource + AllocGlobal>(
     ensures { IfErr result (IsUndocumented text.now) }
 {
     if dot {
-        let held = HeldManifest::from_str(rt.alloc(), text)?;
+        let held = manifest_of(rt.alloc(), text)?;
         let resolved = resolved(rt, &*held.manifest)?;
         return Ok(graph(rt.alloc(), &*held.manifest, &resolved)?);
     }

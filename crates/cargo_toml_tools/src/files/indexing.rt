@@ -7,7 +7,8 @@ ghost use Rattle.cargo_toml_tools.specs.IndexedFiles.{WritesOwnWords, sum_of};
 ghost use Rattle.cargo_toml_tools.specs.Sections.{wanted_of};
 ghost use Rattle.cargo_toml_tools.specs.declared.files.indexing.Fault.TheVariants as fault;
 
-use super::reading::{completed_of, findings_of};
+use super::alone::{Source, completed_from};
+use super::reading::findings_of;
 use crate::index::{IndexError, Options, index_entry};
 use cargo_toml::{Error, Inheritable, Manifest};
 use cargo_toml_lint::AllocResult;
@@ -71,25 +72,24 @@ pub struct Indexed {
     pub line: String,
 }
 
-/// The line that an index has of the crate in this text of a file, which is completed first: an
-/// object of JSON. Its checksum is the one that is asked for, or else that of `NAME-VERSION.crate`
-/// among these. Refused where the text doesn't read or complete as a manifest, or the index doesn't
-/// take the crate.
+/// The line that an index has of the crate in a text, which is completed first: an object of JSON.
+/// Its checksum is the one that is asked for, or else that of `NAME-VERSION.crate` among these.
+/// Refused where the text doesn't read or complete as a manifest, or the index doesn't take the
+/// crate.
 pub fn index_of<R: Files + RandomSource + AllocGlobal>(
     rt: &R,
-    file: &str,
-    text: &str,
+    source: Source<'_>,
     options: Options<'_>,
     sums: &BTreeMap<&str, &str>,
 ) -> Result<Indexed, Fault>
-    ensures printed { IfOk result (λ indexed. IsLineOf file.now text.now
+    ensures printed { IfOk result (λ indexed. IsLineOf source.entry
         (wanted_of options.entry) (sum_at sums.now) (string_bytes indexed.name)
         (string_bytes indexed.line)) }
-    ensures named { OnOk result (IsSome (path_parent file.now)) }
-    ensures refused { IfErr result (IsIndexFault file.now text.now (wanted_of options.entry)) }
+    ensures named { OnOk result (IsSome (path_parent source.entry.path.now)) }
+    ensures refused { IfErr result (IsIndexFault source.entry (wanted_of options.entry)) }
 {
     let alloc = rt.alloc();
-    let held = completed_of(rt, file, text)?;
+    let held = completed_from(rt, source)?;
     let manifest = &*held.manifest;
     let found = sum_of(alloc, manifest, sums)?;
     let checksum = options.checksum.or(found);
@@ -98,7 +98,7 @@ pub fn index_of<R: Files + RandomSource + AllocGlobal>(
         checksum,
         ..options
     };
-    let entry = index_entry(alloc, manifest, text, findings.as_slice(), options)?;
+    let entry = index_entry(alloc, manifest, source.text, findings.as_slice(), options)?;
     let mut line = entry.to_string(alloc)?;
     line.push_str("\n")?;
     let name = name_of(alloc, manifest)?;

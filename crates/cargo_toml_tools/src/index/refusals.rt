@@ -1,26 +1,35 @@
 //! What an index refuses.
-ghost use Rattle.std.specs.Prelude.{◌≡◌, map, option_map, string_bytes};
+ghost use Rattle.std.specs.Prelude.{◌≡◌, IfOk, Some, map, option_map, string_bytes};
+ghost use Rattle.std.specs.Option.{option_copied};
 ghost use Rattle.std.specs.{Char.is_ascii_digit, List.list_all, List.list_any};
 ghost use Rattle.semver.specs.Identifiers.{parts_of};
 ghost use Rattle.toml.specs.View.{table_view, view};
 ghost use Rattle.cargo_toml.specs.{Dependencies.dependency_meaning, Inherits.inheritable_map};
 ghost use Rattle.cargo_toml.specs.{Packages.held_package, Settings.publish_meaning};
 ghost use Rattle.cargo_toml_tools.specs.Indexed.{are_numbers, entry_refusal, finding_refusal};
-ghost use Rattle.cargo_toml_tools.specs.Indexed.{first_refusal, in_package, is_named, is_number};
-ghost use Rattle.cargo_toml_tools.specs.Indexed.{is_2024, is_left_out, is_open, keeps_other_flag};
+ghost use Rattle.cargo_toml_tools.specs.Indexed.{first_refusal, folder_of, folder_refusal};
+ghost use Rattle.cargo_toml_tools.specs.Indexed.{has_other_flag};
+ghost use Rattle.cargo_toml_tools.specs.Indexed.{in_package, is_artifact, is_named, is_number};
+ghost use Rattle.cargo_toml_tools.specs.Indexed.{is_2024, is_left_out, is_open, keeps};
+ghost use Rattle.cargo_toml_tools.specs.Indexed.{naming_refusal};
 ghost use Rattle.cargo_toml_tools.specs.Indexed.{package_refusal, publish_refusal, rust_refusal};
-ghost use Rattle.cargo_toml_tools.specs.Indexed.{table_refusal, turns_off, version_refusal};
+ghost use Rattle.cargo_toml_tools.specs.Indexed.{is_padded, is_u64};
+ghost use Rattle.cargo_toml_tools.specs.Indexed.{table_refusal, target_refusal, turns_off};
+ghost use Rattle.cargo_toml_tools.specs.Indexed.{version_refusal};
+ghost use Rattle.cargo_toml_tools.specs.declared.index.refusals.Fault.TheVariants.{OtherCrate};
 ghost use Rattle.cargo_toml_tools.specs.Sections.{names_of, refused, table_of, wanted_of};
 
 use super::Options;
 use super::entry::has_default;
-use super::registries::{CRATES_IO, address_named, elsewhere, source_of};
+use super::platform::is_target;
+use super::registries::{CRATES_IO, address_named, elsewhere, is_same, source_of};
 use super::sections::{Section, flag_in, table_in};
 use crate::requirement::required_version;
 use cargo_toml::features::Kind;
 use cargo_toml::{Dependency, Edition, Inheritable, Package, Publish, SemVer};
-use cargo_toml_lint::{Finding, Level, is_package_name};
+use cargo_toml_lint::{AllocResult, Finding, Level, is_package_name};
 use cargo_toml_parts::read::member;
+use std::alloc::Global;
 use toml::{Table, Value};
 
 /// What an index doesn't take.
@@ -32,12 +41,18 @@ pub enum Fault {
     BadName,
     /// The package states no version.
     NoVersion,
+    /// The folder is another crate's than the manifest says.
+    OtherCrate,
     /// What has this key is left to the workspace: the manifest isn't completed.
     Incomplete,
+    /// Cargo doesn't take the target of this name.
+    BadTarget,
     /// The table of this name, which has `_` for `-`, isn't read.
     OtherTable,
     /// The dependency of this key has `default_features`, which isn't read.
     OtherFlag,
+    /// The dependency of this key has `artifact`, `lib` or `target`, which stable Cargo refuses.
+    Artifact,
     /// The dependency of this key turns off its workspace's default features, in edition 2024.
     TurnsOff,
     /// The dependency of this key has no version.
@@ -46,8 +61,8 @@ pub enum Fault {
     NoAddress,
     /// The dependency of this key is of another registry, which crates.io doesn't take.
     OtherRegistry,
-    /// The package's `rust-version` isn't one to three numbers, with dots between and no zeros in
-    /// front.
+    /// The package's `rust-version` isn't one to three numbers of 64 bits, with dots between and no
+    /// zeros in front.
     OddRust,
     /// The package isn't published in the registry.
     NotPublished,
@@ -60,8 +75,61 @@ pub(super) type Refusal<'a> = (Fault, &'a str);
 /// The options, and whether the package is of edition 2024.
 type Terms<'a> = (Options<'a>, bool);
 
-/// The first refusal of a package, which was read from this document, and of its tables of
-/// dependencies. `findings` is what lint finds of its features.
+/// The refusal of the name of a package, which was read from this document, or of its version.
+pub(super) fn naming_refusal<M>(package: &Package<M>, document: &Table) -> Option<Refusal<'static>>
+    ensures { option_map refused result
+        ≡ naming_refusal (table_view document.now) (held_package «package».now) }
+{
+    if !is_package_name(package.name.as_str()) {
+        return Some((Fault::BadName, ""));
+    }
+    version_refusal(&package.version, document)
+}
+
+/// The name of the folder, and that of the folder that the package's own archive unpacks to, where
+/// these differ.
+pub(super) fn other_crate<M>(
+    alloc: Global,
+    package: &Package<M>,
+    folder: Option<&str>,
+) -> AllocResult<Option<String>>
+    ensures { IfOk result (λ names. option_map (λ t. (OtherCrate, string_bytes t)) names
+        ≡ folder_refusal (option_copied folder.entry) (folder_of (held_package «package».now))) }
+{
+    let Some(folder) = folder else {
+        return Ok(None);
+    };
+    match folder_of(alloc, package)? {
+        Some(own) => differing(alloc, folder, own.as_str()),
+        None => Ok(None),
+    }
+}
+
+/// The name of the folder that a package's archive unpacks to.
+fn folder_of<M>(alloc: Global, package: &Package<M>) -> AllocResult<Option<String>>
+    ensures { IfOk result (λ own. option_map string_bytes own
+        ≡ folder_of (held_package «package».now)) }
+{
+    let Inheritable::Set(version) = &package.version else {
+        return Ok(None);
+    };
+    let name = package.name.as_str();
+    Ok(Some(format!(in alloc; "{name}-{version}")?))
+}
+
+/// Two names of folders, where they differ.
+fn differing(alloc: Global, folder: &str, own: &str) -> AllocResult<Option<String>>
+    ensures { IfOk result (λ names. option_map (λ t. (OtherCrate, string_bytes t)) names
+        ≡ folder_refusal (Some folder.now) (Some own.now)) }
+{
+    if folder == own {
+        return Ok(None);
+    }
+    Ok(Some(format!(in alloc; "{folder}, {own}")?))
+}
+
+/// The first refusal of a package that is well named, which was read from this document, and of its
+/// tables of dependencies. `findings` is what lint finds of its features.
 pub(super) fn package_refusal<'a, M>(
     package: &'a Package<M>,
     document: &'a Table,
@@ -73,12 +141,6 @@ pub(super) fn package_refusal<'a, M>(
         findings.now (table_view document.now) (map table_of sections.now)
         (held_package «package».now) }
 {
-    if !is_package_name(package.name.as_str()) {
-        return Some((Fault::BadName, ""));
-    }
-    if let Some(refusal) = version_refusal(&package.version, document) {
-        return Some(refusal);
-    }
     let terms = (options, is_2024(&package.edition));
     if let Some(refusal) = tables_refusal(terms, sections) {
         return Some(refusal);
@@ -139,15 +201,24 @@ fn are_numbers(text: &str) -> bool
     are_few & text.split('.').all(is_number)
 }
 
-/// Whether a text is a number: decimal digits, with no zero in front of another.
+/// Whether a text is a number of 64 bits: decimal digits, with no zero in front of another.
 fn is_number(text: &str) -> bool
     ensures { result ≡ is_number text.now }
 {
-    let digits = text.as_bytes();
-    if digits.len() > 1 && digits[0] == b'0' {
-        return false;
-    }
-    !digits.is_empty() && are_digits(digits)
+    !is_padded(text.as_bytes()) && is_u64(text)
+}
+
+/// Whether a zero stands in front of another byte.
+fn is_padded(digits: &[u8]) -> bool
+    ensures { result ≡ is_padded digits.now }
+{
+    digits.len() > 1 && digits[0] == b'0'
+}
+
+fn is_u64(text: &str) -> bool
+    ensures { result ≡ is_u64 text.now }
+{
+    are_digits(text.as_bytes()) && text.parse::<u64>().is_ok()
 }
 
 fn are_digits(bytes: &[u8]) -> bool
@@ -180,6 +251,9 @@ fn table_refusal<'a>(terms: Terms<'a>, section: &'a Section<'a>) -> Option<Refus
     ensures { option_map refused result
         ≡ table_refusal (wanted_of terms.entry.0) terms.entry.1 (table_of section.now) }
 {
+    if let Some(refusal) = target_refusal(section.target) {
+        return Some(refusal);
+    }
     if let Some(name) = section.other_name {
         return Some((Fault::OtherTable, name));
     }
@@ -189,6 +263,16 @@ fn table_refusal<'a>(terms: Terms<'a>, section: &'a Section<'a>) -> Option<Refus
         }
     }
     None
+}
+
+/// The refusal of the name of a target.
+fn target_refusal(target: Option<&str>) -> Option<Refusal<'_>>
+    ensures { option_map refused result ≡ target_refusal (option_copied target.entry) }
+{
+    match target {
+        Some(name) if !is_target(name) => Some((Fault::BadTarget, name)),
+        _ => None,
+    }
 }
 
 /// The refusal of a dependency.
@@ -204,8 +288,10 @@ fn entry_refusal<'a>(
 {
     if matches!(dependency, Dependency::Inherited(_)) {
         Some((Fault::Incomplete, key))
-    } else if flag_in(section, key, "default_features").is_some() || keeps_other_flag(dependency) {
+    } else if has_other_flag(section, key, dependency) {
         Some((Fault::OtherFlag, key))
+    } else if is_artifact(dependency) {
+        Some((Fault::Artifact, key))
     } else if terms.1 && turns_off(section, key, dependency) {
         Some((Fault::TurnsOff, key))
     } else if is_left_out(section.kind, dependency) {
@@ -217,7 +303,8 @@ fn entry_refusal<'a>(
         if source.is_none() {
             Some((Fault::NoAddress, key))
         } else {
-            let is_other = terms.0.registry == CRATES_IO && elsewhere(CRATES_IO, source).is_some();
+            let is_public = is_same(terms.0.registry, CRATES_IO);
+            let is_other = is_public && elsewhere(CRATES_IO, source).is_some();
             is_other.then_some((Fault::OtherRegistry, key))
         }
     }
@@ -232,12 +319,27 @@ fn turns_off(section: &Section<'_>, key: &str, dependency: &Dependency) -> bool
     has_default(section, key, dependency) & !flag.and_then(Value::as_bool).unwrap_or(true)
 }
 
-/// Whether what a dependency inherits has `default_features`.
-fn keeps_other_flag(dependency: &Dependency) -> bool
-    ensures { result ≡ keeps_other_flag (dependency_meaning dependency.now) }
+/// Whether an entry, or what it inherits, has `default_features`.
+fn has_other_flag(section: &Section<'_>, key: &str, dependency: &Dependency) -> bool
+    ensures { result ≡ has_other_flag (table_of section.now).written key.now
+        (dependency_meaning dependency.now) }
+{
+    flag_in(section, key, "default_features").is_some() || keeps(dependency, "default_features")
+}
+
+/// Whether a dependency has a key of those on artifacts.
+fn is_artifact(dependency: &Dependency) -> bool
+    ensures { result ≡ is_artifact (dependency_meaning dependency.now) }
+{
+    keeps(dependency, "artifact") || keeps(dependency, "lib") || keeps(dependency, "target")
+}
+
+/// Whether a dependency, or what it inherits, has this key, which the library doesn't read.
+fn keeps(dependency: &Dependency, key: &str) -> bool
+    ensures { result ≡ keeps key.now (dependency_meaning dependency.now) }
 {
     match dependency {
-        Dependency::Detailed(detail) => detail.unstable.contains_key("default_features"),
+        Dependency::Detailed(detail) => detail.unstable.contains_key(key),
         _ => false,
     }
 }
@@ -287,8 +389,10 @@ fn names_registry(options: Options<'_>, names: &[String]) -> bool
         (names_of options.entry.names.now)) (map string_bytes names.now) }
 {
     for name in names {
-        if address_named(options.names, name.as_str()) == Some(options.registry) {
-            return true;
+        if let Some(address) = address_named(options.names, name.as_str()) {
+            if is_same(address, options.registry) {
+                return true;
+            }
         }
     }
     false

@@ -1,7 +1,9 @@
 //! The addresses of registries.
-ghost use Rattle.std.specs.{Prelude.◌≡◌, Option.option_copied};
+ghost use Rattle.std.specs.{Prelude.◌≡◌, Prelude.codes, Option.option_copied};
 ghost use Rattle.cargo_toml.specs.Dependencies.{dependency_meaning};
-ghost use Rattle.cargo_toml_tools.specs.Indexed.{address_named, elsewhere, source_of};
+ghost use Rattle.cargo_toml.specs.Action.{without_end, without_start};
+ghost use Rattle.cargo_toml_tools.specs.Indexed.{address_named, bare, elsewhere, is_same};
+ghost use Rattle.cargo_toml_tools.specs.Indexed.{source_of};
 ghost use Rattle.cargo_toml_tools.specs.Sections.{names_of};
 
 use cargo_toml::Dependency;
@@ -40,9 +42,41 @@ pub(super) fn address_named<'a>(names: &'a [Named<'a>], name: &str) -> Option<&'
     (name == "crates-io").then_some(CRATES_IO)
 }
 
+/// Whether two addresses are of one registry: `sparse+` in front and a last `/` don't count.
+pub(super) fn is_same(one: &str, other: &str) -> bool
+    ensures { result ≡ is_same one.now other.now }
+{
+    bare(one) == bare(other)
+}
+
+/// An address without `sparse+` in front and a last `/`.
+fn bare(address: &str) -> &str
+    ensures { result.now ≡ bare address.now }
+{
+    without_slash(without_sparse(address))
+}
+
+fn without_sparse(address: &str) -> &str
+    ensures { result.now ≡ without_start (codes "sparse+") address.now }
+{
+    match address.strip_prefix("sparse+") {
+        Some(rest) => rest,
+        None => address,
+    }
+}
+
+fn without_slash(address: &str) -> &str
+    ensures { result.now ≡ without_end (codes "/") address.now }
+{
+    match address.strip_suffix("/") {
+        Some(rest) => rest,
+        None => address,
+    }
+}
+
 /// An address, unless it is the registry's own.
 pub(super) fn elsewhere<'a>(own: &str, address: Option<&'a str>) -> Option<&'a str>
     ensures { option_copied result ≡ elsewhere own.now (option_copied address.entry) }
 {
-    address.filter(|address| *address != own)
+    address.filter(|address| !is_same(address, own))
 }

@@ -1,10 +1,10 @@
 use Rattle.cargo_toml_audit.proofs.Cited.{[], ap, base_of, entered_places, filter, flat_map, found_in_lists, is_excluded, is_in, listed_places, map, map-append, not, oddities_of, places_once, string_bytes, ◌++◌, ◌∙◌, ◌∷◌, ◌≡◌}
 use Rattle.cargo_toml_audit.proofs.auditing.read_lists.Goals as goal
 
-pub returns : goal.returns
-returns g c = λ d agrees.
+pub returns-clause-listed : goal.returns-clause-listed
+returns-clause-listed g c = λ d agrees.
     let base = base_of c.args.root in
-    let all = c.in_ok-all.ensures d agrees in
+    let all = c.in_ok-all.ensures.told d agrees in
     let listed : map string_bytes c.in_ok-all.all.items ≡ listed_places base d =
     all.1 ∙ ap (λ es. flat_map (places_once d base.place) (map string_bytes es)) c.as_slice.ensures.value in
     let taken = ap (map string_bytes) c.as_slice-2.ensures.value ∙ listed in

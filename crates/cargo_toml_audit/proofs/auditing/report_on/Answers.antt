@@ -1,4 +1,4 @@
-use Rattle.cargo_toml_audit.proofs.Cited.{AreListed, AreRead, Audit, Base, Bool, Finding, Gain, Global, IsReport, Known, List, Looks, String, Takes, Text, Vec, Walks, [], ap, append-nil, append_assoc, arith, base_of, contains_text, dependency_meaning, disk_of, found_beside, gain_of_all, held_in, map, map_meaning, oddities_of, only_found, overall_oddities, string_bytes, subst, ◌++◌, ◌∙◌, ◌≡◌}
+use Rattle.cargo_toml_audit.proofs.Cited.{Agrees, AreListed, AreRead, Audit, Base, Bool, Finding, Gain, Global, IsReport, Known, List, Looks, String, Takes, Text, Vec, Walks, [], ap, append-nil, append_assoc, arith, base_of, contains_text, dependency_meaning, disk_of, found_beside, gain_of_all, held_in, map, map_meaning, oddities_of, only_found, overall_oddities, string_bytes, subst, ◌++◌, ◌∙◌, ◌≡◌}
 use Rattle.cargo_toml_audit.proofs.Walked.{disk_agrees}
 use Rattle.cargo_toml_audit.proofs.auditing.report_on.Goals as goal
 
@@ -37,10 +37,11 @@ reported base asked looks lists members begun walked ended listed beside empty a
 pub returns-clause-report : goal.returns-clause-report
 returns-clause-report g c =
     let looks = c.find_beside.new.looking.looks in
-    let beside = c.in_ok-find_beside.ensures (disk_of looks) (disk_agrees looks) in
+    let beside = c.in_ok-find_beside.ensures.found (disk_of looks) (disk_agrees looks) in
+    let before = subst (Agrees (disk_of looks)) c.in_ok-known.ensures.looks beside.0 in
     let ended : IsReport (base_of c.args.root) c.args.asked.now c.finish.new.self =
     reported (base_of c.args.root) c.args.asked.now looks c.in_ok-lists.lists _ c.new-audit.result c.add_members.new.audit c.finish.new.self
-    c.read_lists.new.findings c.find_beside.new.findings c.new-audit.ensures.empty (c.in_ok-lists.ensures (disk_of looks) beside.0).1
+    c.read_lists.new.findings c.find_beside.new.findings c.new-audit.ensures.empty (c.in_ok-lists.ensures.listed (disk_of looks) before).1
     c.in_ok-known.ensures.walked beside.1 c.in_ok-finish.ensures in
     record { looks = ended.looks; readings = ended.readings; read = ended.read; members = ended.members; found = ended.found }
 

@@ -3,6 +3,6 @@ use Rattle.cargo_toml_check.proofs.features.are_cut_targets.Goals as goal
 
 pub returns : goal.returns
 returns c =
-    any_from_yields_List (λ t. is_cut_target (target_meaning t)) _ _ _ c.any.ensures.ran (YieldsList-from_rest _ c.values.ensures.rest) (λ x b q k. search (rules, tests))
-    ∙ any_map (λ t. is_cut_target (target_meaning t)) (λ e. e.1) c.args.targets.now.entries
-    ∙ sym (any_map (λ t. is_cut_target t.1) (λ e. (string_bytes e.0, target_meaning e.1)) c.args.targets.now.entries)
+    any_from_yields_List (λ t. is_cut_target c.args.limit (target_meaning t)) _ _ _ c.any.ensures.ran (YieldsList-from_rest _ c.values.ensures.rest) (λ x b q k. search (rules, tests))
+    ∙ any_map (λ t. is_cut_target c.args.limit (target_meaning t)) (λ e. e.1) c.args.targets.now.entries
+    ∙ sym (any_map (λ t. is_cut_target c.args.limit t.1) (λ e. (string_bytes e.0, target_meaning e.1)) c.args.targets.now.entries)

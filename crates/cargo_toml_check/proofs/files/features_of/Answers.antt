@@ -8,7 +8,7 @@ returns-in_err-held-clause-refused g c =
     rw (p.1, p.2) (inl c.in_err-held.ensures.refused)
 
 pub returns-clause-listed : goal.returns-clause-listed
-returns-clause-listed g c = shown_of _ _ _ _ c.in_ok-held.ensures.completed c.deref.ensures _ (IsListed) c.listing_of.ensures.listed
+returns-clause-listed g c = shown_of _ _ _ c.in_ok-held.ensures.completed c.deref.ensures _ (IsListed) c.listing_of.ensures.listed
 
 pub returns-clause-refused : goal.returns-clause-refused
-returns-clause-refused g c = refused_of _ _ _ _ c.in_ok-held.ensures.completed c.deref.ensures _ (λ _. IsOfInput) c.listing_of.ensures.refused
+returns-clause-refused g c = refused_of _ _ _ c.in_ok-held.ensures.completed c.deref.ensures _ (λ _. IsOfInput) c.listing_of.ensures.refused

@@ -8,7 +8,7 @@ returns-in_err-held-clause-refused g c =
     rw (p.1, p.2) (inl c.in_err-held.ensures.refused)
 
 pub returns-clause-shown : goal.returns-clause-shown
-returns-clause-shown g c = shown_of _ _ _ _ c.in_ok-held.ensures.completed c.deref.ensures _ (λ m. IsShownAsJson (manifest_meaning view m)) c.manifest_json.ensures.shown
+returns-clause-shown g c = shown_of _ _ _ c.in_ok-held.ensures.completed c.deref.ensures _ (λ m. IsShownAsJson (manifest_meaning view m)) c.manifest_json.ensures.shown
 
 pub returns-clause-refused : goal.returns-clause-refused
-returns-clause-refused g c = refused_of _ _ _ _ c.in_ok-held.ensures.completed c.deref.ensures _ (λ m. IsUnshown (manifest_meaning view m)) c.manifest_json.ensures.refused
+returns-clause-refused g c = refused_of _ _ _ c.in_ok-held.ensures.completed c.deref.ensures _ (λ m. IsUnshown (manifest_meaning view m)) c.manifest_json.ensures.refused

@@ -8,7 +8,7 @@ returns-in_err-completed-clause-refused g c =
     rw (p.1, p.2) (inl c.in_err-completed.ensures.refused)
 
 pub returns-clause-shown : goal.returns-clause-shown
-returns-clause-shown g c = shown_of _ _ _ _ c.in_ok-completed.ensures.completed c.deref.ensures _ (λ m. IsShown (manifest_meaning view m)) c.manifest_toml.ensures.shown
+returns-clause-shown g c = shown_of _ _ _ c.in_ok-completed.ensures.completed c.deref.ensures _ (λ m. IsShown (manifest_meaning view m)) c.manifest_toml.ensures.shown
 
 pub returns-clause-refused : goal.returns-clause-refused
-returns-clause-refused g c = refused_of _ _ _ _ c.in_ok-completed.ensures.completed c.deref.ensures _ (λ m. IsUnshown (manifest_meaning view m)) c.manifest_toml.ensures.refused
+returns-clause-refused g c = refused_of _ _ _ c.in_ok-completed.ensures.completed c.deref.ensures _ (λ m. IsUnshown (manifest_meaning view m)) c.manifest_toml.ensures.refused

@@ -3,7 +3,7 @@ use Rattle.cargo_toml_tools.proofs.files.documenting.document.Goals as goal
 pub returns-clause-documented : goal.returns-clause-documented
 returns-clause-documented g c = record {
   manifest = c.deref-manifest.result.now;
-  read = record { utf8 = c.utf8.text; reads = rw c.deref-manifest.ensures c.in_ok-held.ensures };
+  read = rw c.deref-manifest.ensures c.in_ok-held.ensures.read;
   features = c.in_ok-resolved.resolved;
   whole = c.in_ok-resolved.ensures.whole;
   rows = c.as_slice.result.now;

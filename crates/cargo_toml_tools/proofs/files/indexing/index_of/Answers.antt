@@ -43,7 +43,7 @@ returns-clause-printed g c = record {
   named = named_so _ _ _ _ _ c.in_ok-entry.ensures.taken c.in_ok-name.ensures;
   line = view c.in_ok-entry.entry;
   is =
-      subst (λ s. Some (view c.in_ok-entry.entry) ≡ index_data (record (wanted_of c.args.options) { checksum = s }) c.args.text.now (held c.deref-manifest.result.now))
+      subst (λ s. Some (view c.in_ok-entry.entry) ≡ index_data (record (wanted_of c.args.options) { checksum = s }) c.args.source.text.now (held c.deref-manifest.result.now))
       (ap option_copied c.or-checksum.ensures ∙ or_copied _ _ ∙ ap (option_or (option_copied c.args.options.checksum)) c.in_ok-found.ensures)
       c.in_ok-entry.ensures.entry;
   spelled = string_bytes c.in_ok-line.line;

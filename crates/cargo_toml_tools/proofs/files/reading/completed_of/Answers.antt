@@ -4,7 +4,7 @@ use Rattle.cargo_toml_tools.proofs.files.reading.completed_of.Goals as goal
 pub returns-clause-completed : goal.returns-clause-completed
 returns-clause-completed g c = record {
   read = c.deref_mut.result.now;
-  written = record { utf8 = c.utf8.text; reads = rw c.deref_mut.ensures.value c.in_ok-held.ensures };
+  written = rw c.deref_mut.ensures.value c.in_ok-held.ensures.read;
   completed = c.in_ok-complete_from_path.ensures.completed;
 }
 
@@ -12,4 +12,4 @@ pub returns-in_err-complete_from_path-clause-refused : goal.returns-in_err-compl
 returns-in_err-complete_from_path-clause-refused g c =
     let p = err_from_is_err_and c.from_residual-in_err-complete_from_path.result c.from_residual-in_err-complete_from_path.ensures.1 in
     rw (p.1, p.2)
-    (inr (c.deref_mut.result.now, (rw c.deref_mut.ensures.value c.in_ok-held.ensures, c.in_err-complete_from_path.ensures.refused)))
+    (inr (c.deref_mut.result.now, (rw c.deref_mut.ensures.value c.in_ok-held.ensures.read, c.in_err-complete_from_path.ensures.refused)))

@@ -124,13 +124,16 @@ class Scripts(Job):
     """The scripts, which say how many checks they made."""
 
     def __init__(self):
-        # they also try the programs, where these are built
+        # they also try the programs and the library, where these are built
         built = [f"{CRATES}/{it}/out/{it}" for it in ("cargo_toml_cli", "cargo_toml_tools_cli")]
+        built.append(f"{CRATES}/cargo_toml_c/out/libcargo_toml.so")
         super().__init__("scripts/check", ROOT, [f"{SCRIPTS}/check"], [*files_below(ROOT), *built])
 
     def judge(self, status, out, said):
         found = re.search(r"(?m)^scripts/check: (\d+) checks, (\d+) failed$", out)
         self.passed = int(found[1]) - int(found[2]) if found else 0
+        left = re.findall(r"(?m)^scripts/[\w-]+: not tried: (.*?)(?:, which (.*))?$", out)
+        self.skipped = {what: why or "it can't be tried here" for what, why in left}
         told = re.split(r"(?m)^scripts/check: FAILED: ", out)[1:]
         self.failed = dict(it.partition("\n")[::2] for it in told)
         if status and not self.failed:

@@ -5,15 +5,15 @@ import re
 import subprocess
 
 # The crates that stand behind what is in an archive.
-TOPS = ["cargo_toml_cli", "cargo_toml_tools_cli"]
+TOPS = ["cargo_toml_cli", "cargo_toml_tools_cli", "cargo_toml_c"]
 FUNCTION = re.compile(r"(?m)^\s*(?:pub(?:\([a-z ]+\))? )?(?:const )?(?:extern \"C\" )?fn \w+")
 HEAD = """Rueanvil's cargo_toml {version}
 
 Made of commit {commit}, with the kit `{kit}`.
 
 Each function of the crates below is proved: it returns, does nothing undefined, and meets each
-clause of its contract, as far as the contracts go. docs/PROVED.md says how far. A program is
-built only of crates whose every function is proved. The gate, `./test --proved`, also
+clause of its contract, as far as the contracts go. docs/PROVED.md says how far. A program or a
+library is built only of crates whose every function is proved. The gate, `./test --proved`, also
 has the checker refuse {bodies} wrong bodies, and runs the tests.
 
 Functions, as the sources have them, closures and what derives write not counted:
@@ -21,9 +21,10 @@ Functions, as the sources have them, closures and what derives write not counted
 """
 TAIL = """
 Trusted: the toolchain of the kit, the C library, and what the kit's std, toml, toml_datetime,
-toml_parser, semver, serde_json, clap, sha2, hex and unicode_ident state.
+toml_parser, semver, serde_json, json, clap, sha2 and unicode_ident state.
 
-Neither proved nor tested: the pages of the manual and the completions.
+Tested, not proved: the packages for Rust and Python, the header for C, the pages of the manual and
+the completions.
 
 To check this archive, make it again: check out the commit, run `./release OUT` with that kit, and
 compare the checksums. They are the same.

@@ -19,6 +19,8 @@ SIGNALS = (signal.SIGINT, signal.SIGTERM, signal.SIGHUP, signal.SIGQUIT)
 class Program:
     """The program, its crate and its repository."""
 
+    kind = "program"
+
     def __init__(self, launcher, crate, called):
         # the path of its script, and how that was called
         self.launcher, self.called = launcher, called
@@ -31,13 +33,22 @@ class Program:
     def say(self, text):
         print(f"{self.name}: {text}", file=sys.stderr, flush=True)
 
-    def asked(self, script, crate=None):
-        """Whether a script that is asked about the program's crate, or about another one, says yes,
+    def asked(self, script, *words):
+        """Whether a script that is asked about the program's crate, or by these words, says yes,
         and what it prints."""
-        words = [f"{self.root}/scripts/{script}", self.root, crate or self.crate]
+        words = [f"{self.root}/scripts/{script}", self.root, *(words or [self.crate])]
         how = {"stdin": subprocess.DEVNULL, "stdout": subprocess.PIPE, "text": True}
         ran = subprocess.run(words, check=False, **how)
         return ran.returncode == 0, ran.stdout.strip()
+
+    def is_fresh(self):
+        """Whether it is built and newer than its sources, and else why it isn't."""
+        return self.asked("stale")
+
+    def made_of(self, _, folder):
+        """What the proofs in a copy have built, as a list of files, and what was said of that."""
+        made = f"{folder}/crates/{self.crate}/out/{self.crate}"
+        return [made] * os.path.isfile(made), ""
 
     def build_time(self):
         return f"some {self.minutes('build'):g} minutes on four cores"

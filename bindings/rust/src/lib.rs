@@ -1,0 +1,27 @@
+//! Reads a `Cargo.toml`, completes it and resolves its features, by a proved library.
+//!
+//! Each call is a function of what it is given. It reads no file, keeps nothing, and may be made
+//! from several threads at once. What the library answers is proved; this package, which hands it
+//! on, is tested.
+//!
+//! ```
+//! let text = "[features]\nfast = ['dep:log']\n\
+//!     [dependencies]\nlog = { version = '1', optional = true }\n";
+//! let answer = cargo_toml_proved::Resolver::new().parse(text)?;
+//! assert!(answer.features["fast"].enables_deps["log"].is_dep_only);
+//! # Ok::<(), cargo_toml_proved::Error>(())
+//! ```
+#![deny(missing_docs, unsafe_code)]
+#![warn(clippy::pedantic)]
+
+mod answers;
+mod calls;
+mod error;
+mod resolver;
+#[allow(unsafe_code)]
+mod sys;
+
+pub use answers::{DepAction, DocumentedFeature, Enabled, Feature, Features, Finding};
+pub use calls::{check, complete, document, index, lint, read, version, Workspace};
+pub use error::{Error, Fault};
+pub use resolver::{Resolver, MAX_ITEMS};

@@ -1,0 +1,34 @@
+-- What is answered of what was made of a text, and why that is refused.
+use Rattle.std.proofs.Common.{Err, Global, IfErr, IfOk, Ok, Result, String, subst, ◌≡◌}
+use Rattle.cargo_toml.specs.{Action.Text, Error.Error}
+use Rattle.cargo_toml.specs.Completing.{Meets, Outcome, gives, no_workspace, refuses, untold}
+use Rattle.cargo_toml_answers.specs.Refused.{IsAnswered, IsRefusal, IsRefusalFor}
+use Rattle.cargo_toml_answers.specs.declared.refusal.Refusal.{Refusal}
+use Rattle.cargo_toml_answers.specs.declared.refusal.Refusal.TheVariants as refusal
+
+-- a refusal for fewer causes
+pub refusal_weaker : (bad worse : Type 0) (why more : Error → Type 0) (r : Refusal) → (bad → worse) → ((e : Error) → why e → more e) → IsRefusalFor bad why r → IsRefusalFor worse more r
+refusal_weaker bad worse why more refusal.Memory b w h = tt
+refusal_weaker bad worse why more (refusal.Argument json) b w h = (b h.0, h.1)
+refusal_weaker bad worse why more (refusal.Text json) b w h = (h.0, w h.0 h.1.0, h.1.1)
+
+-- the same of an argument, whatever the causes of others are
+pub argument_weaker : (bad worse : Type 0) (tells : Text → Type 0) (r : Refusal) → (bad → worse) → IsRefusal bad (λ _. ⊥) r → IsRefusal worse tells r
+argument_weaker bad worse tells refusal.Memory b h = tt
+argument_weaker bad worse tells (refusal.Argument json) b h = (b h.0, h.1)
+argument_weaker bad worse tells (refusal.Text json) b h = absurd h
+
+pub answered_ok : (made : Result (String Global) Error) (r : Result (String Global) Refusal) (P : String Global → Type 0) → IsAnswered made r → IfOk made P → IfOk r P
+answered_ok made (Ok json) P same made_so = subst (λ m. IfOk m P) same made_so
+answered_ok made (Err x) P same made_so = tt
+
+pub answered_err : (made : Result (String Global) Error) (r : Result (String Global) Refusal) (bad : Type 0) (why more : Error → Type 0) → ((e : Error) → why e → more e) → IsAnswered made r → IfErr made why → IfErr r (IsRefusalFor bad more)
+answered_err made (Ok json) bad why more w same refused = tt
+answered_err made (Err x) bad why more w same refused = refusal_weaker ⊥ bad (λ e. made ≡ Err e) more x (λ b. absurd b) (λ e is. w e (subst (λ m. IfErr m why) is refused)) same
+
+-- a refusal meets an outcome, whatever a success is
+pub meets_err : {T U A : Type 0} (f : T → A) (g : U → A) (o : Outcome A) (e : Error) → Meets f o (Err e) → Meets g o (Err e)
+meets_err f g untold e h = tt
+meets_err f g (gives x) e h = h
+meets_err f g (refuses faults) e h = h
+meets_err f g (no_workspace path) e h = h

@@ -1,0 +1,22 @@
+use Rattle.std.proofs.Common.{IfErr, IfOk, inl, inr, string_bytes, subst, ◌≡◌}
+use Rattle.std.proofs.lemmas.Result.{err_from_is_err_and}
+use Rattle.cargo_toml.specs.Error.{Memory}
+use Rattle.cargo_toml_answers.specs.Answered.{IsDocumented, IsRefusedFor, Reads}
+use Rattle.cargo_toml_answers.specs.Refused.{IsRefusalFor}
+use Rattle.cargo_toml_answers.proofs.Answering.{answered_err, answered_ok, refusal_weaker}
+use Rattle.cargo_toml_answers.proofs.documenting.document.Goals as goal
+
+pub returns-in_err-text-clause-refused : goal.returns-in_err-text-clause-refused
+returns-in_err-text-clause-refused c =
+    let p = err_from_is_err_and c.from_residual.result c.from_residual.ensures.1 in
+    rw (p.1, p.2) (refusal_weaker _ _ _ _ _ (λ b. b) (λ e why. inl why) c.in_err-text.ensures.refused)
+
+pub returns-clause-documented : goal.returns-clause-documented
+returns-clause-documented c =
+    subst (λ t. IfOk c.answered.result (λ json. Reads t (λ m. IsDocumented m (string_bytes json)))) c.in_ok-text.ensures.same
+    (answered_ok _ _ _ c.answered.ensures c.documented.ensures.documented)
+
+pub returns-clause-refused : goal.returns-clause-refused
+returns-clause-refused c =
+    subst (λ t. IfErr c.answered.result (IsRefusalFor ⊥ (IsRefusedFor t (λ _ e. e ≡ Memory)))) c.in_ok-text.ensures.same
+    (answered_err _ _ _ _ _ (λ e why. inr why) c.answered.ensures c.documented.ensures.refused)

@@ -1,5 +1,6 @@
 -- Tokens that are written one after another.
-use Rattle.std.proofs.Common.{AllocError, Bor, Global, IfOk, List, Ok, Result, String, [], append-nil, string_bytes, subst, ap, append_assoc, map, refl, sym, ◌++◌, ◌∙◌, ◌∷◌, ◌≡◌}
+use Rattle.std.proofs.Common.{Bor, Global, IfOk, List, Ok, Result, String, [], append-nil, string_bytes, subst, ap, append_assoc, map, refl, sym, ◌++◌, ◌∙◌, ◌∷◌, ◌≡◌}
+use Rattle.std.specs.declared.alloc.AllocError.{AllocError}
 use Rattle.cargo_toml.specs.Action.{Text}
 use Rattle.std.proofs.lemmas.Result.{IfOk-weaker}
 use Rattle.json.specs.Print.{print}

@@ -25,6 +25,7 @@ pub fn check(alloc: Global, text: &[u8]) -> Result<String, Refusal>
 }
 
 fn faults_of(alloc: Global, text: &str) -> AllocResult<String>
+    requires { is_too_deep text.now ≡ false }
     ensures { IfOk result (λ json. IsChecked text.now (string_bytes json)) }
 {
     let faults = faults_in(alloc, text)?;

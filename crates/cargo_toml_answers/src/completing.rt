@@ -10,9 +10,8 @@ ghost use Rattle.cargo_toml_depth.specs.Nesting.{is_too_deep};
 use crate::archive::Archive;
 use crate::refusal::Refusal;
 use crate::showing::shown;
-use crate::texts::{answered, argument, readable};
+use crate::texts::{answered, argument, manifest_in, readable};
 use cargo_toml::{Error, Value};
-use cargo_toml_manifest::HeldManifest;
 use std::alloc::Global;
 
 /// What stands around a manifest.
@@ -75,12 +74,13 @@ fn completed(
     paths: &str,
     root: Option<(&str, &str)>,
 ) -> Result<String, Error>
+    requires { is_too_deep text.now ≡ false }
     ensures completed { IfOk result (λ json. Reads text.now (λ m. CompletesTo paths.now
         (option_map (λ r. (r.0.now, r.1.now)) root.entry) m (string_bytes json))) }
     ensures refused { IfErr result (IsRefusedText text.now (λ m e. (e ≡ Memory)
         ⊎ IsUncompleted paths.now (option_map (λ r. (r.0.now, r.1.now)) root.entry) m e)) }
 {
-    let mut held = HeldManifest::from_str(alloc, text)?;
+    let mut held = manifest_in(alloc, text)?;
     let archive = Archive::new(alloc, paths, root)?;
     let manifest = &mut *held.manifest;
     manifest.complete_from_abstract_filesystem::<Value, _>(alloc, archive, None)?;

@@ -9,11 +9,10 @@ ghost use Rattle.cargo_toml_answers.specs.Refused.{IsRefusalFor};
 ghost use Rattle.cargo_toml_depth.specs.Nesting.{is_too_deep};
 
 use crate::refusal::Refusal;
-use crate::texts::{Keys, answered, readable};
+use crate::texts::{Keys, answered, manifest_in, readable};
 use crate::writing::{Put, put_list, put_member, text_of, writer};
 use cargo_toml::{Error, Manifest};
 use cargo_toml_lint::{AllocResult, MAX_ITEMS, resolve_whole};
-use cargo_toml_manifest::HeldManifest;
 use cargo_toml_tools::document::{Row, rows};
 use json::Writer;
 use std::alloc::Global;
@@ -35,11 +34,12 @@ pub fn document(alloc: Global, text: &[u8], keys: Keys) -> Result<String, Refusa
 }
 
 fn documented(alloc: Global, text: &str, keys: Keys) -> Result<String, Error>
+    requires { is_too_deep text.now ≡ false }
     ensures documented { IfOk result
         (λ json. Reads text.now (λ m. IsDocumented m (string_bytes json))) }
     ensures refused { IfErr result (IsRefusedText text.now (λ _ e. e ≡ Memory)) }
 {
-    let held = HeldManifest::from_str(alloc, text)?;
+    let held = manifest_in(alloc, text)?;
     rows_of(alloc, &*held.manifest, keys)
 }
 

@@ -8,11 +8,10 @@ ghost use Rattle.cargo_toml_answers.specs.Answered.{wanted_with};
 ghost use Rattle.cargo_toml_answers.specs.Refused.{IsRefusal};
 ghost use Rattle.cargo_toml_depth.specs.Nesting.{is_too_deep};
 
-use crate::refusal::{Refusal, bad_argument, refuse_with};
-use crate::texts::{Keys, argument, readable};
-use cargo_toml::{Error, Manifest};
+use crate::refusal::{Refusal, bad_argument, refuse, refuse_with};
+use crate::texts::{Keys, argument, manifest_in, readable};
+use cargo_toml::Manifest;
 use cargo_toml_lint::lint;
-use cargo_toml_manifest::HeldManifest;
 use cargo_toml_tools::files::Fault;
 use cargo_toml_tools::index::{CRATES_IO, IndexError, Options, index_entry};
 use cargo_toml_tools::is_checksum;
@@ -47,8 +46,9 @@ fn refuse_fault(alloc: Global, text: &str, fault: &Fault) -> Refusal
     ensures { IsRefusal ⊥ (TellsOfFault fault.now) result }
 {
     match fault {
-        Fault::Manifest(Error::Memory) | Fault::Index(IndexError::Memory) => Refusal::Memory,
-        _ => refuse_with(alloc, text, fault),
+        Fault::Manifest(fault) => refuse(alloc, text, fault),
+        Fault::Index(IndexError::Memory) => Refusal::Memory,
+        Fault::Index(fault) => refuse_with(alloc, text, fault),
     }
 }
 
@@ -77,12 +77,13 @@ fn options_with<'a>(checksum: Option<&'a str>) -> Options<'a>
 }
 
 fn line_of(alloc: Global, text: &str, checksum: Option<&str>, keys: Keys) -> Result<String, Fault>
+    requires { is_too_deep text.now ≡ false }
     ensures indexed { IfOk result (λ json. Reads text.now (λ m.
         IsIndexed text.now (wanted_with (option_copied checksum.entry)) m (string_bytes json))) }
     ensures refused { IfErr result
         (IsUnindexed text.now (wanted_with (option_copied checksum.entry))) }
 {
-    let held = HeldManifest::from_str(alloc, text)?;
+    let held = manifest_in(alloc, text)?;
     entry_of(alloc, text, &*held.manifest, checksum, keys)
 }
 

@@ -8,13 +8,12 @@ ghost use Rattle.cargo_toml_answers.specs.Refused.{IsRefusalFor};
 ghost use Rattle.cargo_toml_depth.specs.Nesting.{is_too_deep};
 
 use crate::refusal::Refusal;
-use crate::texts::{Keys, answered, readable};
+use crate::texts::{Keys, answered, manifest_in, readable};
 use crate::writing::{put_member, text_of, writer};
 use cargo_toml::{Error, Manifest};
 use cargo_toml_check::lint::{Line, lines_of};
 use cargo_toml_check::places::cut;
 use cargo_toml_lint::{AllocResult, lint as findings_of};
-use cargo_toml_manifest::HeldManifest;
 use json::Writer;
 use std::alloc::Global;
 
@@ -34,10 +33,11 @@ pub fn lint(alloc: Global, text: &[u8], keys: Keys) -> Result<String, Refusal>
 }
 
 fn findings(alloc: Global, text: &str, keys: Keys) -> Result<String, Error>
+    requires { is_too_deep text.now ≡ false }
     ensures told { IfOk result (λ json. Reads text.now (λ _. AreTold (string_bytes json))) }
     ensures refused { IfErr result (IsRefusedText text.now (λ _ e. e ≡ Memory)) }
 {
-    let held = HeldManifest::from_str(alloc, text)?;
+    let held = manifest_in(alloc, text)?;
     told(alloc, text, &*held.manifest, keys)
 }
 

@@ -16,14 +16,13 @@ ghost use Rattle.cargo_toml_depth.specs.Nesting.{is_too_deep};
 
 use crate::refusal::{Refusal, bad_argument};
 use crate::sets::{ended_by, set_of};
-use crate::texts::{Keys, answered, argument, readable};
+use crate::texts::{Keys, answered, argument, manifest_in, readable};
 use crate::writing::{Put, put_list, put_member, text_of, writer};
 use cargo_toml::features::{DepAction, Feature, Features, Resolver};
 use cargo_toml::{Error, Manifest};
 use cargo_toml_check::features::is_cut;
 use cargo_toml_features::texts::keys_in_order;
 use cargo_toml_lint::AllocResult;
-use cargo_toml_manifest::HeldManifest;
 use json::Writer;
 use std::alloc::Global;
 use std::collections::{BTreeSet, HashMap};
@@ -74,13 +73,14 @@ fn listing_of(
     max_items: usize,
     keys: Keys,
 ) -> Result<String, Error>
-    requires { 1 ≤ max_items }
+    requires shallow { is_too_deep text.now ≡ false }
+    requires counts { 1 ≤ max_items }
     ensures listed { IfOk result (λ json. (keep : Text → Bool)
         → ((name : Text) → contains_text kept name ≡ keep name)
         → Reads text.now (λ m. IsListed max_items keep m (string_bytes json))) }
     ensures refused { IfErr result (IsRefusedText text.now (λ _ e. e ≡ Memory)) }
 {
-    let held = HeldManifest::from_str(alloc, text)?;
+    let held = manifest_in(alloc, text)?;
     listed(alloc, &*held.manifest, kept, max_items, keys)
 }
 

@@ -10,12 +10,11 @@ ghost use Rattle.cargo_toml_answers.specs.Refused.{IsRefusalFor};
 ghost use Rattle.cargo_toml_depth.specs.Nesting.{is_too_deep};
 
 use crate::refusal::Refusal;
-use crate::texts::{answered, readable};
+use crate::texts::{answered, manifest_in, readable};
 use crate::writing::{text_of, writer};
 use cargo_toml::{Error, Manifest};
 use cargo_toml_check::show::tree_of;
 use cargo_toml_lint::AllocResult;
-use cargo_toml_manifest::HeldManifest;
 use json::Writer;
 use std::alloc::Global;
 use toml::value::Array;
@@ -38,12 +37,13 @@ pub fn manifest(alloc: Global, text: &[u8]) -> Result<String, Refusal>
 }
 
 fn manifest_of(alloc: Global, text: &str) -> Result<String, Error>
+    requires { is_too_deep text.now ≡ false }
     ensures shown { IfOk result (λ json. Reads text.now
         (λ m. IsShownIn (manifest_meaning view m) (string_bytes json))) }
     ensures refused { IfErr result
         (IsRefusedText text.now (λ m. IsUnshown (manifest_meaning view m))) }
 {
-    let held = HeldManifest::from_str(alloc, text)?;
+    let held = manifest_in(alloc, text)?;
     shown(alloc, &*held.manifest)
 }
 

@@ -15,4 +15,4 @@ returns c =
     let written = text_is c.text_of.result _ _ (object (member (codes "faults") (faults_json ts) no_members)) c.in_ok-out.ensures.before c.in_ok-out.ensures.tokens
     (then (one c.in_ok-begin_object.ensures) (then faults (one c.in_ok-end_object.ensures))) c.text_of.ensures in
     IfOk-weaker c.text_of.result _ (λ json. IsChecked c.args.text.now (string_bytes json))
-    (λ json is. record { faults = ts; silent = c.in_ok-faults.ensures.silent; printed = is }) written
+    (λ json is. record { faults = ts; silent = (λ none. (c.in_ok-faults.ensures.silent.0 none).1, λ reads. c.in_ok-faults.ensures.silent.1 (c.requires, reads)); printed = is }) written

@@ -12,19 +12,19 @@ texts root = option_map (λ r. (r.0.now, r.1.now)) root
 pub returns-in_err-held-clause-refused : goal.returns-in_err-held-clause-refused
 returns-in_err-held-clause-refused c =
     let p = err_from_is_err_and c.from_residual.result c.from_residual.ensures.1 in
-    rw (p.1, p.2) (inl c.in_err-held.ensures)
+    rw (p.1, p.2) (inl c.in_err-held.ensures.refused)
 
 pub returns-in_err-archive-clause-refused : goal.returns-in_err-archive-clause-refused
 returns-in_err-archive-clause-refused c =
     let p = err_from_is_err_and c.from_residual-in_err-archive.result c.from_residual-in_err-archive.ensures.1 in
-    rw p.1 (inr (record { manifest = c.in_ok-held.held.manifest.value; written = record { utf8 = c.utf8.text; reads = c.in_ok-held.ensures }; exact = inl p.2 }))
+    rw p.1 (inr (record { manifest = c.in_ok-held.held.manifest.value; written = c.in_ok-held.ensures.read; exact = inl p.2 }))
 
 pub returns-in_err-complete_from_abstract_filesystem-clause-refused : goal.returns-in_err-complete_from_abstract_filesystem-clause-refused
 returns-in_err-complete_from_abstract_filesystem-clause-refused c =
     let p = err_from_is_err_and c.from_residual-in_err-complete_from_abstract_filesystem.result c.from_residual-in_err-complete_from_abstract_filesystem.ensures.1 in
     rw (p.1, p.2) (inr (record {
       manifest = c.deref_mut-manifest.result.now;
-      written = record { utf8 = c.utf8.text; reads = rw c.deref_mut-manifest.ensures.value c.in_ok-held.ensures };
+      written = rw c.deref_mut-manifest.ensures.value c.in_ok-held.ensures.read;
       exact = inr (record {
         files = c.in_ok-archive.archive.files;
         listed = c.in_ok-archive.ensures.files;
@@ -37,7 +37,7 @@ returns-clause-completed c =
     IfOk-weaker c.shown.result _ (λ json. Reads c.args.text.now (λ m. CompletesTo c.args.paths.now (texts c.args.root) m (string_bytes json)))
     (λ json shown. record {
       manifest = c.deref_mut-manifest.result.now;
-      written = record { utf8 = c.utf8.text; reads = rw c.deref_mut-manifest.ensures.value c.in_ok-held.ensures };
+      written = rw c.deref_mut-manifest.ensures.value c.in_ok-held.ensures.read;
       exact = record {
         files = c.in_ok-archive.archive.files;
         listed = c.in_ok-archive.ensures.files;
@@ -52,7 +52,7 @@ returns-clause-refused c =
     IfErr-weaker c.shown.result _ (IsRefusedText c.args.text.now (λ m e. (e ≡ Memory) ⊎ IsUncompleted c.args.paths.now (texts c.args.root) m e))
     (λ e unshown. inr (record {
       manifest = c.deref_mut-manifest.result.now;
-      written = record { utf8 = c.utf8.text; reads = rw c.deref_mut-manifest.ensures.value c.in_ok-held.ensures };
+      written = rw c.deref_mut-manifest.ensures.value c.in_ok-held.ensures.read;
       exact = inr (record {
         files = c.in_ok-archive.archive.files;
         listed = c.in_ok-archive.ensures.files;

@@ -8,12 +8,12 @@ use Rattle.cargo_toml_answers.proofs.documenting.documented.Goals as goal
 pub returns-in_err-held-clause-refused : goal.returns-in_err-held-clause-refused
 returns-in_err-held-clause-refused c =
     let p = err_from_is_err_and c.from_residual.result c.from_residual.ensures.1 in
-    rw (p.1, p.2) (inl c.in_err-held.ensures)
+    rw (p.1, p.2) (inl c.in_err-held.ensures.refused)
 
 pub returns-clause-documented : goal.returns-clause-documented
-returns-clause-documented c = read_ok c.args.text.now c.in_ok-held.held.manifest.value _ (record { utf8 = c.utf8.text; reads = c.in_ok-held.ensures }) c.deref.ensures _
+returns-clause-documented c = read_ok c.args.text.now c.in_ok-held.held.manifest.value _ c.in_ok-held.ensures.read c.deref.ensures _
     (λ m json. IsDocumented m (string_bytes json)) c.rows_of.ensures.documented
 
 pub returns-clause-refused : goal.returns-clause-refused
-returns-clause-refused c = read_err c.args.text.now c.in_ok-held.held.manifest.value _ (record { utf8 = c.utf8.text; reads = c.in_ok-held.ensures }) c.deref.ensures _
+returns-clause-refused c = read_err c.args.text.now c.in_ok-held.held.manifest.value _ c.in_ok-held.ensures.read c.deref.ensures _
     (λ m e. e ≡ Memory) c.rows_of.ensures.refused

@@ -16,4 +16,4 @@ returns g c =
     let written = text_is c.text_of.result _ _ (object (member (codes "faults") (faults_json ts) (member (codes "words") (string words) no_members))) c.in_ok-out.ensures.before c.in_ok-out.ensures.tokens
     (then (one c.in_ok-begin_object.ensures) (then faults (then said (one c.in_ok-end_object.ensures)))) c.text_of.ensures in
     IfOk-weaker c.text_of.result _ (λ json. HasWords (λ words. IfSome (g.D.Display.output c.args.fault.now) (λ t. words ≡ t)) (string_bytes json))
-    (λ json is. record { words = words; said = c.in_ok-words.ensures; faults = ts; written = is }) written
+    (λ json is. record { words = words; said = c.in_ok-words.ensures.ok; faults = ts; written = is }) written

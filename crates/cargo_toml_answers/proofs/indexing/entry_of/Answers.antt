@@ -15,4 +15,4 @@ returns-clause-indexed c = record {
 pub returns-in_err-entry-clause-refused : goal.returns-in_err-entry-clause-refused
 returns-in_err-entry-clause-refused c =
     let p = err_from_is_err_and c.from_residual-in_err-entry.result c.from_residual-in_err-entry.ensures.1 in
-    rw (p.1, p.2) (c.in_ok-findings.findings.items, c.in_ok-findings.ensures.exact, rw c.as_slice.ensures.value at c.in_err-entry.ensures.refused)
+    rw (p.1, p.2) (c.in_ok-findings.findings.items, (c.in_ok-findings.ensures.exact, rw c.as_slice.ensures.value at c.in_err-entry.ensures.refused))

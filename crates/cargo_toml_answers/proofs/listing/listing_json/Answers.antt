@@ -16,4 +16,4 @@ returns g c =
     (then (one c.in_ok-begin_object.ensures) (then c.in_ok-put_member.ensures (then (one c.in_ok-key.ensures) (then left.1.1
     (then (one c.in_ok-key-2.ensures) (then removed.1.1 (one c.in_ok-end_object.ensures))))))) c.text_of.ensures in
     IfOk-weaker c.text_of.result _ (λ json. (all : Data) × (IsListing c.args.cut c.args.features.now all × (string_bytes json ≡ compact_text all)))
-    (λ json is. (all, record { features = left.0; each = left.1.0; hidden = removed.0; removed = removed.1.0; whole = refl }, is)) written
+    (λ json is. (all, (record { features = left.0; each = left.1.0; hidden = removed.0; removed = removed.1.0; whole = refl }, is))) written

@@ -12,6 +12,5 @@ returns g c =
     let row = λ (k : Bor Text). row_at g.X.Put.json c.args.found.now k.now in
     on_ok_weaker c.put_named.result (λ adds. (
       object (with_rows (flat_map row c.in_ok-names.names.keys) no_members),
-      record { names = c.in_ok-names.names; exact = c.in_ok-names.ensures; members = refl },
-      adds,
+      (record { names = c.in_ok-names.names; exact = c.in_ok-names.ensures; members = refl }, adds),
     )) c.put_named.ensures

@@ -1,5 +1,5 @@
 -- What is handed out of what came of a call, by its status.
-use Rattle.std.proofs.Common.{Err, Global, IfErr, IfOk, List, Ok, OnOk, Result, String, absurd, ap, arith, drop, inl, inr, length, min, string_bytes, sym, take, ℕ, ◌++◌, ◌∙◌, ◌≡◌, ◌≢◌}
+use Rattle.std.proofs.Common.{Err, Global, IfErr, IfOk, List, Ok, OnOk, Result, String, ap, arith, drop, inl, inr, length, min, string_bytes, sym, take, ℕ, ◌++◌, ◌∙◌, ◌≡◌, ◌≢◌}
 use Rattle.std.proofs.lemmas.Bool.{cases_lt}
 use Rattle.std.proofs.lemmas.List.{drop_all, take_all}
 use Rattle.cargo_toml.specs.Action.{Text}

@@ -1,4 +1,4 @@
-use Rattle.std.proofs.Common.{IfErr, IfOk, Option, absurd, ap, inl, inr, string_bytes, subst, ◌∙◌, ◌≡◌, ◌⊎◌}
+use Rattle.std.proofs.Common.{IfErr, IfOk, Option, ap, inl, inr, string_bytes, subst, ◌∙◌, ◌≡◌, ◌⊎◌}
 use Rattle.std.proofs.lemmas.Result.{err_from_is_err_and}
 use Rattle.std.specs.Prelude.{IsUtf8}
 use Rattle.cargo_toml.specs.{Action.Text, Error.Memory}

@@ -1,4 +1,4 @@
-use Rattle.std.proofs.Common.{Bor, Option, absurd, ap, inl, inr, string_bytes, subst, sym, ◌∙◌, ◌≡◌}
+use Rattle.std.proofs.Common.{Bor, Option, ap, inl, inr, string_bytes, subst, sym, ◌∙◌, ◌≡◌}
 use Rattle.std.proofs.lemmas.Result.{err_from_is_err_and}
 use Rattle.std.proofs.lemmas.Str.{IsUtf8-nil}
 use Rattle.std.specs.Prelude.{IsUtf8}

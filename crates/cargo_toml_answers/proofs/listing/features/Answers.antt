@@ -1,4 +1,4 @@
-use Rattle.std.proofs.Common.{Bor, IfErr, IfOk, List, absurd, ap, bytes_eq, inl, inr, map, nat_eq, string_bytes, subst, ◌∙◌, ◌≡◌, ◌⊎◌, ◌≤◌, ◌^◌}
+use Rattle.std.proofs.Common.{Bor, IfErr, IfOk, List, ap, bytes_eq, inl, inr, map, nat_eq, string_bytes, subst, ◌∙◌, ◌≡◌, ◌⊎◌, ◌≤◌, ◌^◌}
 use Rattle.std.proofs.lemmas.Result.{IfOk-weaker, err_from_is_err_and}
 use Rattle.std.specs.BTreeSet.{contains_text}
 use Rattle.std.specs.List.{list_any, slice_split}

@@ -1,4 +1,4 @@
-use Rattle.std.proofs.Common.{IfErr, IfOk, absurd, inl, inr, string_bytes, subst}
+use Rattle.std.proofs.Common.{IfErr, IfOk, inl, inr, string_bytes, subst}
 use Rattle.std.proofs.lemmas.Result.{err_from_is_err_and}
 use Rattle.toml.specs.View.{view}
 use Rattle.cargo_toml.specs.Manifests.{manifest_meaning}

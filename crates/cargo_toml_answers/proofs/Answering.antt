@@ -17,8 +17,8 @@ pub refusal_weaker : (bad worse : Type 0) (why more : Error → Type 0) (r : Ref
 refusal_weaker bad worse why more r b w h = weaker bad worse (λ json. (e : Error) × (why e × TellsOf e json)) (λ json. (e : Error) × (more e × TellsOf e json)) r b (λ json told. (told.0, (w told.0 told.1.0, told.1.1))) h
 
 -- the same of an argument, whatever the causes of others are
-pub argument_weaker : (bad worse : Type 0) (tells : Text → Type 0) (r : Refusal) → (bad → worse) → IsRefusal bad (λ _. ⊥) r → IsRefusal worse tells r
-argument_weaker bad worse tells r b h = weaker bad worse (λ _. ⊥) tells r b (λ json none. absurd none) h
+pub argument_weaker : (bad worse : Type 0) (why : Error → Type 0) (r : Refusal) → (bad → worse) → IsRefusal bad (λ _. ⊥) r → IsRefusalFor worse why r
+argument_weaker bad worse why r b h = weaker bad worse (λ _. ⊥) (λ json. (e : Error) × (why e × TellsOf e json)) r b (λ json none. absurd none) h
 
 pub answered_ok : (made : Result (String Global) Error) (r : Result (String Global) Refusal) (P : String Global → Type 0) → IsAnswered made r → IfOk made P → IfOk r P
 answered_ok made (Ok json) P same made_so = subst (λ m. IfOk m P) same made_so

@@ -140,9 +140,14 @@ abbrev pub TellsOfFault : Fault → Text → Type 0
 TellsOfFault (fault.Manifest e) json = TellsOf e json
 TellsOfFault (fault.Index e) json = HasWords (λ _. ⊤) json
 
--- the refusal of a text that isn't read or not indexed, or of a checksum that is none
-abbrev pub IsIndexRefusal : Text → Text → Refusal → Type 0
-IsIndexRefusal text checksum r = IsRefusal (¬ (checksum ≡ [])) (λ json.
+-- the object tells why a text isn't read, or not indexed with this checksum
+abbrev pub TellsOfIndex : Text → Text → Text → Type 0
+TellsOfIndex text checksum json =
     ((e : Error) × (IsUnread text e × TellsOf e json))
     ⊎ ((f : Fault) × (IsUnindexed text (wanted_with (checksum_of checksum)) f
-    × TellsOfFault f json))) r
+    × TellsOfFault f json))
+
+-- the refusal for that, or of a checksum that is none
+abbrev pub IsIndexRefusal : Text → Text → Refusal → Type 0
+IsIndexRefusal text checksum r =
+    IsRefusal (¬ (checksum ≡ [])) (TellsOfIndex text checksum) r

@@ -1,12 +1,15 @@
 use Rattle.std.proofs.Common.{IfErr, IfOk, Option, ap, inl, inr, string_bytes, subst, ◌∙◌, ◌≡◌, ◌⊎◌}
 use Rattle.std.proofs.lemmas.Result.{err_from_is_err_and}
 use Rattle.std.specs.Prelude.{IsUtf8}
-use Rattle.cargo_toml.specs.{Action.Text, Error.Memory}
+use Rattle.cargo_toml.specs.{Action.Text, Error.Error, Error.Memory}
 use Rattle.cargo_toml_answers.specs.Answered.{IsRefusedFor, Reads}
 use Rattle.cargo_toml_answers.specs.Archived.{CompletesTo, IsUncompleted, given}
 use Rattle.cargo_toml_answers.specs.Refused.{IsRefusalFor, IsUnread}
 use Rattle.cargo_toml_answers.proofs.Answering.{answered_err, answered_ok, argument_weaker, refusal_weaker}
 use Rattle.cargo_toml_answers.proofs.completing.complete.Goals as goal
+
+abbrev IsUncomplete : Text → Text → Text → Text → Error → Type 0
+IsUncomplete text paths root root_path e = IsUnread root e ⊎ IsRefusedFor text (λ m e. (e ≡ Memory) ⊎ IsUncompleted paths (given root root_path) m e) e
 
 pub returns-in_err-text-clause-refused : goal.returns-in_err-text-clause-refused
 returns-in_err-text-clause-refused c =
@@ -21,12 +24,12 @@ returns-in_err-root-clause-refused c =
 pub returns-in_err-paths-clause-refused : goal.returns-in_err-paths-clause-refused
 returns-in_err-paths-clause-refused c =
     let p = err_from_is_err_and c.from_residual-in_err-paths.result c.from_residual-in_err-paths.ensures.1 in
-    rw (p.1, p.2) (argument_weaker _ _ _ _ (λ b. inl b) c.in_err-paths.ensures.refused)
+    rw (p.1, p.2) (argument_weaker _ _ (IsUncomplete c.args.text.now c.args.around.paths.now c.args.around.root.now c.args.around.root_path.now) _ (λ b. inl b) c.in_err-paths.ensures.refused)
 
 pub returns-in_err-path-clause-refused : goal.returns-in_err-path-clause-refused
 returns-in_err-path-clause-refused c =
     let p = err_from_is_err_and c.from_residual-in_err-path.result c.from_residual-in_err-path.ensures.1 in
-    rw (p.1, p.2) (argument_weaker _ _ _ _ (λ b. inr b) c.in_err-path.ensures.refused)
+    rw (p.1, p.2) (argument_weaker _ _ (IsUncomplete c.args.text.now c.args.around.paths.now c.args.around.root.now c.args.around.root_path.now) _ (λ b. inr b) c.in_err-path.ensures.refused)
 
 pub returns-clause-completed : goal.returns-clause-completed
 returns-clause-completed c =

@@ -3,20 +3,19 @@ use Rattle.std.proofs.lemmas.Result.{err_from_is_err_and}
 use Rattle.std.proofs.lemmas.Str.{IsUtf8-nil}
 use Rattle.std.specs.Prelude.{IsUtf8}
 use Rattle.cargo_toml.specs.{Action.Text}
-use Rattle.cargo_toml_tools.specs.declared.files.indexing.Fault.{Fault}
-use Rattle.cargo_toml_answers.specs.Answered.{IsIndexed, IsUnindexed, Reads, TellsOfFault, checksum_of, wanted_with}
-use Rattle.cargo_toml_answers.proofs.Answering.{argument_weaker, weaker}
+use Rattle.cargo_toml_answers.specs.Answered.{IsIndexed, IsUnindexed, Reads, TellsOfFault, TellsOfIndex, checksum_of, wanted_with}
+use Rattle.cargo_toml_answers.proofs.Answering.{weaker}
 use Rattle.cargo_toml_answers.proofs.indexing.index.Goals as goal
 
 pub returns-in_err-text-clause-refused : goal.returns-in_err-text-clause-refused
 returns-in_err-text-clause-refused c =
     let p = err_from_is_err_and c.from_residual.result c.from_residual.ensures.1 in
-    rw (p.1, p.2) (weaker _ _ _ _ _ (λ b. absurd b) (λ json told. inl told) c.in_err-text.ensures.refused)
+    rw (p.1, p.2) (weaker ⊥ _ _ (TellsOfIndex c.args.text.now c.args.checksum.now) _ (λ b. absurd b) (λ json told. inl told) c.in_err-text.ensures.refused)
 
 pub returns-in_err-checksum-clause-refused : goal.returns-in_err-checksum-clause-refused
 returns-in_err-checksum-clause-refused c =
     let p = err_from_is_err_and c.from_residual-in_err-checksum.result c.from_residual-in_err-checksum.ensures.1 in
-    rw (p.1, p.2) (argument_weaker _ _ _ _ (λ bad none. bad (subst IsUtf8 (sym none) IsUtf8-nil)) c.in_err-checksum.ensures.refused)
+    rw (p.1, p.2) (weaker _ _ (λ _. ⊥) (TellsOfIndex c.args.text.now c.args.checksum.now) _ (λ bad none. bad (subst IsUtf8 (sym none) IsUtf8-nil)) (λ json none. absurd none) c.in_err-checksum.ensures.refused)
 
 pub returns-in-Ok-clause-indexed : goal.returns-in-Ok-clause-indexed
 returns-in-Ok-clause-indexed c =
@@ -29,4 +28,4 @@ returns-in-Err-clause-refused c =
     let sum = c.given.ensures ∙ ap checksum_of c.in_ok-checksum.ensures.same in
     let unindexed = subst (λ t. IsUnindexed t (wanted_with (checksum_of c.args.checksum.now)) c.in-Err.fault) c.in_ok-text.ensures.same
         (subst (λ w. IsUnindexed c.in_ok-text.text.now (wanted_with w) c.in-Err.fault) sum c.in-Err.ensures.refused) in
-    weaker _ _ _ _ _ (λ b. absurd b) (λ json told. inr (c.in-Err.fault, (unindexed, told))) c.refuse_fault.ensures
+    weaker ⊥ _ (TellsOfFault c.in-Err.fault) (TellsOfIndex c.args.text.now c.args.checksum.now) _ (λ b. absurd b) (λ json told. inr (c.in-Err.fault, (unindexed, told))) c.refuse_fault.ensures

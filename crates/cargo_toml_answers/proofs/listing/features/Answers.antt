@@ -17,7 +17,7 @@ returns-in_err-text-clause-refused c =
 pub returns-in_err-keep-clause-refused : goal.returns-in_err-keep-clause-refused
 returns-in_err-keep-clause-refused c =
     let p = err_from_is_err_and c.from_residual-in_err-keep.result c.from_residual-in_err-keep.ensures.1 in
-    rw (p.1, p.2) (argument_weaker _ _ _ _ (λ b. inl b) c.in_err-keep.ensures.refused)
+    rw (p.1, p.2) (argument_weaker _ _ (IsRefusedFor c.args.text.now (λ _ e. e ≡ Memory)) _ (λ b. inl b) c.in_err-keep.ensures.refused)
 
 pub returns-clause-listed : goal.returns-clause-listed
 returns-clause-listed c =

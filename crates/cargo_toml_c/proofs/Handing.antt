@@ -30,11 +30,11 @@ hands_refusal (Err r) old new needed status P told whole buffer exact refused = 
 pub fits : (answer old : List ℕ) (count : ℕ) → count ≡ min (length answer) (length old) → take count answer ++ drop count old ≡ filled answer old
 fits answer old count e = elim (cases_lt (length answer) (length old)) [
   | inl below ↦
-    let is : count ≡ length answer = omega arith in
-    ap (λ k. take k answer ++ drop k old) is
-    ∙ ap (λ ts. ts ++ drop (length answer) old) (take_all (length answer) answer (omega arith) ∙ sym (take_all (length old) answer (omega arith)))
+      let is : count ≡ length answer = omega arith in
+      ap (λ k. take k answer ++ drop k old) is
+      ∙ ap (λ ts. ts ++ drop (length answer) old) (take_all (length answer) answer (omega arith) ∙ sym (take_all (length old) answer (omega arith)))
   | inr over ↦
-    let is : count ≡ length old = omega arith in
-    ap (λ k. take k answer ++ drop k old) is
-    ∙ ap (λ ts. take (length old) answer ++ ts) (drop_all (length old) old (omega arith) ∙ sym (drop_all (length answer) old (omega arith)))
+      let is : count ≡ length old = omega arith in
+      ap (λ k. take k answer ++ drop k old) is
+      ∙ ap (λ ts. take (length old) answer ++ ts) (drop_all (length old) old (omega arith) ∙ sym (drop_all (length answer) old (omega arith)))
 ]

@@ -46,7 +46,7 @@ returns-clause-refused c =
     let root = c.given.ensures ∙ ap (λ (r : Text). given r c.in_ok-path.path.now) c.in_ok-root.ensures.same ∙ ap (λ (p : Text). given around.root.now p) c.in_ok-path.ensures.same in
     let bad = (¬ IsUtf8 around.paths.now) ⊎ (¬ IsUtf8 around.root_path.now) in
     let why = λ (t ps : Text) (w : Option (Text × Text)). IfErr c.answered.result
-        (IsRefusalFor bad (λ e. IsUnread around.root.now e ⊎ IsRefusedFor t (λ m e. (e ≡ Memory) ⊎ IsUncompleted ps w m e) e)) in
+    (IsRefusalFor bad (λ e. IsUnread around.root.now e ⊎ IsRefusedFor t (λ m e. (e ≡ Memory) ⊎ IsUncompleted ps w m e) e)) in
     subst (λ t. why t around.paths.now (given around.root.now around.root_path.now)) c.in_ok-text.ensures.same
     (subst (λ ps. why c.in_ok-text.text.now ps (given around.root.now around.root_path.now)) c.in_ok-paths.ensures.same
     (subst (λ w. why c.in_ok-text.text.now c.in_ok-paths.paths.now w) root

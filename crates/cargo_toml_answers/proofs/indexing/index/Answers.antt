@@ -27,5 +27,5 @@ pub returns-in-Err-clause-refused : goal.returns-in-Err-clause-refused
 returns-in-Err-clause-refused c =
     let sum = c.given.ensures ∙ ap checksum_of c.in_ok-checksum.ensures.same in
     let unindexed = subst (λ t. IsUnindexed t (wanted_with (checksum_of c.args.checksum.now)) c.in-Err.fault) c.in_ok-text.ensures.same
-        (subst (λ w. IsUnindexed c.in_ok-text.text.now (wanted_with w) c.in-Err.fault) sum c.in-Err.ensures.refused) in
+    (subst (λ w. IsUnindexed c.in_ok-text.text.now (wanted_with w) c.in-Err.fault) sum c.in-Err.ensures.refused) in
     weaker ⊥ _ (TellsOfFault c.in-Err.fault) (TellsOfIndex c.args.text.now c.args.checksum.now) _ (λ b. absurd b) (λ json told. inr (c.in-Err.fault, (unindexed, told))) c.refuse_fault.ensures

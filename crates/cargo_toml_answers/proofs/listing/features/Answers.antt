@@ -24,12 +24,12 @@ returns-clause-listed c =
     let limit = c.args.asked.max_items in
     let lines = c.args.asked.keep.now in
     let kept : (name : Text) → contains_text c.in_ok-kept.kept name ≡ is_line lines name = λ name.
-        c.in_ok-kept.ensures name
-        ∙ ap (λ ts. list_any (bytes_eq name) ts)
-        (ap (λ (ts : List (Bor Text)). map (λ t. t.now) ts) c.as_slice.ensures.value ∙ c.in_ok-lines.ensures ∙ ap (λ (bs : Text). slice_split (λ b. nat_eq b 10) bs) c.in_ok-keep.ensures.same) in
+    c.in_ok-kept.ensures name
+    ∙ ap (λ ts. list_any (bytes_eq name) ts)
+    (ap (λ (ts : List (Bor Text)). map (λ t. t.now) ts) c.as_slice.ensures.value ∙ c.in_ok-lines.ensures ∙ ap (λ (bs : Text). slice_split (λ b. nat_eq b 10) bs) c.in_ok-keep.ensures.same) in
     subst (λ t. IfOk c.answered.result (λ json. Reads t (λ m. IsListed limit (is_line lines) m (string_bytes json)))) c.in_ok-text.ensures.same
     (answered_ok _ _ _ c.answered.ensures
-        (IfOk-weaker c.listing_of.result _ (λ json. Reads c.in_ok-text.text.now (λ m. IsListed limit (is_line lines) m (string_bytes json))) (λ json is. is (is_line lines) kept) c.listing_of.ensures.listed))
+    (IfOk-weaker c.listing_of.result _ (λ json. Reads c.in_ok-text.text.now (λ m. IsListed limit (is_line lines) m (string_bytes json))) (λ json is. is (is_line lines) kept) c.listing_of.ensures.listed))
 
 pub returns-clause-refused : goal.returns-clause-refused
 returns-clause-refused c =

@@ -242,6 +242,19 @@ def put(program, made, began):
             os.remove(new)
 
 
+def build_here(program, at):
+    """Builds of what the gate has just proved in the repository itself, with a room to work in.
+    Returns whether it could be made."""
+    began = beginning(program)
+    made, said = program.made_of(at, program.root)
+    for it in made:
+        put(program, it, began)
+    if not made:
+        print(*said.splitlines()[-20:], sep="\n", file=sys.stderr)
+        program.say(f"the {program.kind} could not be built")
+    return bool(made)
+
+
 def made_in(program, at, began):
     """Builds in the room and puts what is made in its place. Returns whether it stands there."""
     folder = f"{at}/repository"

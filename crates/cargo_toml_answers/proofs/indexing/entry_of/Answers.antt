@@ -4,9 +4,9 @@ use Rattle.cargo_toml_answers.proofs.indexing.entry_of.Goals as goal
 
 pub returns-clause-indexed : goal.returns-clause-indexed
 returns-clause-indexed c = record {
-  findings = c.in_ok-findings.findings.items;
-  found = c.in_ok-findings.ensures.exact;
-  taken = rw c.as_slice.ensures.value at c.in_ok-entry.ensures.taken;
+  findings = c.as_slice.result.now;
+  found = rw c.as_slice.ensures.value c.in_ok-findings.ensures.exact;
+  taken = c.in_ok-entry.ensures.taken;
   line = view c.in_ok-entry.entry;
   exact = c.in_ok-entry.ensures.entry;
   printed = c.in_ok-to_string.ensures.order;
@@ -15,4 +15,4 @@ returns-clause-indexed c = record {
 pub returns-in_err-entry-clause-refused : goal.returns-in_err-entry-clause-refused
 returns-in_err-entry-clause-refused c =
     let p = err_from_is_err_and c.from_residual-in_err-entry.result c.from_residual-in_err-entry.ensures.1 in
-    rw (p.1, p.2) (c.in_ok-findings.findings.items, (c.in_ok-findings.ensures.exact, rw c.as_slice.ensures.value at c.in_err-entry.ensures.refused))
+    rw (p.1, p.2) (c.as_slice.result.now, (rw c.as_slice.ensures.value c.in_ok-findings.ensures.exact, c.in_err-entry.ensures.refused))

@@ -1,5 +1,6 @@
-use Rattle.std.proofs.Common.{◌∙◌}
-use Rattle.cargo_toml.specs.{Manifests.held, Views.answer_of}
+use Rattle.std.proofs.Common.{Bool, ap, rules, ◌∙◌, ◌≡◌}
+use Rattle.std.specs.BTreeSet.{contains_text}
+use Rattle.cargo_toml.specs.{Action.Text, Manifests.held, Views.answer_of}
 use Rattle.cargo_toml_lint.proofs.Resolving.{parsed_at, tells_of}
 use Rattle.cargo_toml_answers.proofs.listing.listed.Goals as goal
 
@@ -8,7 +9,11 @@ returns-clause-listed c = λ keep same.
     let m = held c.args.manifest.now in
     let made = c.new_with_hasher_and_filter-resolver.ensures in
     let limited = c.with_max_items-limited.ensures in
-    let tells = tells_of _ _ _ keep (limited.filter ∙ made.kept) (λ n r answer. answer.says.met ∙ same n) in
+    let kept : Text → Bool = λ t. contains_text c.args.kept t in
+    let tells = tells_of _ _ _ keep (limited.filter ∙ made.kept) (λ n r answer.
+        let met = answer.says.met in
+        let is : r ≡ kept answer.shown.now = search rules in
+        is ∙ ap kept answer.shows ∙ same n) in
     let listing = c.in_ok-listing_json.ensures in
     record {
       features = c.in_ok-features.features;

@@ -1,5 +1,5 @@
 -- What stands behind a beginning of a text, and before an end.
-use Rattle.std.proofs.Common.{Bor, List, MatchOption, None, Option, Some, ap, false, length, nat_eq, option_map, subst, sym, take, true, drop, ◌-◌, ◌≡◌, ◌∙◌, ℕ, arith, ◌≤◌}
+use Rattle.std.proofs.Common.{Bor, List, MatchOption, None, Option, Some, ap, false, length, nat_eq, option_map, subst, sym, take, true, drop, ◌-◌, ◌≡◌, ◌∙◌, ℕ, arith}
 use Rattle.std.proofs.lemmas.Str.Pattern.{ends_text, starts_text}
 use Rattle.std.specs.List.{ends_with, starts_with}
 use Rattle.std.specs.Str.{IsCharBoundary}

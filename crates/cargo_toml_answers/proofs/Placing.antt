@@ -1,5 +1,5 @@
 -- Members that are put in order stand in their order.
-use Rattle.std.proofs.Common.{Bor, Greater, Less, List, Option, None, Some, [], ap, append-nil, append_assoc, map, nat_cmp, refl, subst, sym, ◌++◌, ◌∙◌, ◌∷◌, ◌≡◌}
+use Rattle.std.proofs.Common.{Greater, Less, List, Option, None, Some, [], ap, append-nil, append_assoc, map, nat_cmp, refl, subst, sym, ◌++◌, ◌∙◌, ◌∷◌, ◌≡◌}
 use Rattle.std.proofs.lemmas.Cmp.{nat_list_cmp_total}
 use Rattle.std.specs.Cmp.Lexicographic.{slice_cmp}
 use Rattle.std.specs.List.{AllByRecursion, flat_map}

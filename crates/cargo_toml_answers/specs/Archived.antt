@@ -1,5 +1,5 @@
 -- The files of a package as an archive lists them, and what is stated of them.
-use Rattle.std.specs.Prelude.{◌≡◌, ◌⊎◌, ◌++◌, ◌-◌, ◌∷◌, ℕ, Bool, Err, List, None, Option, Some, []}
+use Rattle.std.specs.Prelude.{◌≡◌, ◌⊎◌, ◌-◌, ◌∷◌, ℕ, Bool, Err, List, None, Option, Some, []}
 use Rattle.std.specs.Prelude.{codes, drop, filter, if◌then◌else◌, length, map, nat_eq, nat_lt}
 use Rattle.std.specs.Prelude.{option_and_then, take}
 use Rattle.std.specs.List.{ends_with, filter_map, list_any, slice_split, starts_with}

@@ -1,7 +1,6 @@
 //! What is documented of features.
-ghost use Rattle.std.specs.Prelude.{◌≡◌, IfErr, IfOk, OnOk, false, map, string_bytes};
-ghost use Rattle.serde_json.specs.{View.items_of, Written.compact_text};
-ghost use Rattle.serde_json.specs.Data.{array, member, no_members, object};
+ghost use Rattle.std.specs.Prelude.{◌≡◌, IfErr, IfOk, OnOk, false, string_bytes};
+ghost use Rattle.serde_json.specs.{Written.compact_text};
 ghost use Rattle.cargo_toml.specs.Error.{Memory};
 ghost use Rattle.cargo_toml_answers.specs.Answered.{IsDocumented, IsRefusedFor, IsRefusedText};
 ghost use Rattle.cargo_toml_answers.specs.Answered.{Reads, row_json, rows_json};

@@ -1,4 +1,4 @@
-use Rattle.std.proofs.Common.{ap, codes, string_bytes, subst, ◌∷◌}
+use Rattle.std.proofs.Common.{codes, string_bytes, subst, ◌∷◌}
 use Rattle.std.proofs.lemmas.Result.{IfOk-weaker}
 use Rattle.json.specs.Token.{key}
 use Rattle.serde_json.specs.Data.{member, no_members, object}

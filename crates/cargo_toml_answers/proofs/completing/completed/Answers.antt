@@ -1,4 +1,4 @@
-use Rattle.std.proofs.Common.{Bor, IfErr, IfOk, Option, inl, inr, option_map, refl, string_bytes, subst, ◌≡◌, ◌⊎◌}
+use Rattle.std.proofs.Common.{Bor, Option, inl, inr, option_map, string_bytes, ◌≡◌, ◌⊎◌}
 use Rattle.std.proofs.lemmas.Result.{IfErr-weaker, IfOk-weaker, err_from_is_err_and}
 use Rattle.cargo_toml.specs.{Action.Text, Error.Memory}
 use Rattle.cargo_toml_answers.specs.Answered.{IsRefusedText, Reads}

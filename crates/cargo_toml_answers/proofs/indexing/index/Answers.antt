@@ -1,8 +1,7 @@
-use Rattle.std.proofs.Common.{Bor, Option, ap, inl, inr, string_bytes, subst, sym, ◌∙◌, ◌≡◌}
+use Rattle.std.proofs.Common.{ap, inl, inr, string_bytes, subst, sym, ◌∙◌}
 use Rattle.std.proofs.lemmas.Result.{err_from_is_err_and}
 use Rattle.std.proofs.lemmas.Str.{IsUtf8-nil}
 use Rattle.std.specs.Prelude.{IsUtf8}
-use Rattle.cargo_toml.specs.{Action.Text}
 use Rattle.cargo_toml_answers.specs.Answered.{IsIndexed, IsUnindexed, Reads, TellsOfFault, TellsOfIndex, checksum_of, wanted_with}
 use Rattle.cargo_toml_answers.proofs.Answering.{weaker}
 use Rattle.cargo_toml_answers.proofs.indexing.index.Goals as goal

@@ -1,4 +1,4 @@
-use Rattle.std.proofs.Common.{inl, inr, string_bytes, ◌≡◌}
+use Rattle.std.proofs.Common.{inl, inr, string_bytes}
 use Rattle.std.proofs.lemmas.Result.{IfErr-weaker, err_from_is_err_and}
 use Rattle.std.specs.Option.{option_copied}
 use Rattle.toml.specs.declared.value.Value.{Value}

@@ -1,4 +1,4 @@
-use Rattle.std.proofs.Common.{[], ap, codes, string_bytes, subst, sym, ◌++◌, ◌∷◌}
+use Rattle.std.proofs.Common.{[], codes, string_bytes, subst, ◌++◌, ◌∷◌}
 use Rattle.std.proofs.lemmas.Result.{IfOk-weaker}
 use Rattle.json.specs.Token.{begin_array}
 use Rattle.serde_json.specs.Data.{array, member, no_members, object}

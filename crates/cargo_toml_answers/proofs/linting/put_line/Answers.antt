@@ -1,4 +1,4 @@
-use Rattle.std.proofs.Common.{[], codes, ◌∷◌}
+use Rattle.std.proofs.Common.{codes}
 use Rattle.serde_json.specs.Data.{member, no_members, number, object, string, unsigned}
 use Rattle.cargo_toml_answers.proofs.Adding.{one, then}
 use Rattle.cargo_toml_answers.proofs.linting.put_line.Goals as goal

@@ -1,4 +1,4 @@
-use Rattle.std.proofs.Common.{Bool, Global, IfOk, String, inl, string_bytes, sym, subst, ◌≡◌}
+use Rattle.std.proofs.Common.{Bool, inl, string_bytes, sym, subst, ◌≡◌}
 use Rattle.std.proofs.lemmas.Result.{IfOk-weaker, err_from_is_err_and}
 use Rattle.std.specs.BTreeSet.{contains_text}
 use Rattle.cargo_toml.specs.{Action.Text, Error.Memory}

@@ -1,4 +1,4 @@
-use Rattle.std.proofs.Common.{Bor, List, refl}
+use Rattle.std.proofs.Common.{Bor, refl}
 use Rattle.std.proofs.lemmas.Result.{on_ok_weaker}
 use Rattle.std.specs.List.{flat_map}
 use Rattle.serde_json.specs.Data.{no_members, object}

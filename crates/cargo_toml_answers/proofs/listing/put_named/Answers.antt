@@ -1,4 +1,4 @@
-use Rattle.std.proofs.Common.{Bor, List, ap, subst, sym, ◌++◌, ◌∙◌, ◌∷◌, ◌≡◌}
+use Rattle.std.proofs.Common.{Bor, ap, subst, sym, ◌∙◌, ◌∷◌}
 use Rattle.std.specs.List.{flat_map}
 use Rattle.json.specs.Token.{begin_object}
 use Rattle.json.specs.Tree.{members_tokens}

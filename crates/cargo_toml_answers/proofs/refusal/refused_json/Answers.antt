@@ -1,4 +1,4 @@
-use Rattle.std.proofs.Common.{IfSome, ap, codes, string_bytes, subst, ◌∷◌, ◌≡◌}
+use Rattle.std.proofs.Common.{IfSome, codes, string_bytes, subst, ◌∷◌, ◌≡◌}
 use Rattle.std.proofs.lemmas.Result.{IfOk-weaker}
 use Rattle.json.specs.Token.{key}
 use Rattle.serde_json.specs.Data.{member, no_members, object, string}

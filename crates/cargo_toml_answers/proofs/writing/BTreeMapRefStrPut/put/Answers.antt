@@ -1,4 +1,4 @@
-use Rattle.std.proofs.Common.{ap, map, subst, sym, ◌∙◌, ◌∷◌, ◌≡◌}
+use Rattle.std.proofs.Common.{ap, map, subst, sym, ◌∙◌, ◌∷◌}
 use Rattle.json.specs.Token.{begin_object}
 use Rattle.json.specs.Tree.{members_tokens}
 use Rattle.serde_json.specs.Written.{members_outline}

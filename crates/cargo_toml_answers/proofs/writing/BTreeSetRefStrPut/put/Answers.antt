@@ -1,4 +1,4 @@
-use Rattle.std.proofs.Common.{Bor, List, ap, map, subst, ◌∙◌, ◌∷◌, ◌≡◌}
+use Rattle.std.proofs.Common.{Bor, ap, map, subst, ◌∙◌, ◌∷◌}
 use Rattle.json.specs.Token.{begin_array}
 use Rattle.json.specs.Tree.{items_tokens}
 use Rattle.serde_json.specs.Data.{Data, string}

@@ -54,7 +54,7 @@ MAX_ITEMS = 2048
 
 def version() -> str:
     """The version of the library."""
-    return answer("version", [], [], False).decode()
+    return answer("version", [], [], False)
 
 
 def read(text: Text) -> Manifest:

@@ -35,15 +35,30 @@ def _loaded() -> ctypes.CDLL:
 
 
 _LIBRARY = _loaded()
-_KEYS = (ctypes.c_uint64(secrets.randbits(64)), ctypes.c_uint64(secrets.randbits(64)))
-_FUNCTIONS = {
-    name: getattr(_LIBRARY, f"cargo_toml_{name}")
-    for name in (
-        "version", "manifest", "complete", "features", "check", "lint", "index", "document",
-    )
+_KEYS = [secrets.randbits(64), secrets.randbits(64)]
+#: How many texts and how many numbers each function takes.
+_ARGUMENTS = {
+    "version": (0, 0),
+    "manifest": (1, 0),
+    "complete": (4, 0),
+    "features": (2, 3),
+    "check": (1, 0),
+    "lint": (1, 2),
+    "index": (2, 2),
+    "document": (1, 2),
 }
-for _function in _FUNCTIONS.values():
-    _function.restype = ctypes.c_uint32
+
+
+def _function(name: str) -> Any:
+    texts, numbers = _ARGUMENTS[name]
+    found = getattr(_LIBRARY, f"cargo_toml_{name}")
+    found.restype = ctypes.c_uint32
+    found.argtypes = [ctypes.c_char_p, ctypes.c_size_t] * texts + [ctypes.c_uint64] * numbers
+    found.argtypes += [ctypes.c_void_p, ctypes.c_size_t, ctypes.POINTER(ctypes.c_size_t)]
+    return found
+
+
+_FUNCTIONS = {name: _function(name) for name in _ARGUMENTS}
 
 
 class _Room(threading.local):
@@ -62,25 +77,26 @@ def text_of(text: Text) -> bytes:
     return text.encode() if isinstance(text, str) else bytes(text)
 
 
-def answer(name: str, texts: List[bytes], numbers: List[int], keyed: bool) -> bytes:
+def answer(name: str, texts: List[bytes], numbers: List[int], keyed: bool) -> str:
     """What a function of the library answers these texts, as JSON. Raises ManifestError where it
     refuses the manifest, MemoryError, or ValueError for an argument that isn't meant so."""
     arguments: List[Any] = []
     for text in texts:
-        arguments += [text, ctypes.c_size_t(len(text))]
-    arguments += [ctypes.c_uint64(number) for number in numbers]
+        arguments += (text, len(text))
+    arguments += numbers
     if keyed:
         arguments += _KEYS
+    function = _FUNCTIONS[name]
     while True:
         place, needed = _ROOM.place, _ROOM.needed
         size = len(place)
-        status = _FUNCTIONS[name](*arguments, place, ctypes.c_size_t(size), ctypes.byref(needed))
+        status = function(*arguments, place, size, needed)
         if status == _MEMORY:
             raise MemoryError("out of memory")
         if needed.value <= size:
             break
         _ROOM.place = ctypes.create_string_buffer(needed.value * 5 // 4)
-    said = ctypes.string_at(place, needed.value)
+    said = ctypes.string_at(place, needed.value).decode()
     if status == _DONE:
         return said
     refusal = json.loads(said)

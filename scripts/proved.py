@@ -21,7 +21,7 @@ Functions, as the sources have them, closures and what derives write not counted
 """
 TAIL = """
 Trusted: the toolchain of the kit, the C library, and what the kit's std, toml, toml_datetime,
-toml_parser, semver, serde_json, json, clap, sha2 and unicode_ident state.
+toml_parser, semver, serde_json, json, clap, sha2, hex and unicode_ident state.
 
 Tested, not proved: the packages for Rust and Python, the header for C, the pages of the manual and
 the completions.

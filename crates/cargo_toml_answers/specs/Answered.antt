@@ -1,6 +1,6 @@
 -- What the calls answer.
-use Rattle.std.specs.Prelude.{◌≡◌, ◌⊎◌, ◌↔◌, ◌∷◌, Bool, IsSome, List, None, Option, Some, [], bytes_eq, codes}
-use Rattle.std.specs.Prelude.{false, map, nat_eq, true, ℕ, ⊤}
+use Rattle.std.specs.Prelude.{◌≡◌, ◌⊎◌, ◌↔◌, ◌∷◌, Bool, IsSome, List, None, Option, Some, []}
+use Rattle.std.specs.Prelude.{bytes_eq, codes, false, map, nat_eq, true, ℕ, ⊤}
 use Rattle.std.specs.List.{list_any, slice_split}
 use Rattle.std.specs.{Option.option_copied, declared.hash.DefaultHasher.DefaultHasher}
 use Rattle.serde_json.specs.Data as json

@@ -1,6 +1,6 @@
 -- What the calls answer.
 use Rattle.std.specs.Prelude.{◌≡◌, ◌⊎◌, ◌↔◌, ◌∷◌, Bool, IsSome, List, None, Option, Some, []}
-use Rattle.std.specs.Prelude.{bytes_eq, codes, false, map, nat_eq, true, ℕ, ⊤}
+use Rattle.std.specs.Prelude.{◌||◌, IsUtf8, bytes_eq, codes, false, length, map, nat_eq, true, ℕ, ⊤}
 use Rattle.std.specs.List.{list_any, slice_split}
 use Rattle.std.specs.{Option.option_copied, declared.hash.DefaultHasher.DefaultHasher}
 use Rattle.serde_json.specs.Data as json
@@ -16,7 +16,8 @@ use Rattle.cargo_toml_features.specs.declared.features.Features.{Features}
 use Rattle.cargo_toml_lint.specs.declared.finding.Finding.{Finding}
 use Rattle.cargo_toml_check.specs.{Blamed.reads, Listed.IsListing, Listed.is_cut, Shown.json_of}
 use Rattle.cargo_toml_check.specs.Listed.{actions_json, stands_for_json}
-use Rattle.cargo_toml_tools.specs.{Documented.AreRowsOf, FromFiles.IsManifestIn}
+use Rattle.cargo_toml_tools.specs.{Asked.is_checksum, Documented.AreRowsOf}
+use Rattle.cargo_toml_tools.specs.{FromFiles.IsManifestIn}
 use Rattle.cargo_toml_tools.specs.{FromFiles.RefusesText, IndexEntries.index_data}
 use Rattle.cargo_toml_tools.specs.{IndexEntries.text_or_null, Indexed.Wanted, Indexed.refusal_of}
 use Rattle.cargo_toml_tools.specs.{Linted.AreFindingsOf, declared.document.listing.Row.Row}
@@ -147,7 +148,11 @@ TellsOfIndex text checksum json =
     ⊎ ((f : Fault) × (IsUnindexed text (wanted_with (checksum_of checksum)) f
     × TellsOfFault f json))
 
+-- 64 hex digits, or nothing
+abbrev pub is_sum : Text → Bool
+is_sum checksum = nat_eq (length checksum) 0 || is_checksum checksum
+
 -- the refusal for that, or of a checksum that is none
 abbrev pub IsIndexRefusal : Text → Text → Refusal → Type 0
 IsIndexRefusal text checksum r =
-    IsRefusal (¬ (checksum ≡ [])) (TellsOfIndex text checksum) r
+    IsRefusal ((¬ IsUtf8 checksum) ⊎ (is_sum checksum ≡ false)) (TellsOfIndex text checksum) r

@@ -1,9 +1,9 @@
 //! The line of a registry's index.
-ghost use Rattle.std.specs.Prelude.{◌≡◌, IfErr, IfOk, OnOk, false, string_bytes};
+ghost use Rattle.std.specs.Prelude.{◌≡◌, IfErr, IfOk, OnOk, false, string_bytes, true};
 ghost use Rattle.std.specs.Option.{option_copied};
 ghost use Rattle.cargo_toml_tools.specs.Sections.{wanted_of};
 ghost use Rattle.cargo_toml_answers.specs.Answered.{IsIndexRefusal, IsIndexed, IsUnindexed, Reads};
-ghost use Rattle.cargo_toml_answers.specs.Answered.{IsUntaken, TellsOfFault, checksum_of};
+ghost use Rattle.cargo_toml_answers.specs.Answered.{IsUntaken, TellsOfFault, checksum_of, is_sum};
 ghost use Rattle.cargo_toml_answers.specs.Answered.{wanted_with};
 ghost use Rattle.cargo_toml_answers.specs.Refused.{IsRefusal};
 ghost use Rattle.cargo_toml_depth.specs.Nesting.{is_too_deep};
@@ -28,12 +28,13 @@ pub fn index(alloc: Global, text: &[u8], checksum: &[u8], keys: Keys) -> Result<
     ensures shallow { OnOk result (is_too_deep text.now ≡ false) }
     ensures indexed { IfOk result (λ json. Reads text.now (λ m.
         IsIndexed text.now (wanted_with (checksum_of checksum.now)) m (string_bytes json))) }
+    ensures sum { OnOk result (is_sum checksum.now ≡ true) }
     ensures refused { IfErr result (IsIndexRefusal text.now checksum.now) }
 {
     let text = readable(alloc, text)?;
     let words = "a checksum is 64 hex digits in lower case";
     let checksum = argument(alloc, checksum, words)?;
-    if !checksum.is_empty() && !is_checksum(checksum) {
+    if !is_sum(checksum) {
         return Err(bad_argument(alloc, words));
     }
     match line_of(alloc, text, given(checksum), keys) {
@@ -50,6 +51,13 @@ fn refuse_fault(alloc: Global, text: &str, fault: &Fault) -> Refusal
         Fault::Index(IndexError::Memory) => Refusal::Memory,
         Fault::Index(fault) => refuse_with(alloc, text, fault),
     }
+}
+
+/// Whether a text is a checksum, or empty.
+fn is_sum(checksum: &str) -> bool
+    ensures { result ≡ is_sum checksum.now }
+{
+    checksum.is_empty() || is_checksum(checksum)
 }
 
 /// The checksum, if one is given.

@@ -5,12 +5,12 @@
 //! status. The header bindings/c/cargo_toml.h says what a caller in C has to know.
 #![tactic(auto)]
 
-ghost use Rattle.std.specs.Prelude.{◌≡◌, ◌≢◌, ◌⊎◌, ◌^◌, ◌≤◌, IsUtf8, codes, false, length};
+ghost use Rattle.std.specs.Prelude.{◌≡◌, ◌≢◌, ◌⊎◌, ◌^◌, ◌≤◌, IsUtf8, codes, false, length, true};
 ghost use Rattle.cargo_toml.specs.{Error.Memory, Manifests.manifest_meaning};
 ghost use Rattle.cargo_toml_answers.specs.Answered.{AreTold, IsChecked, IsDocumented};
 ghost use Rattle.cargo_toml_answers.specs.Answered.{IsIndexRefusal, IsIndexed};
 ghost use Rattle.cargo_toml_answers.specs.Answered.{IsListed, IsRefusedFor, IsShownIn, Reads};
-ghost use Rattle.cargo_toml_answers.specs.Answered.{checksum_of, is_line, wanted_with};
+ghost use Rattle.cargo_toml_answers.specs.Answered.{checksum_of, is_line, is_sum, wanted_with};
 ghost use Rattle.cargo_toml_answers.specs.Archived.{CompletesTo, IsUncompleted, given};
 ghost use Rattle.cargo_toml_answers.specs.Refused.{IsRefusalFor, IsUnread};
 ghost use Rattle.cargo_toml_c.specs.Handed.{HandsOut, HandsRefusal, came_status, came_text, filled};
@@ -205,6 +205,7 @@ pub extern "C" fn cargo_toml_index(
         (λ json. Reads text.now
         (λ m. IsIndexed text.now (wanted_with (checksum_of checksum.now)) m json))
         out.old out.new needed.new }
+    ensures sum { (result ≡ 0) → is_sum checksum.now ≡ true }
     ensures refused { (result ≢ 0) → HandsRefusal (IsIndexRefusal text.now checksum.now)
         out.old out.new needed.new result }
 {

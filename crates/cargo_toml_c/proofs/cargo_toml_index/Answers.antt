@@ -7,5 +7,8 @@ returns-clause-shallow c = on_done c.index.result _ _ c.put.ensures.status c.ind
 pub returns-clause-indexed : goal.returns-clause-indexed
 returns-clause-indexed c = hands_out c.index.result _ _ _ _ _ c.put.ensures.status c.put.ensures.whole c.put.ensures.buffer c.index.ensures.indexed
 
+pub returns-clause-sum : goal.returns-clause-sum
+returns-clause-sum c = on_done c.index.result _ _ c.put.ensures.status c.index.ensures.sum
+
 pub returns-clause-refused : goal.returns-clause-refused
 returns-clause-refused c = hands_refusal c.index.result _ _ _ _ _ c.put.ensures.status c.put.ensures.whole c.put.ensures.buffer c.index.ensures.refused

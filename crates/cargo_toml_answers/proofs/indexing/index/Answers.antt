@@ -1,7 +1,5 @@
-use Rattle.std.proofs.Common.{ap, inl, inr, string_bytes, subst, sym, ◌∙◌}
+use Rattle.std.proofs.Common.{ap, inl, inr, string_bytes, subst, ◌∙◌}
 use Rattle.std.proofs.lemmas.Result.{err_from_is_err_and}
-use Rattle.std.proofs.lemmas.Str.{IsUtf8-nil}
-use Rattle.std.specs.Prelude.{IsUtf8}
 use Rattle.cargo_toml_answers.specs.Answered.{IsIndexed, IsUnindexed, Reads, TellsOfFault, TellsOfIndex, checksum_of, wanted_with}
 use Rattle.cargo_toml_answers.proofs.Answering.{weaker}
 use Rattle.cargo_toml_answers.proofs.indexing.index.Goals as goal
@@ -14,7 +12,7 @@ returns-in_err-text-clause-refused c =
 pub returns-in_err-checksum-clause-refused : goal.returns-in_err-checksum-clause-refused
 returns-in_err-checksum-clause-refused c =
     let p = err_from_is_err_and c.from_residual-in_err-checksum.result c.from_residual-in_err-checksum.ensures.1 in
-    rw (p.1, p.2) (weaker _ _ (λ _. ⊥) (TellsOfIndex c.args.text.now c.args.checksum.now) _ (λ bad none. bad (subst IsUtf8 (sym none) IsUtf8-nil)) (λ json none. absurd none) c.in_err-checksum.ensures.refused)
+    rw (p.1, p.2) (weaker _ _ (λ _. ⊥) (TellsOfIndex c.args.text.now c.args.checksum.now) _ (λ bad. inl bad) (λ json none. absurd none) c.in_err-checksum.ensures.refused)
 
 pub returns-in-Ok-clause-indexed : goal.returns-in-Ok-clause-indexed
 returns-in-Ok-clause-indexed c =

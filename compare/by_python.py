@@ -12,7 +12,8 @@ USAGE = "usage: cargo-toml features [--max N] FILE | complete FILE"
 
 
 def listed(texts):
-    return ", ".join(texts) or "-"
+    texts = [*texts]
+    return ", ".join(texts) if texts else "-"
 
 
 def action(key, it):

@@ -83,7 +83,8 @@ def product_lines(manifest):
     if "package" in manifest:
         package = manifest["package"]
         lines += [f"build | {shown(package.get('build'))}"]
-        lines += [f"readme | {shown(package.get('readme'))}"]
+        # a readme that is `true` is left out
+        lines += [f"readme | {shown(package.get('readme', True))}"]
     return lines
 
 

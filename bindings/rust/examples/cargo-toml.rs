@@ -125,7 +125,9 @@ fn product_lines(manifest: &Value) -> String {
         }
     }
     if let Some(package) = manifest.get("package") {
-        let (build, readme) = (shown(&package["build"]), shown(&package["readme"]));
+        // a readme that is `true` is left out
+        let readme = package.get("readme").unwrap_or(&Value::Bool(true));
+        let (build, readme) = (shown(&package["build"]), shown(readme));
         let _ = write!(text, "build | {build}\nreadme | {readme}\n");
     }
     text

@@ -192,7 +192,8 @@ keeps key other = false
 -- `default_features`, which Cargo reads as `default-features`, in an entry or in what it inherits
 abbrev pub has_other_flag : Option Members → Text → DependencyMeaning → Bool
 has_other_flag table key d =
-    is_some (written_flag table key (codes "default_features")) || keeps (codes "default_features") d
+    is_some (written_flag table key (codes "default_features"))
+    || keeps (codes "default_features") d
 
 -- the dependency is on artifacts, which stable Cargo refuses
 abbrev pub is_artifact : DependencyMeaning → Bool

@@ -70,9 +70,9 @@ fn completed_alone<'a, R: Files + AllocGlobal>(
 /// where they are stated.
 ///
 /// Refused where the text nests too deep or doesn't read; else as `WorkspaceIntegrity`, naming the
-/// first key that is left to a workspace, where the manifest has no workspace table of its own; else
-/// where that workspace lacks what is left to it, or `fs` refuses to answer. Out of memory is
-/// `Memory`.
+/// first key that is left to a workspace, where the manifest has no workspace table of its own.
+/// Else refused where that workspace lacks what is left to it, or `fs` refuses to answer. Out of
+/// memory is `Memory`.
 pub fn completed_beside<Fs: AbstractFilesystem + Drop>(
     alloc: Global,
     text: &str,

@@ -27,7 +27,7 @@ Tested, not proved: the packages for Rust and Python, the header for C, the page
 the completions.
 
 To check this archive, make it again: check out the commit, run `./release OUT` with that kit, and
-compare the checksums. They are the same.
+compare the checksums.
 """
 
 

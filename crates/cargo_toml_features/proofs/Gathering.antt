@@ -1,31 +1,8 @@
--- One more text of a feature's list, and sets of texts.
-use Rattle.cargo_toml_features.proofs.Cited.{Action, ActionText, BTreeMap, BTreeSet, Bool, Bor, DepAction, Detail, Err, Feature, IfOk, IsReadFeature, Item, List, Name, None, Ok, On, Result, Some, Text, [], action_at, action_in, action_on, ap, ap₂, arith, bytes_eq, common_steps, cond, false, fold_push, get_or, is_at, is_eq-slice_cmp}
-use Rattle.cargo_toml_features.proofs.Cited.{is_some, item_in, item_names, join_option, join_option_none, joined_in, length, list_any, list_any-append, map, nat_cmp, or-false, refl, set_has, slice_cmp, sym, take, true, ℕ, ◌++◌, ◌+◌, ◌<◌, ◌||◌, ◌∙◌, ◌∷◌, ◌≡◌}
+-- Sets of texts.
+use Rattle.cargo_toml_features.proofs.Cited.{BTreeSet, Bool, Bor, Err, IfOk, List, Ok, Result, Text, [], ap₂, arith, bytes_eq, common_steps, get_or, is_at, is_eq-slice_cmp}
+use Rattle.cargo_toml_features.proofs.Cited.{length, list_any, list_any-append, map, nat_cmp, or-false, refl, set_has, slice_cmp, take, ℕ, ◌+◌, ◌<◌, ◌||◌, ◌∙◌, ◌∷◌, ◌≡◌}
 use Rattle.cargo_toml_features.proofs.ByPlace.{taken_more}
 use Rattle.std.specs.BTreeSet as sorted
-
-pub acting : (t : ActionText) → true ≡ (t.is_dep_only || is_some t.dep_feature) → item_in t ≡ On t.target.now (action_in t)
-acting t e = ap (λ b. cond b (On t.target.now (action_in t)) (Name t.target.now)) (sym e)
-
-pub naming : (t : ActionText) → false ≡ (t.is_dep_only || is_some t.dep_feature) → item_in t ≡ Name t.target.now
-naming t e = ap (λ b. cond b (On t.target.now (action_in t)) (Name t.target.now)) (sym e)
-
-module _ (f : Text) (d : Detail) (items : List Item) (v : Feature) (h : IsReadFeature f d items v) where
-  joined : (i : Item) (k : Text) → joined_in (items ++ i ∷ []) k ≡ join_option (joined_in items k) (action_on k i)
-  joined i k = fold_push (λ o j. join_option o (action_on k j)) None items i
-
-  named : (i : Item) (x : Text) → list_any (item_names x) (items ++ i ∷ []) ≡ (list_any (item_names x) items || item_names x i)
-  named i x = list_any-append (item_names x) items (i ∷ []) ∙ ap (λ b. list_any (item_names x) items || b) (or-false _)
-
-  -- one more action
-  pub read_on : (i : Item) (key : Text) (a : Action) → i ≡ On key a → (deps : BTreeMap (Bor Text) DepAction)
-      → ((q : Text) → action_at deps q ≡ join_option (action_at v.enables_deps q) (cond (bytes_eq q key) (Some a) None)) → IsReadFeature f d (items ++ i ∷ []) (record v { enables_deps = deps })
-  read_on i key a is deps more = grind (arith, common_steps, named, or-false, joined)
-
-  -- one more name
-  pub read_name : (i : Item) (y : Text) → i ≡ Name y → (names : BTreeSet (Bor Text)) → ((x : Text) → set_has names x ≡ (set_has v.enables_features x || bytes_eq x y))
-      → IsReadFeature f d (items ++ i ∷ []) (record v { enables_features = names })
-  read_name i y is names more = grind (arith, common_steps, named, joined, join_option_none)
 
 -- ---- sets of texts
 -- a key of the list is the text x

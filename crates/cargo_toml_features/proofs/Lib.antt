@@ -9,10 +9,12 @@ pub mod Agreement
 pub mod ByPlace
 pub mod Thinning
 pub mod Redundancy
-pub mod Implying
 pub mod Placed
-pub mod ReadAll
 pub mod Requiring
 pub mod GatheredKeys
 pub mod Gathering
+pub mod Merging
+pub mod AllMerged
+pub mod Making
+pub mod Rising
 mod Cited

@@ -1,5 +1,5 @@
--- Sets and maps once `retain` has run through them.
-use Rattle.cargo_toml_features.proofs.Cited.{BTreeSet, Bool, Bor, IsTrue, List, None, Option, RetainsPairs, Some, Text, [], ap, bytes_eq-Decides, cond, false, filter, is_at, is_eq-slice_cmp, list_any, lookup, nat_cmp, refl, rules, set_has, slice_cmp, subst, sym, true, ◌&&◌, ◌||◌, ◌∙◌, ◌∷◌, ◌≡◌}
+-- Sets once `retain` has run through them.
+use Rattle.cargo_toml_features.proofs.Cited.{BTreeSet, Bool, Bor, List, Text, [], ap, bytes_eq-Decides, cond, false, filter, is_at, is_eq-slice_cmp, list_any, nat_cmp, refl, set_has, slice_cmp, sym, true, ◌&&◌, ◌||◌, ◌∙◌, ◌∷◌, ◌≡◌}
 
 -- a set of texts of which those are left that pass a test
 pub has_filtered : (test : Text → Bool) (s n : BTreeSet (Bor Text)) → n.keys ≡ filter (λ k. test k.now) s.keys → (x : Text) → set_has n x ≡ (set_has s x && test x)
@@ -27,19 +27,3 @@ has_filtered test s n e x = ap (list_any here) e ∙ all s.keys
     all [] = refl
     all (k ∷ ks) =
         one k ks (all ks) (here k) refl (test k.now) refl (ap (λ l. here k || l) (all ks))
-
--- Q relates what each value was to what it is
-module _ {K X : Type 0} (Q : K → X → X → Type 0) (p : K → Bool) where
-  -- what a look-up finds before and after
-  abbrev pub Finds : Option X → Option X → Type 0
-  Finds None None = Unit {0}
-  Finds None (Some w) = ⊥
-  Finds (Some v) None = ⊥
-  Finds (Some v) (Some w) = (k : K) × IsTrue (p k) × Q k v w
-
-  go : (e : K × X) (w : X) (es rest : List (K × X)) → Q e.0 e.1 w → Finds (lookup p es) (lookup p rest) → (b : Bool) → p e.0 ≡ b → Finds (cond b (Some e.1) (lookup p es)) (cond b (Some w) (lookup p rest))
-  go v0 v1 v2 v3 v4 v5 v6 v7 = search rules
-
-  pub looked_up : {F : Type 0} (T : F → K → X → Bool → X → F → Type 0) (f : F) → ((k : K) (v : X) (b : Bool) (w : X) (f' : F) → T f k v b w f' → (b ≡ true) × Q k v w × (f' ≡ f)) → (es kept : List (K × X)) → RetainsPairs T f es kept → Finds (lookup p es) (lookup p kept)
-  looked_up T f h [] kept r = subst (λ l. Finds None (lookup p l)) (sym r) tt
-  looked_up T f h (e ∷ es) kept r = search (rules, looked_up T f h es r.3)

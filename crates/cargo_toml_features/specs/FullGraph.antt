@@ -1,24 +1,22 @@
 -- Words of the steps to the full graph, on which no public contract rests.
 use Rattle.std.specs.Prelude.{◌≡◌, ◌∷◌, ◌++◌, ◌||◌, [], ℕ, Bool, List, if◌then◌else◌, bytes_eq}
 use Rattle.std.specs.Prelude.{codes, length, map, nat_lt, string_bytes, take, ◌&&◌, Option, Some}
-use Rattle.std.specs.Prelude.{None, is_some, option_map, unwrap_or, false, not, true, IsTrue, Vec}
-use Rattle.std.specs.{Option.option_or, Option.ForSome, Option.IsSomeAnd, Ordering.is_eq}
-use Rattle.std.specs.{List.list_any, BTreeMap.BTreeMap, Borrow.Bor, declared.alloc.Global.Global}
+use Rattle.std.specs.Prelude.{None, is_some, option_map, unwrap_or, false, not}
+use Rattle.std.specs.{Option.option_map_or, Option.option_or, Option.ForSome, Ordering.is_eq}
+use Rattle.std.specs.{List.list_any}
 use Rattle.cargo_toml_features.specs.{declared.admit.Listing.Listing, Marks.detail_in}
-use Rattle.cargo_toml_features.specs.Marks.{named_details, marked, marks_of}
-use Rattle.cargo_toml_features.specs.Views.{listed_of, recorded_in, action_at, set_has}
+use Rattle.cargo_toml_features.specs.{Marks.named_details, Views.listed_of, Views.recorded_in}
 use Rattle.cargo_toml_features.specs.declared.features.FeatureDependency.{FeatureDependency}
-use Rattle.cargo_toml_features.specs.{declared.read.Mentions.Mentions, Recorded.Entry}
+use Rattle.cargo_toml_features.specs.{declared.record.Mentions.Mentions, Recorded.Entry}
 use Rattle.cargo_toml_features.specs.Recorded.{RecordedKey, target_cmp, first_target, is_redundant}
-use Rattle.cargo_toml_features.specs.Recorded.{recorded_of, without_redundant}
+use Rattle.cargo_toml_features.specs.Recorded.{recorded_of}
 use Rattle.cargo_toml_features.specs.{Slots.held_in, Slots.Relates, declared.slots.Slots.Slots}
 use Rattle.cargo_toml_features.specs.{InOrder.feature_at, Searching.has_key}
+use Rattle.cargo_toml_features.specs.Vertices.{vertex_at}
 use Rattle.cargo_toml_features.specs.declared.features.Feature.{Feature}
 use Rattle.cargo_toml_features.specs.declared.slots.RedundantFeatures.{RedundantFeatures}
-use Rattle.cargo_toml_features.specs.{declared.features.DepAction.DepAction, Resolved.plain_action}
-use Rattle.cargo_toml_graph.specs.Action.{Text, Action}
+use Rattle.cargo_toml_graph.specs.Action.{Text}
 use Rattle.cargo_toml_package.specs.Dependencies.{is_optional, package_of}
-use Rattle.cargo_toml_package.specs.Details.{plain_detail}
 
 -- there is room for one more, or it is `default`
 abbrev pub has_place : ℕ → List Listing → Text → Bool
@@ -59,9 +57,11 @@ recorded_next r e = record {
 abbrev pub recorded_with : Option RecordedKey → Entry → RecordedKey
 recorded_with o e = recorded_next (unwrap_or o (recorded_nowhere e)) e
 
--- k is a feature, or one acts on it
+-- k is a feature that is listed, or one acts on it
 abbrev pub is_mentioned_in : Mentions → Text → Bool
-is_mentioned_in m k = is_some (feature_at m.features.items k) || has_key m.acted.keys k
+is_mentioned_in m k =
+    option_map_or (λ v. v.is_listed) (vertex_at m.vertices.items k) false
+    || has_key m.acted.keys k
 
 -- what is recorded of q after e, where o was recorded of q before: e counts if its key is recorded
 -- already or mentioned, or e is optional
@@ -100,43 +100,7 @@ pub record IsSaidOf (m : Slots FeatureDependency) (o : Option (Slots RedundantFe
   pub listed : ForSome o (λ r. (x : Text) → has_redundant (held_in r k) x
       ≡ is_redundant (first_target es) x)
 
--- the action without these features
-abbrev pub without_features : (Text → Bool) → Action → Action
-without_features these a = record a { features = λ x. a.features x && not (these x) }
-
--- each action of the feature lost what is redundant by the entries of its key, and
--- nothing else changed
-pub record Thinned (entries : Text → List Entry) (old new : Feature) : Type 0 where
-  pub same : new ≡ record old { enables_deps = new.enables_deps }
-  pub actions : (k : Text) → action_at new.enables_deps k
-      ≡ option_map (without_redundant (first_target (entries k))) (action_at old.enables_deps k)
-
--- so did each feature
-pub record ThinnedAll (entries : Text → List Entry) (old new : List Feature) : Type 0 where
-  pub at : (q : Text) → Relates (Thinned entries) (feature_at old q) (feature_at new q)
-
 -- ---- features that optional dependencies imply
--- one plain action, on q
-abbrev pub ActsOn : Text → BTreeMap (Bor Text) DepAction → Type 0
-ActsOn q m = (k : Text) → action_at m k ≡ (if bytes_eq k q then Some plain_action else None)
-
--- the implied feature of the key q: it names nothing, has one plain action, on itself, and nothing
--- is said of it
-pub record IsImplied (q : Text) (v : Feature) : Type 0 where
-  pub key : v.key.now ≡ q
-  pub names : (x : Text) → set_has v.enables_features x ≡ false
-  pub actions : ActsOn q v.enables_deps
-  pub enabled_by : v.enabled_by.keys ≡ []
-  pub bins : v.required_by_bins.items ≡ []
-  pub marks : marks_of v ≡ marked false plain_detail
-
--- what stands at q once it was implied, if it was: where a feature had the name, it stays
-abbrev pub Becomes : Bool → Text → Option Feature → Option Feature → Type 0
-Becomes true q None o = IsSomeAnd o (IsImplied q)
-Becomes false q None o = o ≡ None
-Becomes true q (Some v) o = o ≡ Some v
-Becomes false q (Some v) o = o ≡ Some v
-
 -- an optional entry of the key q
 abbrev pub is_optional_at : Text → Entry → Bool
 is_optional_at q e = bytes_eq e.key q && is_optional e.dependency
@@ -148,18 +112,6 @@ is_offered reserved entries q = list_any (is_optional_at q) entries && not (rese
 -- the entry is optional, and its key is not reserved
 abbrev pub is_offered_alone : (Text → Bool) → Entry → Bool
 is_offered_alone reserved e = is_optional e.dependency && not (reserved e.key)
-
--- of the names that are implied, those without a feature gained the implied one
-pub record ImpliesAll (implied : Text → Bool) (old new : List Feature) : Type 0 where
-  pub at : (q : Text) → Becomes (implied q) q (feature_at old q) (feature_at new q)
-
--- the key is one of these
-abbrev pub is_one_of : List Text → Text → Bool
-is_one_of keys q = list_any (bytes_eq q) keys
-
--- none of the keys has a feature yet
-abbrev pub AreFree : Vec (Bor Text) Global → List Feature → Type 0
-AreFree keys vs = (q : Text) → IsTrue (has_key keys q) → feature_at vs q ≡ None
 
 -- ---- features that learn which binaries require them
 -- the feature gained these binaries, and nothing else changed

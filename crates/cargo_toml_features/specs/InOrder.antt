@@ -1,12 +1,12 @@
 -- Features as a list in the byte order of their names, and maps in that order.
-use Rattle.std.specs.Prelude.{◌≡◌, List, [], Option, IfSome, bytes_eq, is_some, map, ◌<◌, ◌≤◌, ℕ}
-use Rattle.std.specs.{Prelude.false, Prelude.IsTrue, Prelude.length, List.find}
+use Rattle.std.specs.Prelude.{◌≡◌, List, [], Option, IfSome, bytes_eq, is_some, map}
+use Rattle.std.specs.{List.find}
 use Rattle.cargo_toml_features.specs.{declared.features.Feature.Feature, Views.resolution_by}
-use Rattle.cargo_toml_features.specs.{Views.table_by, Places.nth_text, Marks.NamedDetails}
+use Rattle.cargo_toml_features.specs.{Views.table_by, Marks.NamedDetails}
 use Rattle.cargo_toml_features.specs.{Marks.marks_in, Marks.marks_of, Recorded.Entry}
 use Rattle.cargo_toml_features.specs.Resolved.{table_of}
 use Rattle.cargo_toml_graph.specs.{Ascending.Ascend, Action.Text, Graph.Table, Graph.Resolution}
-use Rattle.cargo_toml_graph.specs.Admitted.{is_below, Listed}
+use Rattle.cargo_toml_graph.specs.Admitted.{Listed}
 
 abbrev pub names_of : List Feature → List Text
 names_of vs = map (λ v. v.key.now) vs
@@ -35,18 +35,6 @@ pub record AreTable (t : Table) (vs : List Feature) : Type 0 where
   pub has : (f : Text) → is_some (feature_at vs f) ≡ t.has f
   pub names : (f x : Text) → (table_among vs).names f x ≡ t.names f x
   pub action : (f k : Text) → (table_among vs).action f k ≡ t.action f k
-
--- ---- where a feature is put
--- the names before the place are below f, and the one there isn't
-pub record IsBoundOf (vs : List Feature) (place : ℕ) (f : Text) : Type 0 where
-  pub within : place ≤ length vs
-  pub below : (k : ℕ) → k < place → IsTrue (is_below (nth_text (names_of vs) k) f)
-  pub above : place < length vs → is_below (nth_text (names_of vs) place) f ≡ false
-
--- the same, and f isn't there
-pub record IsPlaceOf (vs : List Feature) (place : ℕ) (f : Text) : Type 0 where
-  pub bound : IsBoundOf vs place f
-  pub free : place < length vs → nth_text (names_of vs) place ≡ f → ⊥
 
 -- ---- the full graph
 -- the features of what is listed, each with its marks and with the binaries that require it

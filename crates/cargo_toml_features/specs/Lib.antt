@@ -19,6 +19,8 @@ pub mod Examples
 pub mod InOrder
 pub mod Places
 pub mod FullGraph
-pub mod Reading
+pub mod Said
+pub mod Vertices
+pub mod Made
 pub mod Slots
 pub mod Searching

@@ -15,3 +15,7 @@ IsSearchable texts = IsTrue (nat_lt FEW (length texts)) → Ascend texts
 -- that they do is one fact
 pub IsSearchable-prop : (texts : List Text) → IsProp (IsSearchable texts)
 IsSearchable-prop texts = λ f g i long. Ascend-prop texts (f long) (g long) i
+
+-- the key is one of these
+abbrev pub is_one_of : List Text → Text → Bool
+is_one_of keys q = list_any (bytes_eq q) keys

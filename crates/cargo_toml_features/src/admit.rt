@@ -1,7 +1,7 @@
 //! Which features of a table count, in what order, and what is said of them.
 ghost use Rattle.std.specs.Prelude.{◌≡◌, [], IfOk, OnOk, map, take};
 ghost use Rattle.cargo_toml_graph.specs.{Action.Text, Admitted.Listed, Admitted.admitted};
-ghost use Rattle.cargo_toml_graph.specs.Reach.{IsOnce};
+ghost use Rattle.cargo_toml_graph.specs.Ascending.{Ascend};
 ghost use Rattle.cargo_toml_parts.specs.Reads.{map_meaning};
 ghost use Rattle.cargo_toml_package.specs.Details.{detail_of};
 ghost use Rattle.cargo_toml_features.specs.{FullGraph.AddsListing, Marks.detail_named};
@@ -79,7 +79,7 @@ pub fn listings<'m>(
     ensures all { IfOk result (λ v. listed_of v.items ≡ admitted limit (listed_in table.now)) }
     ensures details { IfOk result (λ v. named_details v.items
         ≡ details_listed (listed_of v.items) (map_meaning detail_of details.now)) }
-    ensures once { IfOk result (λ v. IsOnce (map (λ l. l.name.now) v.items)) }
+    ensures ascend { IfOk result (λ v. Ascend (map (λ l. l.name.now) v.items)) }
 {
     let mut listings = Vec::with_capacity(alloc, table.len().min(limit))?;
     for (name, actions) in table {
@@ -114,7 +114,7 @@ pub fn hashed_listings<'m, S: BuildHasher>(
         → listed_of v.items ≡ admitted limit listed) }
     ensures details { IfOk result
         (λ v. named_details v.items ≡ details_listed (listed_of v.items) []) }
-    ensures once { IfOk result (λ v. IsOnce (map (λ l. l.name.now) v.items)) }
+    ensures ascend { IfOk result (λ v. Ascend (map (λ l. l.name.now) v.items)) }
     ensures listed { IfOk result (λ _. (listed : Listed) × IsListingOf table.now listed) }
 {
     let sorted = in_order(alloc, table)?;

@@ -5,26 +5,26 @@
 //! Callers use both by `cargo_toml::features::Resolver`.
 #![tactic(auto)]
 
-mod acting;
+mod acted;
 pub mod action;
 pub mod admit;
 pub mod entries;
 pub mod examples;
 pub mod features;
-mod imply;
 pub mod laws;
+mod made;
 pub mod node;
-mod ordered;
 pub mod places;
 pub mod questions;
-mod read;
 mod record;
 pub mod recursive;
 mod redundant;
 pub mod required;
+mod said;
 pub mod sets;
 pub mod slots;
 pub mod texts;
 pub mod unremoved;
+mod vertices;
 
 pub use unremoved::resolve_all;

@@ -1,8 +1,8 @@
 //! Which dependencies an answer has.
 ghost use Rattle.std.specs.Prelude.{◌≡◌, ◌↔◌, ◌<◌, Bool, IfOk, IsTrue, OnOk, Some, bytes_eq};
 ghost use Rattle.std.specs.{Prelude.if◌then◌else◌, Prelude.length, Prelude.map, List.list_any};
-ghost use Rattle.cargo_toml_graph.specs.{Action.Text, Reach.Among, Admitted.Listed};
-ghost use Rattle.cargo_toml_features.specs.{InOrder.AreInOrder, Recorded.is_mentioned};
+ghost use Rattle.cargo_toml_graph.specs.{Action.Text, Ascending.Ascend, Reach.Among, Admitted.Listed};
+ghost use Rattle.cargo_toml_features.specs.{Recorded.is_mentioned, Vertices.vertex_names};
 ghost use Rattle.cargo_toml_features.specs.Recorded.{entries_at, recorded_of};
 ghost use Rattle.cargo_toml_features.specs.FullGraph.{counts_alone, counts_at, is_mentioned_in};
 ghost use Rattle.cargo_toml_features.specs.FullGraph.{recorded_after, recorded_at, recorded_next};
@@ -10,15 +10,24 @@ ghost use Rattle.cargo_toml_features.specs.FullGraph.{recorded_nowhere, recorded
 ghost use Rattle.cargo_toml_features.specs.{Slots.HaveSameNames, Slots.names_in, Views.entry_of};
 ghost use Rattle.cargo_toml_features.specs.{Views.recorded_in, Views.target_in, Places.nth_text};
 
+use crate::acted::Acted;
 use crate::features::{FeatureDependency, ParseDependency, TargetKey};
 use crate::node::Node;
-use crate::ordered::is_there;
 use crate::places::empty_slots;
-use crate::read::Mentions;
 use crate::slots::Slots;
 use crate::texts::ascending;
+use crate::vertices::{Vertex, lists};
 use std::alloc::{AllocError, Global};
 use std::collections::BTreeMap;
+
+/// What lists mention.
+#[derive(Drop)]
+pub struct Mentions<'m> {
+    /// The features, in the byte order of their names.
+    pub vertices: Vec<Vertex<'m>>,
+    /// The keys that they act on.
+    pub acted: Acted<'m>,
+}
 
 // Where the entry stands.
 #[inline(always)]
@@ -62,22 +71,22 @@ fn add_target<'m: 'd, 'd>(
 // Whether an entry counts by itself.
 #[inline(always)]
 fn counts<'m>(mentions: &Mentions<'m>, entry: &ParseDependency<'m, '_>) -> bool
-    requires { AreInOrder mentions.now.features.items }
+    requires { Ascend (vertex_names mentions.now.vertices.items) }
     ensures { result ≡ counts_alone (is_mentioned_in mentions.now) (entry_of entry.now) }
 {
     entry.dep.optional()
         || mentions.acted.has(entry.key)
-        || is_there(mentions.features.as_slice(), entry.key)
+        || lists(mentions.vertices.as_slice(), entry.key)
 }
 
 // Whether there is no feature except `default`, which is always there.
 fn has_default_alone(mentions: &Mentions<'_>) -> bool {
-    mentions.features.len() == 1
+    mentions.vertices.len() == 1
 }
 
 // Whether one of the entries counts by itself.
 fn counts_any<'m>(mentions: &Mentions<'m>, entries: &[ParseDependency<'m, '_>]) -> bool
-    requires { AreInOrder mentions.now.features.items }
+    requires { Ascend (vertex_names mentions.now.vertices.items) }
     ensures { result ≡ list_any (counts_alone (is_mentioned_in mentions.now))
         (map entry_of entries.now) }
 {
@@ -104,7 +113,7 @@ fn counting_entries<'m: 'd, 'd>(
     mentions: &Mentions<'m>,
     entries: &[ParseDependency<'m, 'd>],
 ) -> Result<Counting<'d>, AllocError>
-    requires { AreInOrder mentions.now.features.items }
+    requires { Ascend (vertex_names mentions.now.vertices.items) }
     ensures flags { IfOk result (λ v. v.flags.items
         ≡ map (counts_alone (is_mentioned_in mentions.now)) (map entry_of entries.now)) }
     ensures keys { IfOk result (λ v. (k : Text) → Among (map (λ t. t.now) v.keys.items) k
@@ -174,14 +183,14 @@ fn record_entry<'m: 'd, 'd>(
     Ok(next)
 }
 
-/// The dependencies of the entries that count, where the features of `mentions` stand in byte
+/// The dependencies of the entries that count, where the vertices of `mentions` stand in byte
 /// order. It fails only when out of memory.
 pub fn record_dependencies<'m: 'd, 'd>(
     alloc: Global,
     mentions: &Mentions<'m>,
     entries: &[ParseDependency<'m, 'd>],
 ) -> Result<Slots<'d, FeatureDependency<'d>>, AllocError>
-    requires { AreInOrder mentions.now.features.items }
+    requires { Ascend (vertex_names mentions.now.vertices.items) }
     ensures recorded { IfOk result (λ s. (listed : Listed)
         → ((k : Text) → is_mentioned_in mentions.now k ≡ is_mentioned listed k) → (k : Text)
         → recorded_at s k ≡ recorded_of (entries_at listed (map entry_of entries.now) k)) }

@@ -1,17 +1,17 @@
 //! Features of dependencies that are on anyway.
-ghost use Rattle.std.specs.Prelude.{◌≡◌, IfOk, List, Option, Some, bytes_eq, map, option_map};
-ghost use Rattle.std.specs.{Prelude.string_bytes, List.list_any, Option.ForSome};
-ghost use Rattle.cargo_toml_package.specs.Dependencies.{DependencyMeaning, dependency_meaning};
+ghost use Rattle.std.specs.Prelude.{◌≡◌, IfOk, List, OnOk, Option, Some, bytes_eq, length, map};
+ghost use Rattle.std.specs.{Prelude.option_map, Prelude.string_bytes, List.list_any, Option.ForSome};
+ghost use Rattle.cargo_toml_package.specs.Dependencies.{dependency_meaning};
 ghost use Rattle.cargo_toml_graph.specs.Action.{Text};
 ghost use Rattle.cargo_toml_features.specs.Recorded.{Entry, first_target, is_redundant};
-ghost use Rattle.cargo_toml_features.specs.Recorded.{recorded_of, without_redundant};
+ghost use Rattle.cargo_toml_features.specs.Recorded.{recorded_of};
 ghost use Rattle.cargo_toml_features.specs.FullGraph.{recorded_at, AreRedundantOf, IsRecordOf};
-ghost use Rattle.cargo_toml_features.specs.FullGraph.{IsSaidOf, Thinned, ThinnedAll, has_redundant};
-ghost use Rattle.cargo_toml_features.specs.{FullGraph.without_features, Searching.has_key};
-ghost use Rattle.cargo_toml_features.specs.{Slots.held_in, InOrder.AreInOrder, InOrder.names_of};
-ghost use Rattle.cargo_toml_features.specs.Views.{action_of, recorded_in};
+ghost use Rattle.cargo_toml_features.specs.FullGraph.{IsSaidOf, has_redundant};
+ghost use Rattle.cargo_toml_features.specs.{Made.thinned, Said.said_by, Searching.has_key};
+ghost use Rattle.cargo_toml_features.specs.{Views.recorded_in};
 
-use crate::features::{DepAction, Feature, FeatureDependency};
+use crate::features::FeatureDependency;
+use crate::said::ListItem;
 use crate::slots::{RedundantFeatures, Slots};
 use crate::texts::{FEW, ascending, place_of};
 use cargo_toml_package::Dependency;
@@ -162,123 +162,75 @@ fn is_redundant(dependency: &Dependency, feature: &str) -> bool
     (detail.default_features && feature == "default") || lists(&detail.features, feature)
 }
 
-// Takes out of the action what the dependency has anyway.
-fn thin_action(action: &mut DepAction<'_>, dependency: &Dependency)
-    ensures { action_of action.new
-        ≡ without_redundant (Some (dependency_meaning dependency.now)) (action_of action.old) }
-{
-    action
-        .dep_features
-        .retain(|feature| !is_redundant(dependency, *feature));
-}
-
-// The same by a list.
-fn thin_by(action: &mut DepAction<'_>, redundant: &RedundantFeatures<'_>)
-    ensures { action_of action.new
-        ≡ without_features (has_redundant (Some redundant.now)) (action_of action.old) }
-{
-    action
-        .dep_features
-        .retain(|feature| !redundant.has(*feature));
-}
-
-// The same by the list of the key, if there is one.
-fn thin_by_key(key: &str, action: &mut DepAction<'_>, redundant: &Slots<'_, RedundantFeatures<'_>>)
-    ensures { (d : Option DependencyMeaning) → ((x : Text)
-        → has_redundant (held_in redundant.now key.now) x ≡ is_redundant d x)
-        → action_of action.new ≡ without_redundant d (action_of action.old) }
-{
-    if let Some(redundant) = redundant.get(key) {
-        thin_by(action, redundant);
-    }
-}
-
-// The same by what is recorded of the key, if it is.
-fn thin_by_record(
+// Whether the dependency of the key has the feature anyway: by the list of the key, if there are
+// lists, or else by what is recorded of the key.
+fn has_anyway(
     key: &str,
-    action: &mut DepAction<'_>,
+    feature: &str,
     dependencies: &Slots<'_, FeatureDependency<'_>>,
-)
-    ensures { (es : List Entry) → recorded_at dependencies.now key.now ≡ recorded_of es
-        → action_of action.new ≡ without_redundant (first_target es) (action_of action.old) }
+    lists: &Option<Slots<'_, RedundantFeatures<'_>>>,
+) -> bool
+    ensures { (es : List Entry) → IsSaidOf dependencies.now lists.now key.now es
+        → result ≡ is_redundant (first_target es) feature.now }
 {
-    if let Some(dependency) = dependency_of(dependencies, key) {
-        thin_action(action, dependency);
+    if let Some(lists) = lists {
+        return match lists.get(key) {
+            Some(redundant) => redundant.has(feature),
+            None => false,
+        };
+    }
+    match dependency_of(dependencies, key) {
+        Some(dependency) => is_redundant(dependency, feature),
+        None => false,
     }
 }
 
-// The same of the action on the key. Most actions ask for no feature of it: then it isn't looked
-// up.
-fn thin_action_on(
-    key: &str,
-    action: &mut DepAction<'_>,
+// The item loses the feature that it asks of its dependency, if that has it anyway.
+fn thin_item(
+    item: &mut ListItem<'_>,
     dependencies: &Slots<'_, FeatureDependency<'_>>,
-    redundant: &Option<Slots<'_, RedundantFeatures<'_>>>,
+    lists: &Option<Slots<'_, RedundantFeatures<'_>>>,
 )
-    ensures { (es : List Entry) → IsSaidOf dependencies.now redundant.now key.now es
-        → action_of action.new ≡ without_redundant (first_target es) (action_of action.old) }
+    ensures { (entries : Text → List Entry)
+        → ((k : Text) → IsSaidOf dependencies.now lists.now k (entries k))
+        → said_by item.new ≡ thinned entries (said_by item.old) }
 {
-    if action.dep_features.is_empty() {
+    let Some(feature) = item.said.dep_feature else {
         return;
+    };
+    if has_anyway(item.said.target, feature, dependencies, lists) {
+        item.said.dep_feature = None;
     }
-    if let Some(redundant) = redundant {
-        thin_by_key(key, action, redundant);
-        return;
-    }
-    thin_by_record(key, action, dependencies);
 }
 
-// The same of each action of the feature. `retain` lends each value to be written, and keeps all.
-fn thin_feature(
-    feature: &mut Feature<'_>,
+// So does each item.
+fn thin_all(
+    items: &mut [ListItem<'_>],
     dependencies: &Slots<'_, FeatureDependency<'_>>,
-    redundant: &Option<Slots<'_, RedundantFeatures<'_>>>,
+    lists: &Option<Slots<'_, RedundantFeatures<'_>>>,
 )
-    ensures thinned { (entries : Text → List Entry)
-        → ((k : Text) → IsSaidOf dependencies.now redundant.now k (entries k))
-        → Thinned entries feature.old feature.new }
-    ensures same_key { feature.new.key ≡ feature.old.key }
+    ensures { (entries : Text → List Entry)
+        → ((k : Text) → IsSaidOf dependencies.now lists.now k (entries k))
+        → map said_by items.new ≡ map (thinned entries) (map said_by items.old) }
 {
-    // Most features have none.
-    if feature.enables_deps.is_empty() {
-        return;
-    }
-    feature.enables_deps.retain(|key, action| {
-        thin_action_on(*key, action, dependencies, redundant);
-        true
-    });
-}
-
-// The same of each feature.
-fn drop_redundant(
-    features: &mut [Feature<'_>],
-    dependencies: &Slots<'_, FeatureDependency<'_>>,
-    redundant: &Option<Slots<'_, RedundantFeatures<'_>>>,
-)
-    ensures thinned { (entries : Text → List Entry)
-        → ((k : Text) → IsSaidOf dependencies.now redundant.now k (entries k))
-        → ThinnedAll entries features.old features.new }
-    ensures same_names { names_of features.new ≡ names_of features.old }
-{
-    for feature in features.iter_mut() {
-        thin_feature(feature, dependencies, redundant);
+    for item in items.iter_mut() {
+        thin_item(item, dependencies, lists);
     }
 }
 
-/// The features, which stand in byte order. Their actions lose the dependency features that are on
-/// anyway: those that the dependency's first target lists, and `default` where it has its default
-/// features. They lose none where that target is no detail. It fails only when out of memory.
-pub fn without_redundant<'m, 'd>(
+/// The items lose the dependency features that are on anyway: those that the dependency's first
+/// target lists, and `default` where it has its default features. They lose none where that target
+/// is no detail. It fails only when out of memory.
+pub fn drop_redundant<'d>(
     alloc: Global,
-    mut features: Vec<Feature<'m>>,
+    items: &mut Vec<ListItem<'_>>,
     dependencies: &Slots<'d, FeatureDependency<'d>>,
-) -> Result<Vec<Feature<'m>>, AllocError>
-    requires { AreInOrder features.items }
-    ensures in_order { IfOk result (λ vs. AreInOrder vs.items) }
-    ensures thinned { IfOk result (λ vs. (entries : Text → List Entry)
-        → IsRecordOf dependencies.now entries → ThinnedAll entries features.entry.items vs.items) }
+) -> Result<(), AllocError>
+    ensures count { OnOk result (length items.new.items ≡ length items.old.items) }
+    ensures lost { OnOk result ((entries : Text → List Entry) → IsRecordOf dependencies.now entries
+        → map said_by items.new.items ≡ map (thinned entries) (map said_by items.old.items)) }
 {
-    let redundant = long_lists(alloc, dependencies)?;
-    drop_redundant(features.as_mut_slice(), dependencies, &redundant);
-    Ok(features)
+    let lists = long_lists(alloc, dependencies)?;
+    thin_all(items.as_mut_slice(), dependencies, &lists);
+    Ok(())
 }

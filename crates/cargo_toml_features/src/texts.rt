@@ -1,6 +1,6 @@
 //! Texts in byte order, and where one stands among them.
-ghost use Rattle.std.specs.Prelude.{◌≡◌, ◌↔◌, ◌<◌, IfOk, IfSome, IsTrue, None, bytes_eq, is_some};
-ghost use Rattle.std.specs.Prelude.{length, map};
+ghost use Rattle.std.specs.Prelude.{◌≡◌, ◌↔◌, ◌<◌, IfOk, IfSome, IsTrue, None, bytes_eq, false};
+ghost use Rattle.std.specs.Prelude.{is_some, length, map};
 ghost use Rattle.cargo_toml_graph.specs.{Ascending.Ascend, Action.Text, Reach.Among};
 ghost use Rattle.cargo_toml_features.specs.{Places.nth_text, Views.set_has, Views.value_at};
 
@@ -65,35 +65,68 @@ pub fn is_same(a: &str, b: &str) -> bool
     a.len() == b.len() && a == b
 }
 
-// Where a text stands first among texts, if it does.
-fn first_of(texts: &[&str], text: &str) -> Option<usize>
-    ensures found { IfSome result (λ i.
-        (i < length texts.now) × (nth_text (map (λ t. t.now) texts.now) i ≡ text.now)) }
-    ensures missing { result ≡ None → ¬ Among (map (λ t. t.now) texts.now) text.now }
-{
-    texts.iter().position(|other| is_same(*other, text))
+/// What has a name, by which it is looked up.
+pub trait Named {
+    ghost text: { Self → Text };
+
+    /// Its name.
+    fn name(&self) -> &str
+        ensures { result.now ≡ text self.now };
 }
 
-// The same, where the texts stand in byte order.
-fn searched(texts: &[&str], text: &str) -> Option<usize>
-    requires { Ascend (map (λ t. t.now) texts.now) }
-    ensures found { IfSome result (λ i.
-        (i < length texts.now) × (nth_text (map (λ t. t.now) texts.now) i ≡ text.now)) }
-    ensures missing { result ≡ None → ¬ Among (map (λ t. t.now) texts.now) text.now }
-{
-    texts.binary_search(&text).ok()
+impl Named for &str {
+    ghost text = { λ t. t.now };
+
+    #[inline(always)]
+    fn name(&self) -> &str {
+        *self
+    }
 }
 
-/// Where a text stands among texts in byte order, if it does.
-pub fn place_of(texts: &[&str], text: &str) -> Option<usize>
-    requires { Ascend (map (λ t. t.now) texts.now) }
+// Where a name stands first, if it does.
+fn first_of<T: Named>(all: &[T], name: &str) -> Option<usize>
     ensures found { IfSome result
-        (λ i. (i < length texts.now) × (nth_text (map (λ t. t.now) texts.now) i ≡ text.now)) }
-    ensures missing { result ≡ None → ¬ Among (map (λ t. t.now) texts.now) text.now }
+        (λ i. (i < length all.now) × (nth_text (map T.text all.now) i ≡ name.now)) }
+    ensures missing { result ≡ None → ¬ Among (map T.text all.now) name.now }
 {
-    if texts.len() > FEW {
-        searched(texts, text)
+    all.iter().position(|one| is_same(one.name(), name))
+}
+
+// Whether the name stands at this place.
+fn stands_at<T: Named>(all: &[T], place: usize, name: &str) -> bool
+    ensures yes { IsTrue result
+        → (place < length all.now) × (nth_text (map T.text all.now) place ≡ name.now) }
+    ensures no { result ≡ false → place < length all.now
+        → nth_text (map T.text all.now) place ≡ name.now → ⊥ }
+{
+    place < all.len() && is_same(all[place].name(), name)
+}
+
+// Where a name stands among names in byte order, if it does.
+fn searched<T: Named>(all: &[T], name: &str) -> Option<usize>
+    requires { Ascend (map T.text all.now) }
+    ensures found { IfSome result
+        (λ i. (i < length all.now) × (nth_text (map T.text all.now) i ≡ name.now)) }
+    ensures missing { result ≡ None → ¬ Among (map T.text all.now) name.now }
+{
+    let place = all.partition_point(|one| one.name() < name);
+    if stands_at(all, place, name) {
+        Some(place)
     } else {
-        first_of(texts, text)
+        None
+    }
+}
+
+/// Where a name stands among names in byte order, if it does.
+pub fn place_of<T: Named>(all: &[T], name: &str) -> Option<usize>
+    requires { Ascend (map T.text all.now) }
+    ensures found { IfSome result
+        (λ i. (i < length all.now) × (nth_text (map T.text all.now) i ≡ name.now)) }
+    ensures missing { result ≡ None → ¬ Among (map T.text all.now) name.now }
+{
+    if all.len() > FEW {
+        searched(all, name)
+    } else {
+        first_of(all, name)
     }
 }

@@ -1,22 +1,25 @@
 //! From what a manifest lists to the full graph: all that is resolved before any feature is
 //! removed.
 ghost use Rattle.std.specs.Prelude.{map, option_map, IfOk};
-ghost use Rattle.cargo_toml_graph.specs.{Action.Text, Reach.IsOnce};
+ghost use Rattle.cargo_toml_graph.specs.{Action.Text, Ascending.Ascend};
 ghost use Rattle.cargo_toml_features.specs.Slots.{HeldHaveTargets, held_in};
 ghost use Rattle.cargo_toml_features.specs.InOrder.{AreUnremoved, AreInOrder, HaveNoEnablers};
 ghost use Rattle.cargo_toml_features.specs.OwnBins.{own_of, bin_requirement};
 ghost use Rattle.cargo_toml_features.specs.{Marks.named_details, Views.listed_of, Views.entry_of};
 ghost use Rattle.cargo_toml_features.specs.{Views.recorded_in, Recorded.entries_at};
 ghost use Rattle.cargo_toml_features.specs.{Recorded.recorded_of, Resolved.SameRecorded};
+ghost use Rattle.cargo_toml_features.specs.Vertices.{listing_names};
 
+use crate::acted::acted_of;
 use crate::admit::Listing;
 use crate::features::{Feature, FeatureDependency, ParseDependency};
-use crate::imply::with_implied;
-use crate::read::{Mentions, read_features};
-use crate::record::record_dependencies;
-use crate::redundant::without_redundant;
+use crate::made::features_of;
+use crate::record::{Mentions, record_dependencies};
+use crate::redundant::drop_redundant;
 use crate::required::{Requirement, with_bins};
+use crate::said::items_of;
 use crate::slots::Slots;
+use crate::vertices::vertices_of;
 use std::alloc::{AllocError, Global};
 
 /// What is resolved before any feature is removed.
@@ -32,7 +35,7 @@ pub struct Unremoved<'m, 'd> {
 /// Resolves the full graph: features as they are listed, with entries of whatever dependency tables
 /// and what binaries require. None of them is removed.
 ///
-/// Each name is listed once. No feature has its enablers yet: `cargo_toml_resolve` sets them. It
+/// Listings stand in the byte order of their names. No feature has its enablers yet: `cargo_toml_resolve` sets them. It
 /// fails only when out of memory.
 pub fn resolve_all<'m: 'd, 'd>(
     alloc: Global,
@@ -40,7 +43,7 @@ pub fn resolve_all<'m: 'd, 'd>(
     entries: &[ParseDependency<'m, 'd>],
     requirements: &[Requirement<'m>],
 ) -> Result<Unremoved<'m, 'd>, AllocError>
-    requires { IsOnce (map (λ l. l.name.now) listings.now) }
+    requires { Ascend (listing_names listings.now) }
     ensures in_order { IfOk result (λ a. AreInOrder a.features.items) }
     ensures features { IfOk result (λ a. AreUnremoved (listed_of listings.now)
         (map entry_of entries.now) (named_details listings.now)
@@ -51,14 +54,15 @@ pub fn resolve_all<'m: 'd, 'd>(
         (recorded_of (entries_at (listed_of listings.now) (map entry_of entries.now) k))) }
     ensures targets { IfOk result (λ a. HeldHaveTargets a.dependencies) }
 {
-    let mentions = read_features(alloc, listings)?;
-    // Before features are implied: an entry that isn't optional would count as mentioned, if an
-    // optional entry of its key that comes later had made a feature of that name.
+    let mut items = items_of(alloc, listings)?;
+    let acted = acted_of(alloc, items.as_slice())?;
+    let vertices = vertices_of(alloc, listings, &acted, entries)?;
+    let mentions = Mentions { vertices, acted };
     let dependencies = record_dependencies(alloc, &mentions, entries)?;
-    let Mentions { features, acted } = mentions;
-    let thinned = without_redundant(alloc, features, &dependencies)?;
-    let implied = with_implied(alloc, thinned, &acted, entries)?;
-    let features = with_bins(implied, requirements)?;
+    drop_redundant(alloc, &mut items, &dependencies)?;
+    let vertices = mentions.vertices.as_slice();
+    let made = features_of(alloc, vertices, items.as_slice())?;
+    let features = with_bins(made, vertices, requirements)?;
     Ok(Unremoved {
         features,
         dependencies,

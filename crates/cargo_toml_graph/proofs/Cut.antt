@@ -2,8 +2,8 @@
 use Rattle.std.proofs.Common.{◌≡◌, ◌⊎◌, ◌+◌, ◌≤◌, ℕ, Bool, true, false, cond, ◌||◌, List, [], ◌∷◌, ◌++◌, map, filter, fold, take, length, length-append, nat_lt, codes, bytes_eq, count_by, append_assoc, arith, IsTrue, refl, sym, ap, inl, inr, rules}
 use Rattle.std.proofs.lemmas.{Bool.false≢true, Bool.false_from_ne_true, Bool.le-ltb, Bool.ltb-false, List.append-nil, List.Sums.sum_by-cons, Grind.common_steps}
 use Rattle.std.proofs.Math.Bool.{or_comm}
-use Rattle.cargo_toml_graph.specs.{Action.Text, Admitted.Listed, Admitted.is_below, Admitted.is_admitted, Admitted.admitted, Reach.Among, Reach.IsOnce, Ascending.Ascend}
-use Rattle.cargo_toml_graph.proofs.{RedirectsInOrder.below_one_way, SortedTexts.first_below, SortedTexts.others_ascend}
+use Rattle.cargo_toml_graph.specs.{Action.Text, Admitted.Listed, Admitted.is_below, Admitted.is_admitted, Admitted.admitted, Reach.Among, Ascending.Ascend}
+use Rattle.cargo_toml_graph.proofs.{RedirectsInOrder.below_one_way, SortedTexts.first_below, SortedTexts.none_ascend, SortedTexts.others_ascend, SortedTexts.put_first}
 
 -- a name counts while there is room, and `default` always
 abbrev pub is_counted : ℕ → Listed → Text → Bool
@@ -89,18 +89,19 @@ module _ (limit : ℕ) (all : Listed) (ascends : Ascends all) where
   pub cut_is_admitted : cut limit [] all ≡ admitted limit all
   cut_is_admitted = cut_from [] all [] refl (inl refl)
 
--- a name that is admitted is listed, and once
+-- a name that is admitted is listed
 kept_among : (limit : ℕ) (p : Text × List Text → Bool) (es : Listed) (n : Text) → Among (names_of (map (first_of limit) (filter p es))) n → Among (names_of es) n
 kept_among limit p [] n i = i
 kept_among limit p (e ∷ es) n i = search (rules, kept_among limit p es n)
 
-kept_once : (limit : ℕ) (p : Text × List Text → Bool) (es : Listed) → Ascends es → IsOnce (names_of (map (first_of limit) (filter p es)))
-kept_once limit p [] a = tt
-kept_once limit p (e ∷ es) a = go (kept_once limit p es (others_ascend e.0 (names_of es) a)) (p e)
+-- what is admitted ascends too
+kept_ascends : (limit : ℕ) (p : Text × List Text → Bool) (es : Listed) → Ascends es → Ascends (map (first_of limit) (filter p es))
+kept_ascends limit p [] a = none_ascend
+kept_ascends limit p (e ∷ es) a = go (kept_ascends limit p es (others_ascend e.0 (names_of es) a)) (p e)
   where
-    go : IsOnce (names_of (map (first_of limit) (filter p es))) → (b : Bool) → IsOnce (names_of (map (first_of limit) (cond b (e ∷ filter p es) (filter p es))))
-    go later true = ((λ i. let b = first_below e.0 (names_of es) a e.0 (kept_among limit p es e.0 i) in below_one_way e.0 e.0 b b), later)
+    go : Ascends (map (first_of limit) (filter p es)) → (b : Bool) → Ascends (map (first_of limit) (cond b (e ∷ filter p es) (filter p es)))
+    go later true = put_first e.0 (names_of (map (first_of limit) (filter p es))) (λ y i. first_below e.0 (names_of es) a y (kept_among limit p es y i)) later
     go later false = later
 
-pub admitted_once : (limit : ℕ) (listed : Listed) → Ascends listed → IsOnce (names_of (admitted limit listed))
-admitted_once limit listed a = kept_once limit (λ e. is_admitted limit listed e.0) listed a
+pub admitted_ascends : (limit : ℕ) (listed : Listed) → Ascends listed → Ascends (admitted limit listed)
+admitted_ascends limit listed a = kept_ascends limit (λ e. is_admitted limit listed e.0) listed a

@@ -1,6 +1,6 @@
 //! From what a manifest lists to the whole answer.
 ghost use Rattle.std.specs.Prelude.{map, IfOk};
-ghost use Rattle.cargo_toml_graph.specs.{Graph.Table, Reach.IsOnce};
+ghost use Rattle.cargo_toml_graph.specs.{Ascending.Ascend, Graph.Table};
 ghost use Rattle.cargo_toml_features.specs.{FirstTarget.HaveTargets, OwnBins.own_of};
 ghost use Rattle.cargo_toml_features.specs.{OwnBins.bin_requirement, Marks.named_details};
 ghost use Rattle.cargo_toml_features.specs.{Reached.IsKeyed, Views.listed_of, Views.answer_of};
@@ -23,7 +23,7 @@ use std::hash::BuildHasher;
 /// What features are resolved of.
 #[derive(Clone, Copy)]
 pub struct Lists<'l, 'm, 'd> {
-    /// The features, each name once.
+    /// The features, in the byte order of their names, each once.
     pub listings: &'l [Listing<'m>],
     /// The entries of whatever dependency tables.
     pub entries: &'l [ParseDependency<'m, 'd>],
@@ -65,7 +65,7 @@ pub fn resolve<'m: 'd, 'd, F: Fn(&str) -> bool, S: BuildHasher + Clone>(
     filter: Option<&F>,
     lists: &Lists<'_, 'm, 'd>,
 ) -> Result<Features<'m, 'd, S>, AllocError>
-    requires once { IsOnce (map (λ l. l.name.now) lists.now.listings.now) }
+    requires ascend { Ascend (map (λ l. l.name.now) lists.now.listings.now) }
     requires filter { HasNameFilter F.Fn filter }
     ensures resolved { IfOk result (λ a. IsAnswerBy F.Fn filter.entry
         (listed_of lists.now.listings.now) (map entry_of lists.now.entries.now)

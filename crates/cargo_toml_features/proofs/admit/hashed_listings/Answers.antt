@@ -1,4 +1,4 @@
-use Rattle.cargo_toml_features.proofs.Cited.{Listed, [], admitted, admitted_once, ap, cut, cut_is_admitted, listed_of, map, rules, sym, ◌∙◌, ◌≡◌}
+use Rattle.cargo_toml_features.proofs.Cited.{Listed, [], admitted, admitted_ascends, ap, cut, cut_is_admitted, listed_of, map, rules, sym, ◌∙◌, ◌≡◌}
 use Rattle.cargo_toml_features.proofs.Listings.{looked_up, sorted_ascends, sorted_entry, names_listed, one_listing}
 use Rattle.cargo_toml_features.proofs.admit.hashed_listings.Goals as goal
 
@@ -20,5 +20,5 @@ returns-clause-all g c = λ listed is.
     all ∙ cut_is_admitted c.args.limit es own.in_order
     ∙ ap (admitted c.args.limit) (one_listing es listed own.in_order is.in_order (λ f. own.holds f ∙ sym (is.holds f)))
 
-pub returns-clause-once : goal.returns-clause-once
-returns-clause-once g c = search (rules, sorted_entry, sorted_ascends, cut, cut_is_admitted, names_listed, admitted_once)
+pub returns-clause-ascend : goal.returns-clause-ascend
+returns-clause-ascend g c = search (rules, sorted_entry, sorted_ascends, cut, cut_is_admitted, names_listed, admitted_ascends)

@@ -1,8 +1,10 @@
-use Rattle.cargo_toml_features.proofs.ByPlace.{found_there, missing_there}
+use Rattle.cargo_toml_features.proofs.Cited.{always_returns_same, is_below, rules}
+use Rattle.cargo_toml_features.proofs.{Rising.unfound}
 use Rattle.cargo_toml_features.proofs.texts.searched.Goals as goal
 
-pub returns-clause-found : goal.returns-clause-found
-returns-clause-found c = rw c.ok.ensures.value (found_there c.args.texts.now c.args.text.now c.binary_search.result c.binary_search.ensures.bound c.binary_search.ensures.position)
-
-pub returns-clause-missing : goal.returns-clause-missing
-returns-clause-missing c = rw c.ok.ensures.value (missing_there c.args.texts.now c.args.text.now c.binary_search.result c.binary_search.ensures.position c.requires)
+pub returns-else-stands_at-clause-missing : goal.returns-else-stands_at-clause-missing
+returns-else-stands_at-clause-missing g c = λ none. unfound g.T.Named.text c.args.all.now c.args.name.now c.requires c.partition_point-place.result
+    c.partition_point-place.ensures.bound
+    (c.partition_point-place.ensures.partitioned (λ v. is_below (g.T.Named.text v) c.args.name.now)
+    (always_returns_same _ _ _ (λ a r f k. search rules)))
+    (c.stands_at.ensures.no c.if-stands_at.false)

@@ -1,205 +1,339 @@
--- From the features that are read to all that are resolved, before any is removed.
-use Rattle.cargo_toml_features.proofs.Cited.{Action, AreFresh, AreTable, AreUnremoved, Bool, Entry, Feature, FeatureDependency, FeatureMarks, HaveNoEnablers, HeldHaveTargets, IfSome, ImpliesAll, IsFresh, IsImplied, IsRead, IsRecordOf, List, Listed, Mentions, NamedDetails, None, Option, RecordedKey, Relates, Required, RequiredAll, SameRecorded, Slots, Some, Table, Text, Thinned, ThinnedAll, [], ap, ap₂, arith, bin_requirement, bytes_eq, common_steps, cond, detail_listed, entries_at, entry_of, false, false≢true}
-use Rattle.cargo_toml_features.proofs.Cited.{feature_at, first_target, has_key, held_in, is_explicit, is_mentioned, is_mentioned_in, is_offered, is_optional_at, is_reserved, is_some, joined_action, list_any, listed_of, map, marked, marks_in, marks_of, named_details, not, option_map, own_of, plain_action, plain_detail, recorded_at, recorded_in, recorded_of, refl, rules, subst, sym, table_among, table_of, true, without_redundant, ◌&&◌, ◌||◌, ◌∙◌, ◌≡◌}
-use Rattle.cargo_toml_features.proofs.Targets.{has_target}
+-- From what lists say to the full graph, of which no feature is removed.
+use Rattle.cargo_toml_features.proofs.Cited.{HasSpanWithin, Listing, get_or, listing_names, length-map, zero, suc, ℕ, ◌++◌, Action, AreMadeOf, AreUnremoved, AreVertices, Ascend, Bool, Entry, Feature, FeatureDependency, HaveNoEnablers, HeldHaveTargets, IfSome, IsMadeOf, IsOnce, IsRecordOf, IsVertex, Item, List, ListItem, Listed, Mentions, NamedDetails, None, Option, RecordedKey, Relates, Required, RequiredAll, SameRecorded, Slots, Some, Table, Text, Vertex, [], action_at, acts_on, ap, ap₂, arith, bin_requirement, bytes_eq, codes, common_steps, cond, detail_listed, drop, entries_at, entry_of, false, feature_at, first_target, has_key, held_in, is_explicit, is_mentioned, is_mentioned_in, is_offered, is_optional_at, is_reserved, is_some, item_names, item_of, items, joined_action, joined_from, length, list_any, listed_of, lookup, map, marked, marks_in, marks_of, named_details, names_of, not, option_map, option_map_or, own_action, own_of, plain_action, recorded_at, recorded_in, recorded_of, refl, reserves, said_by, set_has, subst, sym, table_of, take, take-map, texts_in, thinned, true, unwrap_or, vertex_at, vertex_names, without_redundant, ◌&&◌, ◌-◌, ◌||◌, ◌∙◌, ◌∷◌, ◌≡◌}
+use Rattle.cargo_toml_features.proofs.{Listings.names_listed, Making.acted_is, Making.reserved_is, Making.joined_thinned, Making.names_thinned, Rising.ascend_once, Rising.found_here, Targets.has_target}
+use Rattle.cargo_toml_features.specs.Made as made
+use Rattle.std.specs.List.{All}
 use Rattle.cargo_toml_features.proofs.unremoved.resolve_all.Goals as goal
 
 -- each dependency under a name has a target, where the slots say the same as some entries
 have_targets : (s : Slots FeatureDependency) (entries : Text → List Entry) → ((k : Text) → SameRecorded (option_map recorded_in (held_in s k)) (recorded_of (entries k))) → HeldHaveTargets s
 have_targets s entries same k = grind (arith, common_steps, has_target)
 
--- tables that say the same
-record Same (t u : Table) : Type 0 where
-  has : (f : Text) → t.has f ≡ u.has f
-  names : (f x : Text) → t.names f x ≡ u.names f x
-  action : (f k : Text) → t.action f k ≡ u.action f k
+same_recorded : (a b : Option RecordedKey) → a ≡ b → SameRecorded a b
+same_recorded a b e = grind (arith, common_steps)
 
--- tables that say the same, of a list
-are_table : (vs : List Feature) (t : Table) → Same (table_among vs) t → AreTable t vs
-are_table vs t u = record { has = u.has; names = u.names; action = u.action }
+-- the vertex and the feature of a name
+abbrev Made : List ListItem → Option Vertex → Option Feature → Type 0
+Made items None None = Unit {0}
+Made items None (Some w) = ⊥
+Made items (Some v) None = ⊥
+Made items (Some v) (Some w) = IsMadeOf v (made.items_of items v) w
 
-or_not : (a i : Bool) → (a || i) ≡ (a || (i && not a))
-or_not v0 v1 = search rules
+names_made : (items : List ListItem) (vs : List Vertex) (ws : List Feature) → AreMadeOf items vs ws → names_of ws ≡ vertex_names vs
+names_made items [] [] h = refl
+names_made items [] (w ∷ ws) h = absurd h
+names_made items (v ∷ vs) [] h = absurd h
+names_made items (v ∷ vs) (w ∷ ws) h = ap₂ (λ n ns. n ∷ ns) h.0.key (names_made items vs ws h.1)
 
--- features each of which changed into another, at its name
-module _ (Changes : Text → Feature → Feature → Type 0) (old new : List Feature) (each : (f : Text) → Relates (Changes f) (feature_at old f) (feature_at new f)) where
-  -- what holds of none, and of each that changed, holds at every name
-  along : (f : Text) (P : Option Feature → Option Feature → Type 0) → P None None → ((a b : Feature) → Changes f a b → P (Some a) (Some b)) → P (feature_at old f) (feature_at new f)
-  along f P none some = grind (arith, common_steps)
+made_at : (items : List ListItem) (vs : List Vertex) (ws : List Feature) → AreMadeOf items vs ws → (f : Text) → Made items (vertex_at vs f) (feature_at ws f)
+made_at items [] [] h f = tt
+made_at items [] (w ∷ ws) h f = absurd h
+made_at items (v ∷ vs) [] h f = absurd h
+made_at items (v ∷ vs) (w ∷ ws) h f =
+    subst (λ n. Made items (cond (bytes_eq f v.name.now) (Some v) (vertex_at vs f)) (cond (bytes_eq f n) (Some w) (feature_at ws f))) (sym h.0.key)
+    (go (bytes_eq f v.name.now) (made_at items vs ws h.1 f))
+  where
+    go : (t : Bool) → Made items (vertex_at vs f) (feature_at ws f) → Made items (cond t (Some v) (vertex_at vs f)) (cond t (Some w) (feature_at ws f))
+    go true later = h.0
+    go false later = later
 
-  has_along : (f : Text) → is_some (feature_at new f) ≡ is_some (feature_at old f)
-  has_along f = along f (λ o o'. is_some o' ≡ is_some o) refl (λ a b r. refl)
+drop-map : {X Y : Type 0} (f : X → Y) (n : ℕ) (xs : List X) → drop n (map f xs) ≡ map f (drop n xs)
+drop-map f zero xs = refl
+drop-map f (suc n) [] = refl
+drop-map f (suc n) (x ∷ xs) = drop-map f n xs
 
-  names_along : ((f : Text) (a b : Feature) → Changes f a b → b.enables_features ≡ a.enables_features) → (f x : Text) → (table_among new).names f x ≡ (table_among old).names f x
-  names_along v0 v1 v2 = search (rules, along)
+-- what a part of mapped items says
+part-map : {X Y : Type 0} (f : X → Y) (n m : ℕ) (xs : List X) → take n (drop m (map f xs)) ≡ map f (take n (drop m xs))
+part-map f n m xs = ap (take n) (drop-map f m xs) ∙ take-map f n (drop m xs)
 
--- the features without what dependencies have anyway
-module _ (entries : Text → List Entry) (old new : List Feature) (h : ThinnedAll entries old new) where
-  has_thinned : (f : Text) → is_some (feature_at new f) ≡ is_some (feature_at old f)
-  has_thinned = has_along (λ f. Thinned entries) old new h.at
-
-  names_thinned : (f x : Text) → (table_among new).names f x ≡ (table_among old).names f x
-  names_thinned = names_along (λ f. Thinned entries) old new h.at (λ f a b r. ap (λ (q : Feature). q.enables_features) r.same)
-
-  action_thinned : (f k : Text) → (table_among new).action f k ≡ option_map (without_redundant (first_target (entries k))) ((table_among old).action f k)
-  action_thinned v0 v1 = search (rules, along, option_map)
-
-  fresh_thinned : (listed : Listed) (details : NamedDetails) → AreFresh listed details old → AreFresh listed details new
-  fresh_thinned listed details fresh f v s = subst (λ o. IfSome o (IsFresh f (detail_listed listed details f))) s (along (λ f. Thinned entries) old new h.at f
-      (λ o o'. ((a : Feature) → o ≡ Some a → IsFresh f (detail_listed listed details f) a) → IfSome o' (IsFresh f (detail_listed listed details f))) (λ k. tt)
-      (λ a b r all.
-      let k = all a refl in
-      record { key = ap (λ (q : Feature). q.key.now) r.same ∙ k.key; marks = ap marks_of r.same ∙ k.marks; enabled_by = ap (λ (q : Feature). q.enabled_by.keys) r.same ∙ k.enabled_by; bins = ap (λ (q : Feature). q.required_by_bins.items) r.same ∙ k.bins })
-      (fresh f))
-
--- the table with the implied features
-module _ (implied : Text → Bool) (old new : List Feature) (h : ImpliesAll implied old new) where
-  -- what holds of none, of one that is implied, and of one that stays, holds at every name
-  became : (f : Text) (P : Bool → Option Feature → Option Feature → Type 0) → P false None None → ((v : Feature) → feature_at old f ≡ None → IsImplied f v → P true None (Some v))
-      → ((t : Bool) (v : Feature) → feature_at old f ≡ Some v → P t (Some v) (Some v)) → P (implied f) (feature_at old f) (feature_at new f)
-  became f P none gained stays = grind (arith, common_steps)
-
-  has_after : (f : Text) → is_some (feature_at new f) ≡ (is_some (feature_at old f) || implied f)
-  has_after f = became f (λ t o o'. is_some o' ≡ (is_some o || t)) refl (λ v s k. refl) (λ t v s. refl)
-
-  names_after : (f x : Text) → (table_among new).names f x ≡ (table_among old).names f x
-  names_after v0 v1 = search (rules, became)
-
-  action_after : (f k : Text) → (table_among new).action f k ≡ cond (is_some (feature_at old f)) ((table_among old).action f k) (cond (implied f && bytes_eq k f) (Some plain_action) None)
-  action_after v0 v1 = search (rules, became)
-
--- a feature that sits under its key, with these marks, and with neither enablers nor binaries
-record IsMarked (f : Text) (these : FeatureMarks) (v : Feature) : Type 0 where
-  key : v.key.now ≡ f
-  enabled_by : v.enabled_by.keys ≡ []
-  bins : v.required_by_bins.items ≡ []
-  marks : marks_of v ≡ these
-
--- the same with the binaries that require it
-record IsTold (f : Text) (these : FeatureMarks) (own : List Text) (v : Feature) : Type 0 where
-  key : v.key.now ≡ f
-  enabled_by : v.enabled_by.keys ≡ []
-  bins : map (λ b. b.now) v.required_by_bins.items ≡ own
-  marks : marks_of v ≡ these
-
--- binaries change neither what features say nor which enable them
-module _ (own : Text → List Text) (old new : List Feature) (h : RequiredAll own old new) where
-  action_required : (f k : Text) → (table_among new).action f k ≡ (table_among old).action f k
-  action_required v0 v1 = search (rules, along)
-
-  told_required : (f : Text) (these : FeatureMarks) → IfSome (feature_at old f) (IsMarked f these) → IfSome (feature_at new f) (IsTold f these (own f))
-  told_required v0 v1 v2 = search (rules, along)
-
--- what the answer tells of them, and of dependencies
-record Told (listed : Listed) (entries : List Entry) (details : NamedDetails) (own : Text → List Text) (last : List Feature) (deps : Slots FeatureDependency) : Type 0 where
+-- what is told of features, and of dependencies
+record IsAllTold (listed : Listed) (entries : List Entry) (details : NamedDetails) (own : Text → List Text) (last : List Feature) (deps : Slots FeatureDependency) : Type 0 where
   features : AreUnremoved listed entries details own last
   no_enablers : HaveNoEnablers last
   dependencies : (k : Text) → SameRecorded (recorded_at deps k) (recorded_of (entries_at listed entries k))
   targets : HeldHaveTargets deps
 
-same_recorded : (a b : Option RecordedKey) → a ≡ b → SameRecorded a b
-same_recorded a b e = grind (arith, common_steps)
-
-module _ (listed : Listed) (entries : List Entry) (details : NamedDetails) (own : Text → List Text) (mentions : Mentions) (thinned implied last : List Feature) (deps : Slots FeatureDependency)
-    (r : IsRead listed (table_among mentions.features.items) (has_key mentions.acted.keys) (has_key mentions.acted.reserved)) (fresh : AreFresh listed details mentions.features.items)
-    (thins : (entries : Text → List Entry) → IsRecordOf deps entries → ThinnedAll entries mentions.features.items thinned) (i : ImpliesAll (is_offered (has_key mentions.acted.reserved) entries) thinned implied)
-    (b : RequiredAll own implied last)
-    (recorded : ((k : Text) → is_mentioned_in mentions k ≡ is_mentioned listed k) → (k : Text) → recorded_at deps k ≡ recorded_of (entries_at listed entries k)) where
+module _ (listed : Listed) (once : IsOnce (map (λ e. e.0) listed)) (entries : List Entry) (details : NamedDetails) (own : Text → List Text) (said items : List ListItem) (mentions : Mentions) (fs last : List Feature) (deps : Slots FeatureDependency)
+    (say : map said_by said ≡ map item_of (texts_in listed))
+    (keys : (k : Text) → has_key mentions.acted.keys k ≡ list_any (acts_on k) (map said_by said)) (reserved : (k : Text) → has_key mentions.acted.reserved k ≡ list_any (reserves k) (map said_by said))
+    (are : AreVertices listed details (is_offered (has_key mentions.acted.reserved) entries) mentions.vertices.items)
+    (recorded : (listed : Listed) → ((k : Text) → is_mentioned_in mentions k ≡ is_mentioned listed k) → (k : Text) → recorded_at deps k ≡ recorded_of (entries_at listed entries k))
+    (thin : (E : Text → List Entry) → IsRecordOf deps E → map said_by items ≡ map (thinned E) (map said_by said))
+    (make : AreMadeOf items mentions.vertices.items fs) (require : RequiredAll own fs last) where
   abbrev t : Table
   t = table_of listed entries
 
+  abbrev E : Text → List Entry
+  E = entries_at listed entries
+
+  abbrev vs : List Vertex
+  vs = mentions.vertices.items
+
+  abbrev offered : Text → Bool
+  offered = is_offered (has_key mentions.acted.reserved) entries
+
+  -- ---- which keys are mentioned
+  listed_at : (f : Text) (o : Option Vertex) → vertex_at vs f ≡ o → option_map_or (λ v. v.is_listed) o false ≡ is_explicit listed f
+  listed_at f None none = sym (off (is_explicit listed f) (offered f) (sym (are.has f) ∙ ap is_some none))
+    where
+      off : (a b : Bool) → (a || b) ≡ false → a ≡ false
+      off true b h = h
+      off false b h = refl
+  listed_at f (Some v) some = (subst (λ o. IfSome o (IsVertex (texts_in listed) f (is_explicit listed f) (unwrap_or (lookup (bytes_eq f) listed) []) (detail_listed listed details f))) some (are.told f)).is_listed
+
   mentioned : (k : Text) → is_mentioned_in mentions k ≡ is_mentioned listed k
-  mentioned k = ap₂ (λ x y. x || y) (r.has k) (r.acted_on k)
+  mentioned k = ap₂ (λ a b. a || b) (listed_at k (vertex_at vs k) refl) (keys k ∙ ap (list_any (acts_on k)) say ∙ acted_is listed once k)
 
-  less : ThinnedAll (entries_at listed entries) mentions.features.items thinned
-  less = thins (entries_at listed entries) (recorded mentioned)
+  record_is : IsRecordOf deps E
+  record_is = recorded listed mentioned
 
-  fresh_still : AreFresh listed details thinned
-  fresh_still = fresh_thinned (entries_at listed entries) mentions.features.items thinned less listed details fresh
+  offered_is : (f : Text) → offered f ≡ (list_any (is_optional_at f) entries && not (is_reserved listed f))
+  offered_is f = ap (λ b. list_any (is_optional_at f) entries && not b) (reserved f ∙ ap (list_any (reserves f)) say ∙ reserved_is listed once f)
 
-  -- what is left of an action on k
-  abbrev left : Text → Action → Action
-  left k = without_redundant (first_target (entries_at listed entries k))
+  -- ---- what is left of a list
+  thin_items : map said_by items ≡ map (thinned E) (map item_of (texts_in listed))
+  thin_items = thin E record_is ∙ ap (map (thinned E)) say
 
-  has_still : (f : Text) → is_some (feature_at thinned f) ≡ is_explicit listed f
-  has_still f = has_thinned (entries_at listed entries) mentions.features.items thinned less f ∙ r.has f
+  abbrev list_of : Text → List Item
+  list_of f = map item_of (unwrap_or (lookup (bytes_eq f) listed) [])
 
-  action_still : (f k : Text) → (table_among thinned).action f k ≡ option_map (left k) (joined_action listed f k)
-  action_still f k = action_thinned (entries_at listed entries) mentions.features.items thinned less f k ∙ ap (option_map (left k)) (r.action f k)
+  items_left : (f : Text) (v : Vertex) → IsVertex (texts_in listed) f (is_explicit listed f) (unwrap_or (lookup (bytes_eq f) listed) []) (detail_listed listed details f) v
+      → made.items_of items v ≡ map (thinned E) (list_of f)
+  items_left f v is =
+      sym (part-map said_by (v.items.end - v.items.start) v.items.start items)
+      ∙ ap (λ xs. take (v.items.end - v.items.start) (drop v.items.start xs)) thin_items
+      ∙ part-map (thinned E) (v.items.end - v.items.start) v.items.start (map item_of (texts_in listed))
+      ∙ ap (map (thinned E)) (part-map item_of (v.items.end - v.items.start) v.items.start (texts_in listed)
+      ∙ ap (map item_of) (ap (λ n. take n (drop v.items.start (texts_in listed))) count ∙ is.items.stand.there))
+    where
+      count : v.items.end - v.items.start ≡ length (unwrap_or (lookup (bytes_eq f) listed) [])
+      count = let ends = is.items.ends in omega (arith, ends)
 
-  offered_is : (f : Text) → is_offered (has_key mentions.acted.reserved) entries f ≡ (list_any (is_optional_at f) entries && not (is_reserved listed f))
-  offered_is f = ap (λ b. list_any (is_optional_at f) entries && not b) (r.reserves f)
+  -- ---- the features, by their names
+  record IsTold (f : Text) (w : Feature) : Type 0 where
+    key : w.key.now ≡ f
+    enabled_by : w.enabled_by.keys ≡ []
+    bins : w.required_by_bins.items ≡ []
+    marks : marks_of w ≡ marks_in listed details f
+    names : (x : Text) → set_has w.enables_features x ≡ list_any (item_names x) (list_of f)
+    action : (k : Text) → action_at w.enables_deps k ≡ t.action f k
 
-  same : Same (table_among implied) t
-  same = record {
-    has = λ f. has_after (is_offered (has_key mentions.acted.reserved) entries) thinned implied i f ∙ ap (λ b. b || is_offered (has_key mentions.acted.reserved) entries f) (has_still f) ∙ ap (λ b. is_explicit listed f || b) (offered_is f) ∙ or_not (is_explicit listed f) _;
-    names = λ f x. names_after (is_offered (has_key mentions.acted.reserved) entries) thinned implied i f x ∙ names_thinned (entries_at listed entries) mentions.features.items thinned less f x ∙ r.names f x;
-    action = λ f k.
-        action_after (is_offered (has_key mentions.acted.reserved) entries) thinned implied i f k ∙ ap (λ b. cond b ((table_among thinned).action f k) (cond (is_offered (has_key mentions.acted.reserved) entries f && bytes_eq k f) (Some plain_action) None)) (has_still f)
-        ∙ ap (λ o. cond (is_explicit listed f) o (cond (is_offered (has_key mentions.acted.reserved) entries f && bytes_eq k f) (Some plain_action) None)) (action_still f k)
-        ∙ ap (λ b. cond (is_explicit listed f) (option_map (left k) (joined_action listed f k)) (cond (b && bytes_eq k f) (Some plain_action) None)) (offered_is f)
-        ∙ go (left k) refl (is_explicit listed f) (joined_action listed f k) (list_any (is_optional_at f) entries && not (is_reserved listed f)) (bytes_eq k f);
+  unlisted : (f : Text) → is_explicit listed f ≡ false → lookup (bytes_eq f) listed ≡ None
+  unlisted f off = go (bytes_eq f (codes "default")) (lookup (bytes_eq f) listed) off
+    where
+      go : (b : Bool) (o : Option (List Text)) → (b || is_some o) ≡ false → o ≡ None
+      go true o h = absurd cc
+      go false None h = refl
+      go false (Some x) h = absurd cc
+
+  -- what an implied feature does, and what a listed one does
+  action_told : (f k : Text) (v : Vertex) (b i : Bool) → is_explicit listed f ≡ b → v.is_listed ≡ b → v.name.now ≡ f → (b ≡ false → i ≡ true)
+      → joined_from (own_action v k) (map (thinned E) (list_of f)) k
+      ≡ option_map (without_redundant (first_target (E k))) (cond b (joined_action listed f k) (cond (i && bytes_eq k f) (Some plain_action) None))
+  action_told f k v true i explicit on named implied =
+      ap (λ l. joined_from (cond l None (cond (bytes_eq k v.name.now) (Some plain_action) None)) (map (thinned E) (list_of f)) k) on
+      ∙ joined_thinned E k None (list_of f)
+  action_told f k v false i explicit off named implied =
+      ap (λ l. joined_from (cond l None (cond (bytes_eq k v.name.now) (Some plain_action) None)) (map (thinned E) (list_of f)) k) off
+      ∙ ap (λ n. joined_from (cond (bytes_eq k n) (Some plain_action) None) (map (thinned E) (list_of f)) k) named
+      ∙ ap (λ o. joined_from (cond (bytes_eq k f) (Some plain_action) None) (map (thinned E) (map item_of (unwrap_or o []))) k) (unlisted f explicit)
+      ∙ go (bytes_eq k f) ∙ ap (λ j. option_map (without_redundant (first_target (E k))) (cond (j && bytes_eq k f) (Some plain_action) None)) (sym (implied refl))
+    where
+      go : (b : Bool) → cond b (Some plain_action) None ≡ option_map (without_redundant (first_target (E k))) (cond (true && b) (Some plain_action) None)
+      go true = refl
+      go false = refl
+
+  implied_at : (f : Text) → (is_explicit listed f || offered f) ≡ true → is_explicit listed f ≡ false → (list_any (is_optional_at f) entries && not (is_reserved listed f) && not (is_explicit listed f)) ≡ true
+  implied_at f some off =
+      ap (λ b. list_any (is_optional_at f) entries && not (is_reserved listed f) && not b) off
+      ∙ go (list_any (is_optional_at f) entries && not (is_reserved listed f)) (sym (ap₂ (λ a b. a || b) off (offered_is f)) ∙ some)
+    where
+      go : (i : Bool) → (false || i) ≡ true → (i && true) ≡ true
+      go true h = refl
+      go false h = h
+
+  told_made : (f : Text) (v : Vertex) (w : Feature) → vertex_at vs f ≡ Some v → IsMadeOf v (made.items_of items v) w → IsTold f w
+  told_made f v w some is = record {
+    key = is.key ∙ vertex.name;
+    enabled_by = is.enabled_by;
+    bins = is.bins;
+    marks = is.marks ∙ ap₂ marked vertex.is_listed vertex.detail;
+    names = λ x. is.names x ∙ ap (list_any (item_names x)) (items_left f v vertex) ∙ names_thinned E x (list_of f);
+    action = λ k. is.action k ∙ ap (λ xs. joined_from (own_action v k) xs k) (items_left f v vertex)
+        ∙ action_told f k v (is_explicit listed f) _ refl vertex.is_listed vertex.name (implied_at f (sym (are.has f) ∙ ap is_some some));
   }
     where
-      go : (w : Action → Action) → w plain_action ≡ plain_action → (a : Bool) (o : Option Action) (i b : Bool) → cond a (option_map w o) (cond (i && b) (Some plain_action) None) ≡ option_map w (cond a o (cond ((i && not a) && b) (Some plain_action) None))
-      go w p true o i b = refl
-      go w p false o true true = ap Some (sym p)
-      go w p false o true false = refl
-      go w p false o false b = refl
+      vertex : IsVertex (texts_in listed) f (is_explicit listed f) (unwrap_or (lookup (bytes_eq f) listed) []) (detail_listed listed details f) v
+      vertex = subst (λ o. IfSome o (IsVertex (texts_in listed) f (is_explicit listed f) (unwrap_or (lookup (bytes_eq f) listed) []) (detail_listed listed details f))) some (are.told f)
 
-  same_last : Same (table_among last) t
-  same_last = record {
-    has = λ f. has_along (λ q. Required (own q)) implied last b.at f ∙ same.has f;
-    names = λ f x. names_along (λ q. Required (own q)) implied last b.at (λ q v w r. ap (λ (u : Feature). u.enables_features) r.same) f x ∙ same.names f x;
-    action = λ f k. action_required own implied last b f k ∙ same.action f k;
-  }
+  -- what stands at a name before binaries are known
+  abbrev TellsOf : Text → Bool → Option Feature → Type 0
+  TellsOf f b None = b ≡ false
+  TellsOf f b (Some w) = (b ≡ true) × IsTold f w
 
-  -- the marks of one that stays from the lists on, and of one that is implied
-  listed_marks : (f : Text) → is_explicit listed f ≡ true → marked true (detail_listed listed details f) ≡ marks_in listed details f
-  listed_marks f on = ap (λ b. marked b (detail_listed listed details f)) (sym on)
+  tells : (f : Text) → TellsOf f (t.has f) (feature_at fs f)
+  tells f = go (vertex_at vs f) (feature_at fs f) refl (made_at items vs fs make f)
+    where
+      has : (is_explicit listed f || offered f) ≡ t.has f
+      has = ap (λ i. is_explicit listed f || i) (offered_is f) ∙ or_not (is_explicit listed f) (list_any (is_optional_at f) entries && not (is_reserved listed f))
+        where
+          or_not : (a i : Bool) → (a || i) ≡ (a || (i && not a))
+          or_not true i = refl
+          or_not false true = refl
+          or_not false false = refl
 
-  implied_marks : (f : Text) → is_explicit listed f ≡ false → marked false plain_detail ≡ marks_in listed details f
-  implied_marks f off = grind (arith, common_steps, false≢true)
+      go : (o : Option Vertex) (p : Option Feature) → vertex_at vs f ≡ o → Made items o p → TellsOf f (t.has f) p
+      go None None none h = sym has ∙ sym (are.has f) ∙ ap is_some none
+      go None (Some w) none h = absurd h
+      go (Some v) None some h = absurd h
+      go (Some v) (Some w) some h = (sym has ∙ sym (are.has f) ∙ ap is_some some, told_made f v w some h)
 
-  marked_all : (f : Text) → IfSome (feature_at implied f) (IsMarked f (marks_in listed details f))
-  marked_all f = became (is_offered (has_key mentions.acted.reserved) entries) thinned implied i f (λ t o o'. IfSome o' (IsMarked f (marks_in listed details f))) tt
-      (λ v s k. record { key = k.key; enabled_by = k.enabled_by; bins = k.bins; marks = k.marks ∙ implied_marks f (sym (has_still f) ∙ ap is_some s) })
-      (λ t v s.
-      let k = fresh_still f v s in
-      record { key = k.key; enabled_by = k.enabled_by; bins = k.bins; marks = k.marks ∙ listed_marks f (sym (has_still f) ∙ ap is_some s) })
+  -- and once they are
+  abbrev Tells : Text → Bool → Option Feature → Type 0
+  Tells f b None = b ≡ false
+  Tells f b (Some w) = (b ≡ true) × (w.enabled_by.keys ≡ []) × (marks_of w ≡ marks_in listed details f) × ((x : Text) → set_has w.enables_features x ≡ list_any (item_names x) (list_of f))
+      × ((k : Text) → action_at w.enables_deps k ≡ t.action f k) × (map (λ b. b.now) w.required_by_bins.items ≡ own f)
 
-  told : (f : Text) → IfSome (feature_at last f) (IsTold f (marks_in listed details f) (own f))
-  told f = told_required own implied last b f (marks_in listed details f) (marked_all f)
+  required_at : (f : Text) (b : Bool) (o p : Option Feature) → TellsOf f b o → Relates (Required (own f)) o p → Tells f b p
+  required_at f b None None h r = h
+  required_at f b None (Some w) h r = absurd r
+  required_at f b (Some u) None h r = absurd r
+  required_at f b (Some u) (Some w) h r = (
+    h.0,
+    ap (λ (q : Feature). q.enabled_by.keys) r.same ∙ h.1.enabled_by,
+    ap marks_of r.same ∙ h.1.marks,
+    λ x. ap (λ (q : Feature). set_has q.enables_features x) r.same ∙ h.1.names x,
+    λ k. ap (λ (q : Feature). action_at q.enables_deps k) r.same ∙ h.1.action k,
+    r.bins ∙ ap (λ bs. map (λ b. b.now) bs ++ own f) h.1.bins,
+  )
 
-  -- a part of what is told of the feature
-  told_of : (f : Text) (P : Feature → Type 0) → ((v : Feature) → IsTold f (marks_in listed details f) (own f) v → P v) → IfSome (feature_at last f) P
-  told_of f P part = grind (arith, common_steps, told)
+  all_told : (f : Text) → Tells f (t.has f) (feature_at last f)
+  all_told f = required_at f (t.has f) (feature_at fs f) (feature_at last f) (tells f) (require.at f)
 
-  all_told : Told listed entries details own last deps
-  all_told = record {
-    features = record {
-      table = are_table last t same_last;
-      marks = λ f. told_of f (λ v. marks_of v ≡ marks_in listed details f) (λ v k. k.marks);
-      bins = λ f. told_of f (λ v. map (λ b. b.now) v.required_by_bins.items ≡ own f) (λ v k. k.bins);
+  -- a name that no feature has names nothing and does nothing
+  unnamed : (f x : Text) → t.has f ≡ false → list_any (item_names x) (list_of f) ≡ false
+  unnamed f x off = ap (λ o. list_any (item_names x) (map item_of (unwrap_or o []))) (unlisted f (first_off (is_explicit listed f) _ off))
+    where
+      first_off : (a b : Bool) → (a || b) ≡ false → a ≡ false
+      first_off true b h = h
+      first_off false b h = refl
+
+  undone : (f k : Text) → t.has f ≡ false → t.action f k ≡ None
+  undone f k off = go (is_explicit listed f) _ (bytes_eq k f) (joined_action listed f k) off
+    where
+      go : (a i b : Bool) (o : Option Action) → (a || i) ≡ false → option_map (without_redundant (first_target (E k))) (cond a o (cond (i && b) (Some plain_action) None)) ≡ None
+      go true i b o h = absurd cc
+      go false true b o h = absurd cc
+      go false false b o h = refl
+
+  unremoved : AreUnremoved listed entries details own last
+  unremoved = record {
+    table = record {
+      has = λ f. has_told (t.has f) (feature_at last f) f (all_told f);
+      names = λ f x. names_told f x (t.has f) (feature_at last f) refl (all_told f);
+      action = λ f k. action_of_told f k (t.has f) (feature_at last f) refl (all_told f);
     };
-    no_enablers = λ f. told_of f (λ v. v.enabled_by.keys ≡ []) (λ v k. k.enabled_by);
-    dependencies = dependencies;
-    targets = have_targets deps (entries_at listed entries) dependencies;
+    marks = λ f. marks_told f (t.has f) (feature_at last f) (all_told f);
+    bins = λ f. bins_told f (t.has f) (feature_at last f) (all_told f);
   }
     where
-      dependencies : (k : Text) → SameRecorded (recorded_at deps k) (recorded_of (entries_at listed entries k))
-      dependencies k = same_recorded (recorded_at deps k) (recorded_of (entries_at listed entries k)) (recorded mentioned k)
+      has_told : (b : Bool) (o : Option Feature) (f : Text) → Tells f b o → is_some o ≡ b
+      has_told b None f h = sym h
+      has_told b (Some w) f h = sym h.0
+
+      names_told : (f x : Text) (b : Bool) (o : Option Feature) → t.has f ≡ b → Tells f b o → option_map_or (λ v. set_has v.enables_features x) o false ≡ t.names f x
+      names_told f x b None is h = sym (unnamed f x (is ∙ h))
+      names_told f x b (Some w) is h = h.3 x
+
+      action_of_told : (f k : Text) (b : Bool) (o : Option Feature) → t.has f ≡ b → Tells f b o → option_map_or (λ v. action_at v.enables_deps k) o None ≡ t.action f k
+      action_of_told f k b None is h = sym (undone f k (is ∙ h))
+      action_of_told f k b (Some w) is h = h.4 k
+
+      marks_told : (f : Text) (b : Bool) (o : Option Feature) → Tells f b o → IfSome o (λ v. marks_of v ≡ marks_in listed details f)
+      marks_told f b None h = tt
+      marks_told f b (Some w) h = h.2
+
+      bins_told : (f : Text) (b : Bool) (o : Option Feature) → Tells f b o → IfSome o (λ v. map (λ b. b.now) v.required_by_bins.items ≡ own f)
+      bins_told f b None h = tt
+      bins_told f b (Some w) h = h.5
+
+  no_enablers : HaveNoEnablers last
+  no_enablers f = go (t.has f) (feature_at last f) (all_told f)
+    where
+      go : (b : Bool) (o : Option Feature) → Tells f b o → IfSome o (λ v. v.enabled_by.keys ≡ [])
+      go b None h = tt
+      go b (Some w) h = h.1
+
+  dependencies : (k : Text) → SameRecorded (recorded_at deps k) (recorded_of (entries_at listed entries k))
+  dependencies k = same_recorded (recorded_at deps k) (recorded_of (entries_at listed entries k)) (record_is k)
+
+  told : IsAllTold listed entries details own last deps
+  told = record { features = unremoved; no_enablers = no_enablers; dependencies = dependencies; targets = have_targets deps E dependencies }
+
+-- the items of each vertex stand among all
+spans : (listed : Listed) (details : NamedDetails) (implied : Text → Bool) (vs : List Vertex) → AreVertices listed details implied vs → (n : ℕ) → length (texts_in listed) ≡ n → All (HasSpanWithin n) vs
+spans listed details implied vs are n same k d inside =
+    let v = get_or vs k d in
+    let is : IsVertex (texts_in listed) v.name.now (is_explicit listed v.name.now) (unwrap_or (lookup (bytes_eq v.name.now) listed) []) (detail_listed listed details v.name.now) v =
+    subst (λ o. IfSome o (IsVertex (texts_in listed) v.name.now (is_explicit listed v.name.now) (unwrap_or (lookup (bytes_eq v.name.now) listed) []) (detail_listed listed details v.name.now)))
+    (found_here (λ (w : Vertex). w.name.now) vs k d are.ascend inside) (are.told v.name.now) in
+    let ends = is.items.ends in
+    let within = is.items.stand.within in
+    record { forward = omega (arith, ends); within = omega (arith, ends, within, same) }
+
+-- as many items as texts
+items_count : (listed : Listed) (items : List ListItem) → map said_by items ≡ map item_of (texts_in listed) → length (texts_in listed) ≡ length items
+items_count listed items say = sym (length-map (texts_in listed) item_of) ∙ sym (ap length say) ∙ length-map items said_by
+
+listed_once : (ls : List Listing) → Ascend (listing_names ls) → IsOnce (map (λ e. e.0) (listed_of ls))
+listed_once ls up = subst IsOnce (sym (names_listed ls)) (ascend_once (listing_names ls) up)
+
+-- ---- the goals
+pub vertices_of-requires-clause-fits : goal.vertices_of-requires-clause-fits
+vertices_of-requires-clause-fits c =
+    let count = items_count (listed_of c.args.listings.now) c.in_ok-items.items.items c.in_ok-items.ensures in
+    let ok = c.in_ok-items.items.ok.0 in
+    let small = c.in_ok-items.items.small in
+    omega (arith, count, ok, small)
+
+pub features_of-requires : goal.features_of-requires
+features_of-requires c =
+    let ls = c.args.listings.now in
+    rw (c.as_slice-vertices.ensures.value, c.as_slice-2.ensures.value)
+    (spans (listed_of ls) (named_details ls) (is_offered (has_key c.in_ok-acted.acted.reserved) (map entry_of c.args.entries.now)) c.in_ok-vertices.vertices.items c.in_ok-vertices.ensures (length c.drop_redundant.new.items.items)
+    (items_count (listed_of ls) c.in_ok-items.items.items c.in_ok-items.ensures ∙ sym c.in_ok-drop_redundant.ensures.count))
+
+-- the features that are made, in the places of their vertices
+made_of : (items : List ListItem) (vs : List Vertex) (xs : List ListItem) (us : List Vertex) (fs : List Feature) → xs ≡ items → us ≡ vs → AreMadeOf xs us fs → AreMadeOf items vs fs
+made_of items vs xs us fs same same' h = subst (λ ys. AreMadeOf ys vs fs) same (subst (λ ws. AreMadeOf xs ws fs) same' h)
+
+pub with_bins-requires-clause-in_order : goal.with_bins-requires-clause-in_order
+with_bins-requires-clause-in_order c =
+    let make = made_of c.drop_redundant.new.items.items c.in_ok-vertices.vertices.items c.as_slice-2.result.now c.as_slice-vertices.result.now c.in_ok-made.made.items c.as_slice-2.ensures.value c.as_slice-vertices.ensures.value c.in_ok-made.ensures in
+    subst Ascend (sym (names_made c.drop_redundant.new.items.items c.in_ok-vertices.vertices.items c.in_ok-made.made.items make)) c.in_ok-vertices.ensures.ascend
+
+pub with_bins-requires-clause-names : goal.with_bins-requires-clause-names
+with_bins-requires-clause-names c =
+    let make = made_of c.drop_redundant.new.items.items c.in_ok-vertices.vertices.items c.as_slice-2.result.now c.as_slice-vertices.result.now c.in_ok-made.made.items c.as_slice-2.ensures.value c.as_slice-vertices.ensures.value c.in_ok-made.ensures in
+    ap vertex_names c.as_slice-vertices.ensures.value ∙ sym (names_made c.drop_redundant.new.items.items c.in_ok-vertices.vertices.items c.in_ok-made.made.items make)
 
 pub returns : goal.returns
 returns c =
-    let listed = listed_of c.args.listings.now in
+    let ls = c.args.listings.now in
+    let listed = listed_of ls in
     let entries = map entry_of c.args.entries.now in
-    let details = named_details c.args.listings.now in
+    let details = named_details ls in
     let own = own_of (map bin_requirement c.args.requirements.now) in
-    let mentions = c.in_ok-mentions.mentions in
-    let thinned = c.in_ok-thinned.thinned.items in
-    let implied = c.in_ok-implied.implied.items in
+    let said = c.in_ok-items.items.items in
+    let items = c.drop_redundant.new.items.items in
+    let fs = c.in_ok-made.made.items in
     let last = c.in_ok-features.features.items in
     let deps = c.in_ok-dependencies.dependencies in
-    let told = all_told listed entries details own mentions thinned implied last deps c.in_ok-mentions.ensures.read c.in_ok-mentions.ensures.fresh c.in_ok-thinned.ensures.thinned c.in_ok-implied.ensures.implied c.in_ok-features.ensures.required (c.in_ok-dependencies.ensures.recorded listed) in
-    record { in_order = c.in_ok-features.ensures.in_order; features = told.features; no_enablers = told.no_enablers; dependencies = told.dependencies; targets = told.targets }
+    let mentions : Mentions = record { vertices = c.in_ok-vertices.vertices; acted = c.in_ok-acted.acted } in
+    let all = told listed (listed_once ls c.requires) entries details own said items mentions fs last deps c.in_ok-items.ensures
+    (λ k. c.in_ok-acted.ensures.keys k ∙ ap (λ xs. list_any (acts_on k) (map said_by xs)) c.as_slice.ensures.value)
+    (λ k. c.in_ok-acted.ensures.reserved k ∙ ap (λ xs. list_any (reserves k) (map said_by xs)) c.as_slice.ensures.value)
+    c.in_ok-vertices.ensures c.in_ok-dependencies.ensures.recorded c.in_ok-drop_redundant.ensures.lost
+    (made_of items mentions.vertices.items c.as_slice-2.result.now c.as_slice-vertices.result.now fs c.as_slice-2.ensures.value c.as_slice-vertices.ensures.value c.in_ok-made.ensures)
+    c.in_ok-features.ensures.required in
+    record { in_order = c.in_ok-features.ensures.in_order; features = all.features; no_enablers = all.no_enablers; dependencies = all.dependencies; targets = all.targets }

@@ -6,7 +6,8 @@ definitions to read, in blocks:
     claim NAME                the bold word of a claim
     clause FILE CALL [NAME]   a clause of a call in that file below crates/
     block WORDS               begins a block
-    CRATE MODULE: NAME ..     definitions of a module, in the order in which they are shown
+    CRATE MODULE: NAME ..     definitions of a module, in the order in which they are shown; more
+                              in lines that begin with a blank
 """
 
 import re
@@ -55,6 +56,29 @@ NOTATION = """## How to read them
   call, `result` is what it returns, and `T.reads` is a ghost member of a trait.
 - `Data` is a tree of TOML, `Members` those of a table. What a manifest *holds* is its `Meaning`:
   the value without addresses, capacities and the order of hashed maps."""
+
+
+WORDS = """## Words
+
+Definitions, and proofs, use some words in a sense of their own:
+
+- **meaning**, **held**: what a value holds, without addresses, capacities and the order of hashed
+  maps. `manifest_meaning` is that of a manifest, `held` the same with its metadata as they are.
+- **told**, **stated**: what a file system says that a folder or a root is (`Told`, `ToldRoot`).
+  **seen** (`Seen`): what follows of that, a value, faults, or nothing sure. Where nothing is
+  stated, a thing is **open**, **untold** or **unclear**. In writing, `IsTold`: a manifest meets the
+  conditions of [reading again](PROVED.md#reading-values-writing).
+- **wrapped**: a fault, as `Error::Workspace` with the path of the workspace.
+- **way**: how a type is written, by the trees of each value, and by its refusals. **asks**: what a
+  value needs so that it has a tree.
+- `Gives`: the answer is the value that is stated, or the fault, or `Memory`.
+- `Goes`: what reading a key does to the first fault, if there is one.
+- `Among`: is an element of the list. **stands at**: is what a map has under the key.
+- **place**: an index in names that ascend; of `check` and `lint`, line and column. **near**: looked
+  for behind the one that was found last, before it is searched for.
+- **lent**: behind a reference. **product**: Cargo's target; a *target* is a platform.
+- **plain**: an action that is neither conditional nor by `dep:`. **explicit**: in the table of
+  features, or `default`. **implied**: by an optional dependency."""
 
 
 def fail(words):
@@ -149,6 +173,9 @@ def claims():
     for line in (ROOT / "scripts/claims.txt").read_text().splitlines():
         word, _, rest = line.partition(" ")
         if not line or word == "#":
+            continue
+        if not word:
+            found[-1][2][-1][1][-1][2].extend(line.split())
             continue
         if word == "claim":
             found.append((rest, [], []))
@@ -267,8 +294,8 @@ def reading_order():
     for number, ((_, said), claim) in enumerate(zip(sentences, listed), 1):
         parts.append((number, *claim_lines(number, said, claim, met)))
     links = ", ".join(f"[{it}](#{at}-{it.lower()})" for at, (it, _) in enumerate(sentences, 1))
-    out = [*HEAD.splitlines(), "", f"- [How to read them](#how-to-read-them)", f"- {links}", ""]
-    out += NOTATION.splitlines()
+    out = [*HEAD.splitlines(), "", "- [How to read them](#how-to-read-them), [words](#words)"]
+    out += [f"- {links}", "", *NOTATION.splitlines(), "", *WORDS.splitlines()]
     for number, lines, _, words, kit in parts:
         out += [*lines, *further(number, words, kit, met)]
     return out

@@ -42,9 +42,11 @@ their words."""
 NOTATION = """## How to read them
 
 - `f x y` calls a function, `λ x. e` is a closure, `let x = e in` names a value, `a.f` is a field.
-- `A → B` is the type of functions, `List A` that of lists; `[]`, `x ∷ xs` and `xs ++ ys` are lists.
-  A text is the list of its bytes: `List ℕ`, `Text`, `Name`; `codes "default"` is a literal.
-- `Type 0` is what can hold or not, where `Bool` is what is computed. `IsTrue b` makes one of the
+  `do x ← e` is `let x = e?;`, `record m { f = e }` is `M { f: e, ..m }`.
+- `A → B` is the type of functions, `{M : Type 0} →` a type parameter. `List A` is that of lists:
+  `[]`, `x ∷ xs`, `xs ++ ys`. A text is the list of its bytes: `Text`, `Name`, `List ℕ`;
+  `codes "default"` is a literal.
+- `Type 0` is what may hold or not, where `Bool` is what is computed. `IsTrue b` makes one of the
   other.
 - `×` is "and", `⊎` is "or", `¬` is "not", `↔` is "just where", `≡` is "equals", `⊥` never holds,
   `Unit {0}` always does. `(x : A) → B` is "for each x", `(x : A) × B` is "there is an x such that".
@@ -54,8 +56,7 @@ NOTATION = """## How to read them
 - `module _ (t : Table) where` gives what is below it a first parameter.
 - In clauses `x.now` is what is behind a reference, `x.old` and `x.new` are before and after the
   call, `result` is what it returns, and `T.reads` is a ghost member of a trait.
-- `Data` is a tree of TOML, `Members` those of a table. What a manifest *holds* is its `Meaning`:
-  the value without addresses, capacities and the order of hashed maps."""
+- `Data` is a tree of TOML, `Members` what a table has, `Bor` a reference."""
 
 
 WORDS = """## Words

@@ -8,6 +8,8 @@ definitions to read, in blocks:
     block WORDS               begins a block
     CRATE MODULE: NAME ..     definitions of a module, in the order in which they are shown; more
                               in lines that begin with a blank
+
+scripts/reading.md stands above them.
 """
 
 import re
@@ -22,64 +24,12 @@ from imports import imports  # noqa: E402
 CRATES = ROOT / "crates"
 # What a proof may unfold. Of any other name it knows the type alone: that is a lemma.
 DEFINITION = re.compile(
-    r"^ *(?:(?:abbrev|unfoldable) pub|pub (?:record|data)) ([\w«»◌+≤≡>=-]+)(?=[ :])", re.M
+    r"^ *(?:(?:abbrev|unfoldable) pub|pub (?:record|data)) ([\w«»◌+≤≡-]+)(?=[ :])", re.M
 )
 MUTUAL = re.compile(r"^(abbrev|unfoldable) mutual\n((?: .*\n|\n)+)", re.M)
 WORD = re.compile(r"[\w◌≡≤↔∷+«»-]+")
 CLAIM = re.compile(r"^- \*\*(.+?)\.\*\* ((?:.+\n)(?:  .+\n)*)", re.M)
 KIT = re.compile(r"^ *use Rattle\.(toml|semver)\.specs\.[\w.]+\.\{([^}]*)\}", re.M)
-
-HEAD = """# Definitions, by claim
-
-Made by `scripts/reference` from [README](../README.md#what-is-proved), `scripts/claims.txt` and
-`specs/`. For each claim: the clauses that carry it, and the definitions behind them, in the order
-in which to read them. Then the words that they use and that aren't shown, with their files. A
-claim says no more than these texts; who believes them needs to read no code, and no proof.
-
-[PROVED](PROVED.md) has the other claims, [API](API.md) the clauses of each call, with the files of
-their words."""
-
-NOTATION = """## How to read them
-
-- `f x y` calls a function, `λ x. e` is a closure, `let x = e in` names a value, `a.f` is a field.
-  `do x ← e` is `let x = e?;`, `record m { f = e }` is `M { f: e, ..m }`.
-- `A → B` is the type of functions, `{M : Type 0} →` a type parameter. `List A` is that of lists:
-  `[]`, `x ∷ xs`, `xs ++ ys`. A text is the list of its bytes: `Text`, `Name`, `List ℕ`;
-  `codes "default"` is a literal.
-- `Type 0` is what may hold or not, where `Bool` is what is computed. `IsTrue b` makes one of the
-  other.
-- `×` is "and", `⊎` is "or", `¬` is "not", `↔` is "just where", `≡` is "equals", `⊥` never holds,
-  `Unit {0}` always does. `(x : A) → B` is "for each x", `(x : A) × B` is "there is an x such that".
-- `Option`, `Result`, `Ok` and `Err` are Rust's. `IfOk r (λ a. P)`: where `r` is `Ok(a)`, `P` holds.
-- `abbrev NAME : TYPE` is a function, given by equations; `record` is a struct, or all of several
-  facts; `data` is an enum, or the least relation with these rules.
-- `module _ (t : Table) where` gives what is below it a first parameter.
-- In clauses `x.now` is what is behind a reference, `x.old` and `x.new` are before and after the
-  call, `result` is what it returns, and `T.reads` is a ghost member of a trait.
-- `Data` is a tree of TOML, `Members` what a table has, `Bor` a reference."""
-
-
-WORDS = """## Words
-
-Definitions, and proofs, use some words in a sense of their own:
-
-- **meaning**, **held**: what a value holds, without addresses, capacities and the order of hashed
-  maps. `manifest_meaning` is that of a manifest, `held` the same with its metadata as they are.
-- **told**, **stated**: what a file system says that a folder or a root is (`Told`, `ToldRoot`).
-  **seen** (`Seen`): what follows of that, a value, faults, or nothing sure. Where nothing is
-  stated, a thing is **open**, **untold** or **unclear**. In writing, `IsTold`: a manifest meets the
-  conditions of [reading again](PROVED.md#reading-values-writing).
-- **wrapped**: a fault, as `Error::Workspace` with the path of the workspace.
-- **way**: how a type is written, by the trees of each value, and by its refusals. **asks**: what a
-  value needs so that it has a tree.
-- `Gives`: the answer is the value that is stated, or the fault, or `Memory`.
-- `Goes`: what reading a key does to the first fault, if there is one.
-- `Among`: is an element of the list. **stands at**: is what a map has under the key.
-- **place**: an index in names that ascend; of `check` and `lint`, line and column. **near**: looked
-  for behind the one that was found last, before it is searched for.
-- **lent**: behind a reference. **product**: Cargo's target; a *target* is a platform.
-- **plain**: an action that is neither conditional nor by `dep:`. **explicit**: in the table of
-  features, or `default`. **implied**: by an optional dependency."""
 
 
 def fail(words):
@@ -200,9 +150,8 @@ def clause_of(path, call, name=""):
     return fail(f"scripts/claims.txt: {path} has no clause {name} of {call}")
 
 
-def used(text, source):
-    """The words of a text that its file imports from this repository: of each its file."""
-    words = set(WORD.findall(text))
+def used(words, source):
+    """Those of these words that a source imports from this repository: of each its file."""
     return {
         (file, name)
         for crate, module, name, called in imports(source, is_ghost="ghost use" in source)
@@ -210,8 +159,8 @@ def used(text, source):
     }
 
 
-def link(file):
-    return f"[{file.stem}](../{file.relative_to(ROOT)})"
+def link(file, name=""):
+    return f"[{name or file.stem}](../{file.relative_to(ROOT)})"
 
 
 def folded(text):
@@ -224,79 +173,89 @@ def folded(text):
     return lines
 
 
-def claim_lines(number, sentence, claim, met):
-    """The part on one claim. `met` has the claims that show a definition."""
-    name, clauses, blocks = claim
-    out = ["", f"## {number}. {name}", "", sentence, ""]
-    shown, words, kit = set(), set(), {}
+class Part:
+    """The part on one claim: its lines, the definitions that it shows, and the words that these
+    use, of this repository and of the kit."""
 
-    def take(text, source, file=None):
-        words.update(used(text, source))
-        own = {it for it, _, _ in definitions(file)} if file else set()
-        words.update((file, it) for it in own & set(WORD.findall(text)))
+    def __init__(self, number, name, sentence):
+        self.number = number
+        self.lines = ["", f"## {number}. {name}", "", sentence, ""]
+        self.shown, self.words, self.kit = set(), set(), {}
+
+    def take(self, text, source, file=None):
+        """Notes what a text uses that stands in this source, and in this file of definitions."""
+        words = set(WORD.findall(text))
+        self.words |= used(words, source)
+        if file:
+            self.words |= {(file, it) for it, _, _ in definitions(file) if it in words}
         for of, names in KIT.findall(source):
-            kit.setdefault(of, set()).update(set(map(str.strip, names.split(","))) & set(
-                WORD.findall(text)))
+            self.kit.setdefault(of, set()).update(words & set(re.split(r",\s*", names)))
 
-    for path, call in dict.fromkeys((it[0], it[1]) for it in clauses):
-        file = CRATES / path
-        out += [f"`{call}`, in [{file.name}](../{file.relative_to(ROOT)}):", "", "```text"]
-        for *of, which in ([*it, ""][:3] for it in clauses):
-            if of == [path, call]:
-                text = clause_of(path, call, which)
-                take(text, file.read_text())
-                out += folded(text)
-        out += ["```", ""]
-    for at, (title, parts) in enumerate(blocks, 1):
-        out += [f"**{at}. {title}**", ""]
-        for crate, module, names in parts:
-            file, around = spec_file(crate, module), None
-            if not file:
-                fail(f"scripts/claims.txt: {crate} has no definitions {module}")
-            out += [f"{link(file)} of `{crate}`:", "", "```text"]
-            for it in names:
-                head, lines = whole(file, it)
-                out += [""] * (around is not None)
-                out += head * (head != around) + lines
-                around = head
-                shown.add((file, it))
-                take("\n".join(head + lines), file.read_text(), file)
-            out += ["```", ""]
-    for it in shown:
-        met.setdefault(it, number)
-    return out, shown, words - shown, kit
+    def add_clauses(self, clauses):
+        """The texts of the clauses, call by call."""
+        for path, call in dict.fromkeys((it[0], it[1]) for it in clauses):
+            file = CRATES / path
+            self.lines += [f"`{call}`, in {link(file, file.name)}:", "", "```text"]
+            for which in (it[2:] for it in clauses if it[:2] == [path, call]):
+                text = clause_of(path, call, *which)
+                self.take(text, file.read_text())
+                self.lines += folded(text)
+            self.lines += ["```", ""]
+
+    def add_module(self, crate, module, names):
+        """Definitions of one module, each whole."""
+        file, around = spec_file(crate, module), None
+        if not file:
+            fail(f"scripts/claims.txt: {crate} has no definitions {module}")
+        self.lines += [f"{link(file)} of `{crate}`:", "", "```text"]
+        for name in names:
+            head, lines = whole(file, name)
+            self.lines += [""] * (around is not None) + head * (head != around) + lines
+            around = head
+            self.shown.add((file, name))
+            self.take("\n".join(head + lines), file.read_text(), file)
+        self.lines += ["```", ""]
+
+    def further(self, shown_in):
+        """What the definitions use that isn't shown here, by file."""
+        files = {}
+        for file, name in sorted(self.words - self.shown):
+            number = shown_in.get((file, name))
+            files.setdefault(file, []).append(f"`{name}`" + (f" ({number})" if number else ""))
+        of_kit = {of: [f"`{it}`" for it in sorted(it)] for of, it in sorted(self.kit.items())}
+        return [
+            "Not shown here; a number is that of the claim that shows it:",
+            "",
+            *(f"- {link(file)}: {', '.join(names)}" for file, names in files.items()),
+            *(f"- the kit's `{of}`: {', '.join(names)}" for of, names in of_kit.items() if names),
+        ]
 
 
-def further(number, words, kit, met):
-    """What the definitions of a claim use and it doesn't show, by file."""
-    files = {}
-    for file, name in sorted(words, key=lambda it: (str(it[0]), it[1])):
-        at = met.get((file, name))
-        where = f"`{name}` ({at})" if at else f"`{name}`"
-        files.setdefault(file, []).append(where)
-    out = ["Not shown here; a number is that of the claim that shows it:", ""]
-    out += [f"- {link(file)}: {', '.join(names)}" for file, names in files.items()]
-    out += [
-        f"- the kit's `{of}`: {', '.join(f'`{it}`' for it in sorted(names))}"
-        for of, names in sorted(kit.items())
-        if names
-    ]
-    return out
+def parts():
+    """The parts on the claims of README, in its order."""
+    part = (ROOT / "README.md").read_text().split("## What is proved\n")[1].split("\n## ")[0]
+    said, listed = CLAIM.findall(part), claims()
+    if [name for name, _ in said] != [name for name, _, _ in listed]:
+        fail("README and scripts/claims.txt have other claims")
+    for number, ((name, sentence), (_, clauses, blocks)) in enumerate(zip(said, listed), 1):
+        made = Part(number, name, " ".join(sentence.split()))
+        made.add_clauses(clauses)
+        for at, (title, modules) in enumerate(blocks, 1):
+            made.lines += [f"**{at}. {title}**", ""]
+            for module in modules:
+                made.add_module(*module)
+        yield name, made
 
 
 def reading_order():
-    """The lines of DEFINITIONS.md, without its links."""
-    part = (ROOT / "README.md").read_text().split("## What is proved\n")[1].split("\n## ")[0]
-    sentences = [(it, " ".join(said.split())) for it, said in CLAIM.findall(part)]
-    listed = claims()
-    if [it for it, _ in sentences] != [it for it, _, _ in listed]:
-        fail("README and scripts/claims.txt have other claims")
-    met, parts = {}, []
-    for number, ((_, said), claim) in enumerate(zip(sentences, listed), 1):
-        parts.append((number, *claim_lines(number, said, claim, met)))
-    links = ", ".join(f"[{it}](#{at}-{it.lower()})" for at, (it, _) in enumerate(sentences, 1))
-    out = [*HEAD.splitlines(), "", "- [How to read them](#how-to-read-them), [words](#words)"]
-    out += [f"- {links}", "", *NOTATION.splitlines(), "", *WORDS.splitlines()]
-    for number, lines, _, words, kit in parts:
-        out += [*lines, *further(number, words, kit, met)]
+    """The lines of DEFINITIONS.md."""
+    made, shown_in = dict(parts()), {}
+    for part in made.values():
+        shown_in |= dict.fromkeys(part.shown - shown_in.keys(), part.number)
+    head, mark, rest = (ROOT / "scripts/reading.md").read_text().partition("## ")
+    links = ", ".join(f"[{it}](#{part.number}-{it.lower()})" for it, part in made.items())
+    out = [*head.splitlines(), "- [How to read them](#how-to-read-them), [words](#words)"]
+    out += [f"- {links}", "", *(mark + rest).splitlines()]
+    for part in made.values():
+        out += [*part.lines, *part.further(shown_in)]
     return out

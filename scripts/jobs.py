@@ -14,6 +14,7 @@ import subprocess
 from itertools import zip_longest
 
 from running import started
+from sources import crate_lines
 
 ROOT = os.path.dirname(os.path.dirname(os.path.realpath(__file__)))
 CRATES, SCRIPTS = f"{ROOT}/crates", f"{ROOT}/scripts"
@@ -140,12 +141,6 @@ class Scripts(Job):
             self.failed["a script"] = out + said
 
 
-def below(crate):
-    """The crates of the repository that a crate stands on, and itself."""
-    how = {"check": True, "stdout": subprocess.PIPE, "text": True}
-    return subprocess.run([f"{SCRIPTS}/closure", ROOT, crate], **how).stdout.split()
-
-
 def code_of(crates):
     return [it for name in crates for it in files_below(f"{CRATES}/{name}/src")]
 
@@ -156,7 +151,7 @@ class Tests(Job):
     is_heavy = True
 
     def __init__(self, crate):
-        sources = [f"{ROOT}/crates.txt", *code_of(below(crate))]
+        sources = [f"{ROOT}/crates.txt", *code_of(crate_lines(ROOT, crate))]
         super().__init__(f"tests of {crate}", f"{CRATES}/{crate}", [*TRY, "--test"], sources)
 
     def judge(self, status, out, said):
@@ -175,7 +170,7 @@ class Run:
 
     def __init__(self, what, crate, words):
         self.name, self.crate, self.words = f"{what} of {crate}", crate, words
-        self.folder, self.below = f"{CRATES}/{crate}", below(crate)
+        self.folder, self.below = f"{CRATES}/{crate}", [*crate_lines(ROOT, crate)]
         self.data = files_below(f"{self.folder}/data")
         stored = [f"{self.folder}/{it}" for it in ("args", "stdin", "stdout", "status")]
         self.sources = stored + self.data
@@ -283,7 +278,7 @@ class Programs(Job):
         names, top = [it.crate for it in self.runs], f"{at}/repository"
         for name in self.below:
             shutil.copytree(f"{CRATES}/{name}/src", f"{top}/crates/{name}/src")
-        lines = [it for it in lines_of(f"{ROOT}/crates.txt") if it.split(":")[0] in self.below]
+        lines = [line for name, line in crate_lines(ROOT).items() if name in self.below]
         put(f"{top}/crates.txt", *lines, f"one_of_them: {' '.join(names)}")
         put(f"{top}/HANDLES", *lines_of(f"{ROOT}/HANDLES"))
         for name in names:

@@ -56,9 +56,7 @@ class Library(Program):
 
     def __init__(self, launcher, called):
         super().__init__(launcher, CRATE, called)
-
-    def is_fresh(self):
-        return self.asked("stale", self.crate, SHARED)
+        self.made = SHARED
 
     def made_of(self, at, folder):
         """The static and the shared library, made of what is proved in a copy."""

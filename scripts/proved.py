@@ -4,6 +4,8 @@ import os
 import re
 import subprocess
 
+from sources import crate_lines
+
 # The crates that stand behind what is in an archive.
 TOPS = ["cargo_toml_cli", "cargo_toml_tools_cli", "cargo_toml_c"]
 FUNCTION = re.compile(r"(?m)^\s*(?:pub(?:\([a-z ]+\))? )?(?:const )?(?:extern \"C\" )?fn \w+")
@@ -56,10 +58,7 @@ def functions(folder):
 
 def crates(root):
     """The crates behind the archive, the lowest first."""
-    found = []
-    for top in TOPS:
-        found += said(f"{root}/scripts/closure", root, top, at=root).split()
-    return list(dict.fromkeys(found))
+    return list(dict.fromkeys(name for top in TOPS for name in crate_lines(root, top)))
 
 
 def bodies(root):

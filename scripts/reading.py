@@ -14,14 +14,9 @@ scripts/reading.md stands above them.
 
 import re
 import sys
-from pathlib import Path
 
-sys.dont_write_bytecode = True
-ROOT = Path(__file__).resolve().parent.parent
-sys.path.insert(0, str(ROOT / "scripts"))
-from imports import imports  # noqa: E402
+from sources import CRATES, ROOT, imports, spec_file
 
-CRATES = ROOT / "crates"
 # What a proof may unfold. Of any other name it knows the type alone: that is a lemma.
 DEFINITION = re.compile(
     r"^ *(?:(?:abbrev|unfoldable) pub|pub (?:record|data)) ([\w«»◌+≤≡-]+)(?=[ :])", re.M
@@ -34,16 +29,6 @@ KIT = re.compile(r"^ *use Rattle\.(toml|semver)\.specs\.[\w.]+\.\{([^}]*)\}", re
 
 def fail(words):
     sys.exit(f"scripts/reference: {words}")
-
-
-def spec_file(crate, module):
-    """The file of a module of definitions, if any. Of a record in a file it is that file."""
-    parts = module.split(".")
-    for cut in range(len(parts), 0, -1):
-        file = CRATES / crate / "specs" / ("/".join(parts[:cut]) + ".antt")
-        if file.exists():
-            return file
-    return None
 
 
 def definitions(file):

@@ -11,6 +11,8 @@ import sys
 import tempfile
 import time
 
+from sources import crate_lines
+
 # The status where no answer can be had: scripts/program.sh lists the causes.
 NO_ANSWER = 4
 SIGNALS = (signal.SIGINT, signal.SIGTERM, signal.SIGHUP, signal.SIGQUIT)
@@ -27,23 +29,19 @@ class Program:
         self.root, self.name = os.path.split(launcher)
         self.crate, self.folder = crate, f"{self.root}/crates/{crate}"
         self.out = f"{self.folder}/out"
-        self.built = f"{self.out}/{crate}"
+        # the name there of what is built
+        self.made = crate
         self.times = times_of(self.root)
 
     def say(self, text):
         print(f"{self.name}: {text}", file=sys.stderr, flush=True)
 
-    def asked(self, script, *words):
-        """Whether a script that is asked about the program's crate, or by these words, says yes,
-        and what it prints."""
-        words = [f"{self.root}/scripts/{script}", self.root, *(words or [self.crate])]
+    def is_fresh(self):
+        """Whether it is built and newer than its sources, and else why it isn't."""
+        words = [f"{self.root}/scripts/stale", self.root, self.crate, self.made]
         how = {"stdin": subprocess.DEVNULL, "stdout": subprocess.PIPE, "text": True}
         ran = subprocess.run(words, check=False, **how)
         return ran.returncode == 0, ran.stdout.strip()
-
-    def is_fresh(self):
-        """Whether it is built and newer than its sources, and else why it isn't."""
-        return self.asked("stale")
 
     def made_of(self, _, folder):
         """What the proofs in a copy have built, as a list of files, and what was said of that."""
@@ -124,31 +122,26 @@ def copy_crates(program, to, also=()):
     each stands on. The same of other crates, where they are there.
 
     Wrong bodies are for the gate alone."""
-    crates = program.asked("closure")[1].split()
+    crates = crate_lines(program.root, program.crate)
     if not crates:
         raise OSError("scripts/closure finds no crate")
     for crate in also:
-        crates += program.asked("closure", crate)[1].split()
+        crates |= crate_lines(program.root, crate)
 
     def left_out(at, _):
         return ["out", "must-fail"] if os.path.dirname(at) == f"{program.root}/crates" else []
 
     os.mkdir(to)
-    for name in dict.fromkeys(crates):
+    for name in crates:
         folder = f"{program.root}/crates/{name}"
         shutil.copytree(folder, f"{to}/crates/{name}", symlinks=True, ignore=left_out)
     shutil.copy(f"{program.root}/HANDLES", to)
     # rt takes the folder that has it for the top of a repository
     os.mkdir(f"{to}/.git")
-    with open(f"{program.root}/crates.txt", encoding="utf-8") as file:
-        named = re.findall(r"(?m)^(([\w-]+)\b[^:#\n]*:?([^#\n]*).*)\n", file.read())
+    listed = [(name, crates[name]) for name in crate_lines(program.root) if name in crates]
     with open(f"{to}/crates.txt", "w", encoding="utf-8") as file:
-        file.writelines(f"{line}\n" for line, name, _ in named if name in crates)
-    return {
-        name: [it for it in re.split(r"[\s,]+", below) if it in crates]
-        for _, name, below in named
-        if name in crates
-    }
+        file.writelines(f"{line}\n" for _, line in listed)
+    return {name: [it for it in line.split()[1:] if it in crates] for name, line in listed}
 
 
 def workers(at):

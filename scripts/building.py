@@ -1,5 +1,7 @@
+#!/usr/bin/env python3
 """Proves and builds a program, or the library for C: by `rt ci`, in a copy of the crates that it
-stands on.
+stands on. scripts/program.sh calls it: building.py LAUNCHER CRATE CALLED, where LAUNCHER is the path
+of the program's script, and CALLED how that was called.
 
 `rt ci` proves from nothing what no earlier run on this machine has proved, and keeps what passes
 for later runs and for the gate. So a build that was interrupted goes on where it stopped. The copy
@@ -16,7 +18,8 @@ import sys
 import tempfile
 import time
 
-from running import NO_ANSWER, Stopped, copy_crates, room, started
+sys.dont_write_bytecode = True
+from running import NO_ANSWER, Stopped, copy_crates, room, run, started  # noqa: E402
 
 # Seconds between two looks at the run.
 PAUSE = 0.3
@@ -51,28 +54,26 @@ def closed(below):
 
 
 class Progress:
-    """How far a build is, and how long the rest takes."""
+    """How far a build is, and what of it is long."""
 
     def __init__(self, program, below):
         # what each crate stands on
         self.program, self.below = program, closed(below)
-        self.done, self.at_work, self.shown, self.width = [], {}, None, 0
-        self.begun, self.first = time.monotonic(), None
+        self.done, self.at_work, self.shown, self.width = [], [], None, 0
+        self.begun = time.monotonic()
         known = [program.times[it] for it in below if it in program.times] or [1]
         usual = sum(known) / len(known)
         self.shares = {it: program.times.get(it, usual) for it in below}
-        # minutes for one of a share, as the last measurement has it
-        self.minutes = program.minutes("build") / max(self.chains(self.shares).values())
 
-    def chains(self, left):
+    def chains(self):
         """For each crate the longest chain of crates from it up, each of which stands on the one
-        before, by what is left of each."""
+        before, by their shares."""
         found = {}
 
         def of(name):
             if name not in found:
                 above = [of(it) for it, low in self.below.items() if name in low]
-                found[name] = left[name] + max(above, default=0)
+                found[name] = self.shares[name] + max(above, default=0)
             return found[name]
 
         return {name: of(name) for name in self.below}
@@ -83,42 +84,20 @@ class Progress:
         in_order = sorted(crates, key=lambda it: len(self.below[it]))
         return all(low in self.below[high] for low, high in zip(in_order, in_order[1:]))
 
-    def rest(self, now):
-        """Minutes that the rest takes, at the pace of this run so far."""
-        left = {it: 0 if it in self.done else share for it, share in self.shares.items()}
-        for name, since in self.at_work.items():
-            spent = (now - since) / 60 / self.minutes
-            left[name] = max(left[name] / 10, left[name] - spent)
-        expected = max(self.chains(left).values()) * self.minutes
-        if self.at_work and not self.first:
-            self.first = now, expected
-        if self.first:
-            began, whole = self.first
-            gone = whole - expected
-            # the first minutes say little
-            if gone > whole / 10:
-                expected *= (now - began) / 60 / gone
-        return expected
-
     def look(self, said, at_work):
         """Takes in what `rt ci` has said so far, and which crates are being proved."""
-        now = time.monotonic()
         self.done = [it for it in dict.fromkeys(DONE.findall(said)) if it in self.below]
         # one that stands on another waits for it
         begun = {*at_work}.difference(self.done)
-        found = [it for it in at_work if it in begun and begun.isdisjoint(self.below[it])]
-        self.at_work = {it: self.at_work.get(it, now) for it in found}
+        self.at_work = [it for it in at_work if it in begun and begun.isdisjoint(self.below[it])]
 
     def show(self):
         """Shows how far the build is: a line a change, or one line that changes on a terminal."""
-        now = time.monotonic()
-        line = (
-            f"{len(self.done)} of {len(self.below)} crates proved, "
-            f"{spelled((now - self.begun) / 60)} so far, some {spelled(self.rest(now))} left"
-        )
+        so_far = spelled((time.monotonic() - self.begun) / 60)
+        line = f"{len(self.done)} of {len(self.below)} crates proved, {so_far} so far"
         if self.at_work:
             line += f"; proving {', '.join(self.at_work)}"
-        state = self.done, [*self.at_work]
+        state = self.done, self.at_work
         if sys.stderr.isatty():
             line = f"{self.program.name}: {line}"[: shutil.get_terminal_size().columns - 1]
             print("\r" + line.ljust(self.width), end="", file=sys.stderr, flush=True)
@@ -159,7 +138,7 @@ class Runs:
         fails, those at work go on, and no other begins; where one judges nothing, one run proves
         all."""
         progress, at_work, passed, judged = self.progress, {}, True, True
-        left, above = {*progress.below} - {top}, progress.chains(progress.shares)
+        left, above = {*progress.below} - {top}, progress.chains()
         while at_work or (passed and not progress.is_chain(left)):
             unproved = left | {*at_work}
             ready = [it for it in left if passed and unproved.isdisjoint(progress.below[it])]
@@ -309,3 +288,7 @@ def build(program):
             return build_now(program)
     program.say(f"the proved {program.kind} is built, and newer than its sources")
     return 0
+
+
+if __name__ == "__main__":
+    sys.exit(run(build, *sys.argv[1:]))

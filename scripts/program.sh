@@ -23,7 +23,7 @@
 # - Else the words are answered unproved, by `rt try` (scripts/answer), as one line on standard
 #   error says. Standard output, the faults and the status are those of the program. A file that
 #   can't be read is told at once.
-# - The one word `--build` proves and builds the program (scripts/build), and runs nothing.
+# - The one word `--build` proves and builds the program (scripts/building.py), and runs nothing.
 #
 # Status 4 is of this script alone, and no program of the repository ends with it:
 # - the program isn't built, and the unproved run gives no answer: it asks for `--build`;
@@ -78,15 +78,13 @@ need() {
     fi
 }
 
-# What stands in for the program: scripts/answer or scripts/build, with the words it takes further.
+# What stands in for the program: scripts/answer or scripts/building.py, with the words it takes further.
 stand_in() {
     need python3 "install the system's package \`python3\`"
     need rt 'it is in `bin` of the Rattle kit, so put that folder on the PATH'
     task=$1
     shift
     set -- python3 "$root/scripts/$task" "$self" "$crate" "$0" "$@"
-    # Ctrl-C waits until Python hears it
-    if env --block-signal=INT true 2> /dev/null; then set -- env --block-signal=INT "$@"; fi
     exec "$@"
 }
 
@@ -95,7 +93,7 @@ if [ "$#:${1-}" = 1:--build ]; then
         say 'the proved program is built, and newer than its sources'
         exit 0
     fi
-    stand_in build
+    stand_in building.py
 fi
 
 # Prints the text that the words ask for, where that is the version or help.

@@ -1,4 +1,4 @@
-"""What scripts/answer, scripts/build and ./test share: the program that is called, a room for
+"""What scripts/answer, scripts/building.py and ./test share: the program that is called, a room for
 temporary files, and commands that end when the script does."""
 
 import contextlib
@@ -200,8 +200,6 @@ def run(task, launcher, crate, called, *more):
         for number in SIGNALS:
             if signal.getsignal(number) is not signal.SIG_IGN:
                 signal.signal(number, stop)
-        # scripts/program.sh blocks it while Python starts
-        signal.pthread_sigmask(signal.SIG_UNBLOCK, [signal.SIGINT])
         return task(Program(launcher, crate, called), *more)
     except (OSError, KeyError) as fault:
         if isinstance(fault, shutil.Error):

@@ -62,19 +62,6 @@ fn read(bytes: &[u8], count: u64) -> Measured {
     })
 }
 
-/// The same where the caller may return early.
-fn read_early(bytes: &[u8]) -> Result<usize, Error> {
-    let manifest = Manifest::from_slice(black_box(bytes))?;
-    if manifest.package.is_none() {
-        return Ok(0);
-    }
-    Ok(size_of(&manifest))
-}
-
-fn early(bytes: &[u8], count: u64) -> Measured {
-    repeat(count, || read_early(bytes).expect("a manifest"))
-}
-
 /// Several, one after the other.
 fn each(texts: &[Vec<u8>], count: u64) -> Measured {
     repeat(count, || {
@@ -90,20 +77,8 @@ fn tree_of(manifest: &Manifest) -> Value {
     Value::try_from(black_box(manifest)).expect("a tree")
 }
 
-fn table_size(tree: &Value) -> usize {
-    tree.as_table().map_or(0, |table| table.len())
-}
-
 fn write(manifest: &Manifest, count: u64) -> Measured {
-    repeat(count, || table_size(&tree_of(manifest)))
-}
-
-fn text(manifest: &Manifest, count: u64) -> Measured {
-    repeat(count, || {
-        let tree = tree_of(manifest);
-        drop(black_box(toml::to_string(&tree).expect("a document")));
-        table_size(&tree)
-    })
+    repeat(count, || tree_of(manifest).as_table().map_or(0, |table| table.len()))
 }
 
 fn resolve(manifest: &Manifest) -> usize {
@@ -235,15 +210,13 @@ fn run(words: &[&str]) -> Result<Measured, Error> {
                 files.iter().map(|file| manifest(file)).collect::<Result<Vec<_>, _>>()?;
             Ok(parse_each(&manifests, count))
         }
-        ["early", file, _] => Ok(early(&std::fs::read(file)?, count)),
         ["read", file, _] => Ok(read(&std::fs::read(file)?, count)),
         ["answer", file, _] => Ok(answer(&std::fs::read(file)?, count)),
         ["write", file, _] => Ok(write(&manifest(file)?, count)),
-        ["text", file, _] => Ok(text(&manifest(file)?, count)),
         // the state of its hashed maps is random anyway
         ["parse" | "seeded-parse", file, _] => Ok(parse(&manifest(file)?, count)),
         ["custom", file, _] => Ok(custom(&manifest(file)?, count)),
-        ["recursive" | "seeded-recursive", file, _] => Ok(recursive(&manifest(file)?, count)),
+        ["recursive", file, _] => Ok(recursive(&manifest(file)?, count)),
         ["complete", member, root, _] => complete(&std::fs::read(member)?, &manifest(root)?, count),
         _ => Err(Error::Other("no such operation")),
     }

@@ -1,5 +1,5 @@
-"""What ./test runs, and what has to come of it: the scripts, and under `rt try` the rows, the tests
-and the stored runs.
+"""What ./test runs, and what has to come of it: the scripts, under `rt try` the rows, the tests and
+the stored runs, and `rt fmt`.
 
 `rt try` takes a minute or two of a processor to build a program, and then seconds to run it. So
 programs that stand on the same crates are built as one: see `Programs`."""
@@ -139,6 +139,39 @@ class Scripts(Job):
         self.failed = dict(it.partition("\n")[::2] for it in told)
         if status and not self.failed:
             self.failed["a script"] = out + said
+
+
+class Layout(Job):
+    """What `rt fmt` makes of a copy of the crates, which the gate wants to be the same."""
+
+    is_heavy = True
+
+    def __init__(self, crates):
+        parts = [f"{CRATES}/{it}/{part}" for it in crates for part in ("src", "specs", "proofs")]
+        words = ["sh", "-c", "for it in crates/*/; do (cd $it && rt fmt) || exit; done"]
+        super().__init__("rt fmt", ROOT, words, [it for part in parts for it in files_below(part)])
+
+    def begun(self, at):
+        self.folder = f"{at}/repository"
+        for path in [*self.sources, f"{ROOT}/crates.txt", f"{ROOT}/HANDLES"]:
+            copy = self.copy_of(path)
+            os.makedirs(os.path.dirname(copy), exist_ok=True)
+            shutil.copy(path, copy)
+        # rt takes the folder that has it for the top of a repository
+        os.mkdir(f"{self.folder}/.git")
+        return super().begun(at)
+
+    def copy_of(self, path):
+        return f"{self.folder}/{os.path.relpath(path, ROOT)}"
+
+    def judge(self, status, out, said):
+        for path in self.sources:
+            here, laid_out = text_of(path), text_of(self.copy_of(path))
+            if here != laid_out:
+                self.failed[os.path.relpath(path, ROOT)] = difference(laid_out, here)
+        if status:
+            self.failed["`rt fmt`"] = out + said
+        self.passed = int(not self.failed)
 
 
 def code_of(crates):
@@ -354,4 +387,4 @@ def jobs(word=None):
         if any("#[test]" in text_of(path) for path in files_below(f"{CRATES}/{it}/src")):
             found.append(Tests(it))
     size = {it: sum(map(os.path.getsize, filter(os.path.isfile, it.sources))) for it in found}
-    return [Scripts(), *sorted(found, key=size.get, reverse=True)]
+    return [Scripts(), *sorted(found, key=size.get, reverse=True), Layout(crates)]

@@ -1,12 +1,14 @@
 #!/usr/bin/env python3
 """Proves and builds a program, or the library for C: by `rt ci`, in a copy of the crates that it
-stands on. scripts/program.sh calls it: building.py LAUNCHER CRATE CALLED, where LAUNCHER is the path
-of the program's script, and CALLED how that was called.
+stands on. scripts/program.sh calls it: building.py LAUNCHER CRATE CALLED, where LAUNCHER is the
+path of the program's script, and CALLED how that was called.
 
 `rt ci` proves from nothing what no earlier run on this machine has proved, and keeps what passes
 for later runs and for the gate. So a build that was interrupted goes on where it stopped. The copy
 lies among the temporary files, and goes at the end.
 """
+
+from __future__ import annotations
 
 import contextlib
 import fcntl
@@ -17,10 +19,13 @@ import subprocess
 import sys
 import tempfile
 import time
+from collections.abc import Iterable, Iterator
 
 sys.dont_write_bytecode = True
-from running import NO_ANSWER, Stopped, copy_crates, room, run, started  # noqa: E402
+from running import NO_ANSWER, Program, Stopped, copy_crates, room, run, started  # noqa: E402
 
+# What each crate stands on.
+Below = dict[str, list[str]]
 # Seconds between two looks at the run.
 PAUSE = 0.3
 # So many crates are proved at once. `rt ci NAME` gives a proof half of the processors, since it
@@ -37,15 +42,15 @@ NOT_JUDGED = 2
 DONE = re.compile(r"^rt: (\w+) (?:proved|is kept: .*)\n", re.MULTILINE)
 
 
-def spelled(minutes):
+def spelled(minutes: float) -> str:
     return f"{minutes:.0f} min" if minutes >= 1 else f"{60 * minutes:.0f} s"
 
 
-def closed(below):
+def closed(below: Below) -> dict[str, set[str]]:
     """What each crate stands on, through others too."""
     found = {}
 
-    def of(name):
+    def of(name: str) -> set[str]:
         if name not in found:
             found[name] = {*below[name]}.union(*map(of, below[name]))
         return found[name]
@@ -56,7 +61,7 @@ def closed(below):
 class Progress:
     """How far a build is, and what of it is long."""
 
-    def __init__(self, program, below):
+    def __init__(self, program: Program, below: Below) -> None:
         # what each crate stands on
         self.program, self.below = program, closed(below)
         self.done, self.at_work, self.shown, self.width = [], [], None, 0
@@ -65,12 +70,12 @@ class Progress:
         usual = sum(known) / len(known)
         self.shares = {it: program.times.get(it, usual) for it in below}
 
-    def chains(self):
+    def chains(self) -> dict[str, float]:
         """For each crate the longest chain of crates from it up, each of which stands on the one
         before, by their shares."""
         found = {}
 
-        def of(name):
+        def of(name: str) -> float:
             if name not in found:
                 above = [of(it) for it, low in self.below.items() if name in low]
                 found[name] = self.shares[name] + max(above, default=0)
@@ -78,20 +83,20 @@ class Progress:
 
         return {name: of(name) for name in self.below}
 
-    def is_chain(self, crates):
+    def is_chain(self, crates: set[str]) -> bool:
         """Whether each of some crates stands on the others before it, so that no two of them can be
         proved side by side."""
         in_order = sorted(crates, key=lambda it: len(self.below[it]))
         return all(low in self.below[high] for low, high in zip(in_order, in_order[1:]))
 
-    def look(self, said, at_work):
+    def look(self, said: str, at_work: Iterable[str]) -> None:
         """Takes in what `rt ci` has said so far, and which crates are being proved."""
         self.done = [it for it in dict.fromkeys(DONE.findall(said)) if it in self.below]
         # one that stands on another waits for it
         begun = {*at_work}.difference(self.done)
         self.at_work = [it for it in at_work if it in begun and begun.isdisjoint(self.below[it])]
 
-    def show(self):
+    def show(self) -> None:
         """Shows how far the build is: a line a change, or one line that changes on a terminal."""
         so_far = spelled((time.monotonic() - self.begun) / 60)
         line = f"{len(self.done)} of {len(self.below)} crates proved, {so_far} so far"
@@ -106,7 +111,7 @@ class Progress:
             self.program.say(line)
         self.shown = state
 
-    def end(self):
+    def end(self) -> None:
         if self.width:
             print(file=sys.stderr, flush=True)
 
@@ -114,14 +119,16 @@ class Progress:
 class Runs:
     """Runs of `rt ci` in the copy. Each is told to the progress, and ends where this does."""
 
-    def __init__(self, progress, ends, at, **how):
+    def __init__(
+        self, progress: Progress, ends: contextlib.ExitStack, at: str, **how: object
+    ) -> None:
         self.progress, self.ends, self.at, self.how = progress, ends, at, how
 
-    def start(self, *names, has_time=False):
+    def start(self, *names: str, has_time: bool = False) -> subprocess.Popen:
         words = [*(ONE_PROCESSOR if has_time else []), "rt", "ci", *names]
         return self.ends.enter_context(started(words, self.at, **self.how))
 
-    def wait(self, at_work):
+    def wait(self, at_work: dict[str, subprocess.Popen]) -> list[str]:
         """Waits for one of some runs, told by their crates, and returns those that ended."""
         while True:
             self.how["stdout"].seek(0)
@@ -132,7 +139,7 @@ class Runs:
                 return ended
             time.sleep(PAUSE)
 
-    def prove(self, top):
+    def prove(self, top: str) -> bool:
         """Proves the crates and builds the program, and returns whether all passed. Each crate has
         a run of its own, once what it stands on is proved, until what is left is a chain. Where one
         fails, those at work go on, and no other begins; where one judges nothing, one run proves
@@ -161,7 +168,7 @@ class Runs:
         return passed
 
 
-def prove(program, folder, below):
+def prove(program: Program, folder: str, below: Below) -> tuple[bool, str]:
     """Proves in the copy, and returns whether all passed, with what was said.
 
     `rt ci` alone would begin each proof with the processors that no other proof waits for, which is
@@ -181,7 +188,7 @@ def prove(program, folder, below):
 
 
 @contextlib.contextmanager
-def in_turn(program):
+def in_turn(program: Program) -> Iterator[None]:
     """Waits while another run builds the program."""
     with open(program.launcher, "rb") as file:
         try:
@@ -195,7 +202,7 @@ def in_turn(program):
         yield
 
 
-def beginning(program):
+def beginning(program: Program) -> int:
     """The time of a file that is made now, where what is built is to stand. What is changed from
     now on is newer than that."""
     try:
@@ -207,7 +214,7 @@ def beginning(program):
         sys.exit(NO_ANSWER)
 
 
-def put(program, made, began):
+def put(program: Program, made: str, began: int) -> None:
     """Puts what was made in its place, whole and in one step."""
     place = f"{program.out}/{os.path.basename(made)}"
     new = f"{place}.new-{os.getpid()}"
@@ -221,7 +228,7 @@ def put(program, made, began):
             os.remove(new)
 
 
-def build_here(program, at):
+def build_here(program: Program, at: str) -> bool:
     """Builds of what the gate has just proved in the repository itself, with a room to work in.
     Returns whether it could be made."""
     began = beginning(program)
@@ -234,7 +241,7 @@ def build_here(program, at):
     return bool(made)
 
 
-def made_in(program, at, began):
+def made_in(program: Program, at: str, began: int) -> bool:
     """Builds in the room and puts what is made in its place. Returns whether it stands there."""
     folder = f"{at}/repository"
     below = copy_crates(program, folder, also=[LIBRARY])
@@ -254,7 +261,7 @@ def made_in(program, at, began):
     return False
 
 
-def build_now(program):
+def build_now(program: Program) -> int:
     began, clock = beginning(program), time.monotonic()
     program.say(
         f"proves and builds the {program.kind} from nothing, in {program.build_time()}; "
@@ -281,7 +288,7 @@ def build_now(program):
     return 0
 
 
-def build(program):
+def build(program: Program) -> int:
     """Builds what is to be built, and returns the status."""
     with in_turn(program):
         if not program.is_fresh()[0]:

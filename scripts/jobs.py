@@ -4,6 +4,8 @@ the stored runs, and `rt fmt`.
 `rt try` takes a minute or two of a processor to build a program, and then seconds to run it. So
 programs that stand on the same crates are built as one: see `Programs`."""
 
+from __future__ import annotations
+
 import contextlib
 import difflib
 import hashlib
@@ -11,6 +13,7 @@ import os
 import re
 import shutil
 import subprocess
+from collections.abc import Iterable
 from itertools import zip_longest
 
 from running import started
@@ -31,16 +34,16 @@ NOBODY = 65534
 AS_NOBODY = ["setpriv", f"--reuid={NOBODY}", f"--regid={NOBODY}", "--clear-groups"]
 
 
-def text_of(path):
+def text_of(path: str) -> str:
     with open(path, encoding="utf-8", errors="replace") as file:
         return file.read()
 
 
-def lines_of(path):
+def lines_of(path: str) -> list[str]:
     return text_of(path).splitlines() if os.path.isfile(path) else []
 
 
-def files_below(folder):
+def files_below(folder: str) -> list[str]:
     """The files below a folder, except what is made of others."""
     found = []
     for at, folders, names in os.walk(folder):
@@ -49,11 +52,11 @@ def files_below(folder):
     return sorted(found)
 
 
-def is_utf8(path):
+def is_utf8(path: str) -> bool:
     return os.fsencode(path).decode(errors="replace") == path
 
 
-def difference(wanted, came):
+def difference(wanted: str, came: str) -> str:
     wanted, came = wanted.splitlines(), came.splitlines()
     return "\n".join(difflib.unified_diff(wanted, came, "wanted", "came", n=1, lineterm=""))
 
@@ -64,13 +67,13 @@ class Job:
     # whether it takes a processor and memory for most of the time
     is_heavy = False
 
-    def __init__(self, name, folder, words, sources):
+    def __init__(self, name: str, folder: str, words: list[str], sources: list[str]) -> None:
         self.name, self.folder, self.words, self.sources = name, folder, words, sources
         self.is_for_nobody, self.kept = False, None
         # what failed, each with what is shown of it, or None where another shows it
         self.passed, self.failed, self.skipped = 0, {}, {}
 
-    def is_kept(self, kit):
+    def is_kept(self, kit: bytes) -> bool:
         """Whether it passed with this kit, all of its files as they are."""
         made = hashlib.sha256(repr([kit, self.words, self.is_for_nobody]).encode())
         for path in [os.path.realpath(__file__), *filter(os.path.isfile, self.sources)]:
@@ -86,7 +89,7 @@ class Job:
         return bool(passed)
 
     @contextlib.contextmanager
-    def begun(self, at):
+    def begun(self, at: str) -> contextlib.AbstractContextManager[subprocess.Popen]:
         """The job at work, with a folder for what it writes."""
         os.makedirs(f"{at}/tmp")
         words = [*AS_NOBODY, *self.words] if self.is_for_nobody else self.words
@@ -96,7 +99,7 @@ class Job:
             with started(words, at, cwd=self.folder, stdout=out, stderr=said) as child:
                 yield child
 
-    def end(self, status, at, seconds):
+    def end(self, status: int, at: str, seconds: float) -> None:
         """Tells what came, and keeps that it passed."""
         self.judge(status, text_of(f"{at}/out"), text_of(f"{at}/said"))
         self.tell(f"{seconds:.0f} s")
@@ -107,7 +110,7 @@ class Job:
                 with open(self.kept, "w", encoding="utf-8") as file:
                     file.write(f"{self.passed}\n")
 
-    def tell(self, how):
+    def tell(self, how: str) -> None:
         skipped = f", {len(self.skipped)} skipped" if self.skipped else ""
         lines = [f"{self.name}: {self.passed} passed, {len(self.failed)} failed{skipped} ({how})"]
         lines += [f"  skipped: {name}: {why}" for name, why in self.skipped.items()]
@@ -124,13 +127,13 @@ class Job:
 class Scripts(Job):
     """The scripts, which say how many checks they made."""
 
-    def __init__(self):
+    def __init__(self) -> None:
         # they also try the programs and the library, where these are built
         built = [f"{CRATES}/{it}/out/{it}" for it in ("cargo_toml_cli", "cargo_toml_tools_cli")]
         built.append(f"{CRATES}/cargo_toml_c/out/libcargo_toml.so")
         super().__init__("scripts/check", ROOT, [f"{SCRIPTS}/check"], [*files_below(ROOT), *built])
 
-    def judge(self, status, out, said):
+    def judge(self, status: int | str | None, out: str, said: str) -> None:
         found = re.search(r"(?m)^scripts/check: (\d+) checks, (\d+) failed$", out)
         self.passed = int(found[1]) - int(found[2]) if found else 0
         left = re.findall(r"(?m)^scripts/[\w-]+: not tried: (.*?)(?:, which (.*))?$", out)
@@ -146,12 +149,12 @@ class Layout(Job):
 
     is_heavy = True
 
-    def __init__(self, crates):
+    def __init__(self, crates: list[str]) -> None:
         parts = [f"{CRATES}/{it}/{part}" for it in crates for part in ("src", "specs", "proofs")]
         words = ["sh", "-c", "for it in crates/*/; do (cd $it && rt fmt) || exit; done"]
         super().__init__("rt fmt", ROOT, words, [it for part in parts for it in files_below(part)])
 
-    def begun(self, at):
+    def begun(self, at: str) -> contextlib.AbstractContextManager[subprocess.Popen]:
         self.folder = f"{at}/repository"
         for path in [*self.sources, f"{ROOT}/crates.txt", f"{ROOT}/HANDLES"]:
             copy = self.copy_of(path)
@@ -161,10 +164,10 @@ class Layout(Job):
         os.mkdir(f"{self.folder}/.git")
         return super().begun(at)
 
-    def copy_of(self, path):
+    def copy_of(self, path: str) -> str:
         return f"{self.folder}/{os.path.relpath(path, ROOT)}"
 
-    def judge(self, status, out, said):
+    def judge(self, status: int | str | None, out: str, said: str) -> None:
         for path in self.sources:
             here, laid_out = text_of(path), text_of(self.copy_of(path))
             if here != laid_out:
@@ -174,7 +177,7 @@ class Layout(Job):
         self.passed = int(not self.failed)
 
 
-def code_of(crates):
+def code_of(crates: Iterable[str]) -> list[str]:
     return [it for name in crates for it in files_below(f"{CRATES}/{name}/src")]
 
 
@@ -183,11 +186,11 @@ class Tests(Job):
 
     is_heavy = True
 
-    def __init__(self, crate):
+    def __init__(self, crate: str) -> None:
         sources = [f"{ROOT}/crates.txt", *code_of(crate_lines(ROOT, crate))]
         super().__init__(f"tests of {crate}", f"{CRATES}/{crate}", [*TRY, "--test"], sources)
 
-    def judge(self, status, out, said):
+    def judge(self, status: int | str | None, out: str, said: str) -> None:
         told = re.findall(r"(?m)^test (\S+) \.\.\. (.*)$", out)
         self.passed = sum(how == "ok" for _, how in told)
         self.failed = {name: how for name, how in told if how != "ok"}
@@ -201,7 +204,7 @@ class Run:
     # whether it must not be run by root
     is_for_nobody = False
 
-    def __init__(self, what, crate, words):
+    def __init__(self, what: str, crate: str, words: list[str]) -> None:
         self.name, self.crate, self.words = f"{what} of {crate}", crate, words
         self.folder, self.below = f"{CRATES}/{crate}", [*crate_lines(ROOT, crate)]
         self.data = files_below(f"{self.folder}/data")
@@ -213,10 +216,10 @@ class Run:
 class Stored(Run):
     """A program on its stored words: its status, and what it prints."""
 
-    def __init__(self, crate):
+    def __init__(self, crate: str) -> None:
         super().__init__("stored run", crate, lines_of(f"{CRATES}/{crate}/args"))
 
-    def judge(self, status, out, said):
+    def judge(self, status: int | str | None, out: str, said: str) -> None:
         wanted = [*lines_of(f"{self.folder}/status"), "0"][0]
         stored = text_of(f"{self.folder}/stdout")
         if status != wanted:
@@ -231,7 +234,7 @@ class Rows(Run):
     """The rows of a program of rows whose names hold a word. Each of its words is a row, KIND/NAME,
     and the line of `stdout` at the same place is what it has to print of it."""
 
-    def __init__(self, crate, word, is_bound):
+    def __init__(self, crate: str, word: str, is_bound: bool) -> None:
         folder = f"{CRATES}/{crate}"
         stored = (lines_of(f"{folder}/{it}") for it in ("args", "stdout"))
         stored = zip_longest(*stored, fillvalue="")
@@ -242,7 +245,7 @@ class Rows(Run):
         self.skipped = {row: it for row, it in why.items() if it}
         self.is_for_nobody = is_bound and os.geteuid() == 0
 
-    def judge(self, status, out, said):
+    def judge(self, status: int | str | None, out: str, said: str) -> None:
         heads = {f"{row}:".replace("/", " ", 1): row for row in self.asked}
         came, row = dict.fromkeys(self.asked, ""), None
         for line in out.splitlines(keepends=True):
@@ -260,7 +263,7 @@ class Rows(Run):
         elif status != "0":
             self.failed[f"status 0 of {self.crate}"] = said
 
-    def shown(self, row, text):
+    def shown(self, row: str, text: str) -> str:
         """What came, beside the file of the row that is most like it."""
         came, at = text.partition(": ")[2], f"{self.folder}/data/{row}"
         texts = [text_of(it) for it in ([at] if os.path.isfile(at) else files_below(at))]
@@ -296,7 +299,7 @@ class Programs(Job):
 
     is_heavy = True
 
-    def __init__(self, runs):
+    def __init__(self, runs: list[Run]) -> None:
         self.runs = runs
         self.below = dict.fromkeys(it for run in runs for it in run.below)
         sources = [f"{ROOT}/crates.txt", *code_of(self.below)]
@@ -307,7 +310,7 @@ class Programs(Job):
         for it in runs:
             self.skipped.update(it.skipped)
 
-    def begun(self, at):
+    def begun(self, at: str) -> contextlib.AbstractContextManager[subprocess.Popen]:
         names, top = [it.crate for it in self.runs], f"{at}/repository"
         for name in self.below:
             shutil.copytree(f"{CRATES}/{name}/src", f"{top}/crates/{name}/src")
@@ -331,7 +334,7 @@ class Programs(Job):
                 self.words += ["--data", f"{os.path.relpath(path, f'{run.folder}/data')}={path}"]
         return super().begun(at)
 
-    def judge(self, status, out, said):
+    def judge(self, status: int | str | None, out: str, said: str) -> None:
         ended = dict(ENDED.findall(said))
         # each program's output is behind a line with its name
         parts = re.split(rf"(?m)^== ({'|'.join(it.crate for it in self.runs)})\n", out)
@@ -342,13 +345,13 @@ class Programs(Job):
             self.failed.update(run.failed)
 
 
-def put(path, *lines):
+def put(path: str, *lines: str) -> None:
     os.makedirs(os.path.dirname(path), exist_ok=True)
     with open(path, "w", encoding="utf-8") as file:
         file.writelines(f"{it}\n" for it in lines)
 
 
-def together(runs):
+def together(runs: Iterable[Run]) -> list[Job]:
     """Jobs of the runs. A program is built with one that stands on all that it stands on."""
     groups = {}
     for run in sorted(runs, key=lambda it: len(it.below), reverse=True):
@@ -357,7 +360,7 @@ def together(runs):
     return [Programs(it) for it in groups.values()]
 
 
-def why_not(row, is_bound):
+def why_not(row: str, is_bound: bool) -> str:
     """Why the row in a folder isn't run here, if it isn't."""
     if not all(map(is_utf8, files_below(row))):
         return "`rt try` takes no file whose name isn't UTF-8; `rt ci` runs it"
@@ -366,7 +369,7 @@ def why_not(row, is_bound):
     return ""
 
 
-def can_be_bound():
+def can_be_bound() -> bool:
     """Whether rows can be run by one who is bound by modes: by nobody, where this is root."""
     asked = ["sh", "-c", 'test -r "$0" && rt version', f"{ROOT}/crates.txt"]
     words, how = [*AS_NOBODY, *asked], {"stdout": subprocess.DEVNULL, "stderr": subprocess.DEVNULL}
@@ -375,7 +378,7 @@ def can_be_bound():
     return False
 
 
-def jobs(word=None):
+def jobs(word: str | None = None) -> list[Job]:
     """What is to be run, what takes longest first."""
     crates, is_bound = sorted(os.listdir(CRATES)), can_be_bound()
     programs = [it for it in crates if os.path.isfile(f"{CRATES}/{it}/stdout")]

@@ -1,5 +1,7 @@
 """The library for C: compiled over what is proved, linked, and laid out for those who link it."""
 
+from __future__ import annotations
+
 import os
 import re
 import shutil
@@ -28,23 +30,23 @@ Libs: -L${{libdir}} -l{NAME}
 """
 
 
-def source_of(root):
+def source_of(root: str) -> str:
     with open(f"{root}/{SOURCE}", encoding="utf-8") as file:
         return file.read()
 
 
-def exports(root):
+def exports(root: str) -> list[tuple[str, str, str]]:
     """The exports of the library: of each its name, its parameters and its result, as Rattle has
     them."""
     return EXPORT.findall(source_of(root))
 
 
-def version(root):
+def version(root: str) -> str:
     """What `cargo_toml_version` tells."""
     return re.search(r'^const VERSION: &str = "(.*)";', source_of(root), re.MULTILINE)[1]
 
 
-def kit():
+def kit() -> str:
     """The folder of the kit whose `rt` is on the PATH."""
     return os.path.dirname(os.path.dirname(os.path.realpath(shutil.which("rt"))))
 
@@ -54,11 +56,11 @@ class Library(Program):
 
     kind = "library"
 
-    def __init__(self, launcher, called):
+    def __init__(self, launcher: str, called: str) -> None:
         super().__init__(launcher, CRATE, called)
         self.made = SHARED
 
-    def made_of(self, at, folder):
+    def made_of(self, at: str, folder: str) -> tuple[list[str], str]:
         """The static and the shared library, made of what is proved in a copy."""
         crate = f"{folder}/crates/{self.crate}"
         self.say("compiles and links what is proved, in some two minutes")
@@ -83,15 +85,15 @@ class Library(Program):
 class Linking:
     """What the kit's tools make of a static library, by the names that are to be seen."""
 
-    def __init__(self, at, archive, names):
+    def __init__(self, at: str, archive: str, names: list[str]) -> None:
         self.at, self.archive, self.names, self.kit = at, archive, names, kit()
 
-    def call(self, tool, *words):
+    def call(self, tool: str, *words: str) -> None:
         """Calls a tool of LLVM. The kit has all of them in one program."""
         program = f"{self.kit}/toolchain/bin/clang"
         subprocess.run([tool, *words], executable=program, check=True, cwd=self.at)
 
-    def made(self):
+    def made(self) -> list[str]:
         """The two libraries. The static one has one object, with what it needs of the kit in it and
         no other names to be seen, so that it can be linked beside another of the kit's."""
         of_kit = [f"{self.kit}/{it}" for it in OF_KIT]
@@ -109,12 +111,12 @@ class Linking:
         self.call("ld.lld", *how, "-s", "-o", SHARED, f"{NAME}.o", of_system)
         return [f"{self.at}/{STATIC}", f"{self.at}/{SHARED}"]
 
-    def write(self, name, *lines):
+    def write(self, name: str, *lines: str) -> None:
         with open(f"{self.at}/{name}", "w", encoding="utf-8") as file:
             file.writelines(f"{it}\n" for it in lines)
 
 
-def lay_out(library, out):
+def lay_out(library: Library, out: str) -> None:
     """Puts the library that is built into a folder, with its header and what pkg-config reads."""
     for part in ("lib/pkgconfig", "include"):
         os.makedirs(f"{out}/{part}", exist_ok=True)
@@ -125,7 +127,7 @@ def lay_out(library, out):
         file.write(PKG_CONFIG % version(library.root))
 
 
-def place(source, target, mode):
+def place(source: str, target: str, mode: int) -> None:
     """Puts a copy in its place in one step, since a program may have the old one at work."""
     new = f"{target}.new-{os.getpid()}"
     shutil.copyfile(source, new)

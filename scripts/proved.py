@@ -1,5 +1,7 @@
 """What an archive of a release says of its proof: PROVED.txt."""
 
+from __future__ import annotations
+
 import os
 import re
 import subprocess
@@ -33,19 +35,19 @@ compare the checksums.
 """
 
 
-def said(*words, at):
+def said(*words: str, at: str) -> str:
     done = subprocess.run(words, cwd=at, check=False, capture_output=True, text=True)
     return done.stdout.strip() if done.returncode == 0 else ""
 
 
-def commit(root):
+def commit(root: str) -> str:
     """The commit, and whether files differ from it."""
     name = said("git", "rev-parse", "HEAD", at=root) or "unknown"
     changed = said("git", "status", "--porcelain", at=root)
     return f"{name}, with changes" if changed else name
 
 
-def functions(folder):
+def functions(folder: str) -> int:
     """How many functions the sources of a crate have."""
     count = 0
     for at, _, names in os.walk(f"{folder}/src"):
@@ -56,12 +58,12 @@ def functions(folder):
     return count
 
 
-def crates(root):
+def crates(root: str) -> list[str]:
     """The crates behind the archive, the lowest first."""
     return list(dict.fromkeys(name for top in TOPS for name in crate_lines(root, top)))
 
 
-def bodies(root):
+def bodies(root: str) -> int:
     """How many wrong bodies the gate tries."""
     return sum(
         name.endswith(".edit")
@@ -71,7 +73,7 @@ def bodies(root):
     )
 
 
-def report(root, version):
+def report(root: str, version: str) -> str:
     """The text of PROVED.txt."""
     counts = {name: functions(f"{root}/crates/{name}") for name in crates(root)}
     kit = said("rt", "version", at=root)

@@ -12,8 +12,13 @@ definitions to read, in blocks:
 scripts/reading.md stands above them.
 """
 
+from __future__ import annotations
+
 import re
 import sys
+from collections.abc import Iterator
+from pathlib import Path
+from typing import NoReturn
 
 from sources import CRATES, ROOT, imports, spec_file
 
@@ -27,11 +32,17 @@ CLAIM = re.compile(r"^- \*\*(.+?)\.\*\* ((?:.+\n)(?:  .+\n)*)", re.M)
 KIT = re.compile(r"^ *use Rattle\.(toml|semver)\.specs\.[\w.]+\.\{([^}]*)\}", re.M)
 
 
-def fail(words):
+# A block: its title, and of each module its crate, its name, and the definitions to show.
+Block = tuple[str, list[tuple[str, str, list[str]]]]
+# A claim: its name, its clauses, and its blocks.
+Claim = tuple[str, list[list[str]], list[Block]]
+
+
+def fail(words: str) -> NoReturn:
     sys.exit(f"scripts/reference: {words}")
 
 
-def definitions(file):
+def definitions(file: Path) -> Iterator[tuple[str, str, str]]:
     """Each definition of a file: its name, the comment above it, and its text. Those that stand in
     one block are taken as if each stood alone: the comment above the block is that of the first."""
     text = MUTUAL.sub(
@@ -47,7 +58,7 @@ def definitions(file):
         yield this.group(1), " ".join(said), body
 
 
-def believed(crate):
+def believed(crate: str) -> list[Path]:
     """The files of a crate's definitions, in the order of its Lib.antt, but for those behind a
     comment by which nothing there has to be believed."""
     lib = CRATES / crate / "specs/Lib.antt"
@@ -60,7 +71,7 @@ def believed(crate):
     ]
 
 
-def commented(lines, at):
+def commented(lines: list[str], at: int) -> int:
     """The first line of the comment above a line, or the line itself."""
     indent = re.match(" *", lines[at]).group()
     while at and re.match(rf"{indent}--(?! ----)", lines[at - 1]):
@@ -68,7 +79,7 @@ def commented(lines, at):
     return at
 
 
-def module_around(lines, at):
+def module_around(lines: list[str], at: int) -> list[str]:
     """The heads of the modules around a line, outermost first: what stands below gets their
     parameters."""
     heads, indent = [], len(re.match(" *", lines[at]).group())
@@ -81,7 +92,7 @@ def module_around(lines, at):
     return [line for head in heads for line in head]
 
 
-def whole(file, name):
+def whole(file: Path, name: str) -> tuple[list[str], list[str]]:
     """A definition with its comment, as it stands in its file, and the heads of the modules around
     it. Of those that are defined together all are shown."""
     lines = file.read_text().splitlines()
@@ -103,7 +114,7 @@ def whole(file, name):
     return fail(f"scripts/claims.txt: {file.relative_to(CRATES)} has no {name}")
 
 
-def claims():
+def claims() -> list[Claim]:
     """What scripts/claims.txt says: of each claim its name, its clauses, and its blocks."""
     found = []
     for line in (ROOT / "scripts/claims.txt").read_text().splitlines():
@@ -125,7 +136,7 @@ def claims():
     return found
 
 
-def clause_of(path, call, name=""):
+def clause_of(path: str, call: str, name: str = "") -> str:
     """The text of a clause."""
     text = (CRATES / path).read_text()
     found = re.search(rf"^ *(?:pub )?fn {call}\b.*?^ *\{{\}}?$", text, re.M | re.S)
@@ -135,7 +146,7 @@ def clause_of(path, call, name=""):
     return fail(f"scripts/claims.txt: {path} has no clause {name} of {call}")
 
 
-def used(words, source):
+def used(words: set[str], source: str) -> set[tuple[Path, str]]:
     """Those of these words that a source imports from this repository: of each its file."""
     return {
         (file, name)
@@ -144,11 +155,11 @@ def used(words, source):
     }
 
 
-def link(file, name=""):
+def link(file: Path, name: str = "") -> str:
     return f"[{name or file.stem}](../{file.relative_to(ROOT)})"
 
 
-def folded(text):
+def folded(text: str) -> list[str]:
     """A clause in lines of at most 100 columns."""
     lines = [""]
     for word in text.split():
@@ -162,12 +173,12 @@ class Part:
     """The part on one claim: its lines, the definitions that it shows, and the words that these
     use, of this repository and of the kit."""
 
-    def __init__(self, number, name, sentence):
+    def __init__(self, number: int, name: str, sentence: str) -> None:
         self.number = number
         self.lines = ["", f"## {number}. {name}", "", sentence, ""]
         self.shown, self.words, self.kit = set(), set(), {}
 
-    def take(self, text, source, file=None):
+    def take(self, text: str, source: str, file: Path | None = None) -> None:
         """Notes what a text uses that stands in this source, and in this file of definitions."""
         words = set(WORD.findall(text))
         self.words |= used(words, source)
@@ -176,7 +187,7 @@ class Part:
         for of, names in KIT.findall(source):
             self.kit.setdefault(of, set()).update(words & set(re.split(r",\s*", names)))
 
-    def add_clauses(self, clauses):
+    def add_clauses(self, clauses: list[list[str]]) -> None:
         """The texts of the clauses, call by call."""
         for path, call in dict.fromkeys((it[0], it[1]) for it in clauses):
             file = CRATES / path
@@ -187,7 +198,7 @@ class Part:
                 self.lines += folded(text)
             self.lines += ["```", ""]
 
-    def add_module(self, crate, module, names):
+    def add_module(self, crate: str, module: str, names: list[str]) -> None:
         """Definitions of one module, each whole."""
         file, around = spec_file(crate, module), None
         if not file:
@@ -201,7 +212,7 @@ class Part:
             self.take("\n".join(head + lines), file.read_text(), file)
         self.lines += ["```", ""]
 
-    def further(self, shown_in):
+    def further(self, shown_in: dict[tuple[Path, str], int]) -> list[str]:
         """What the definitions use that isn't shown here, by file."""
         files = {}
         for file, name in sorted(self.words - self.shown):
@@ -216,7 +227,7 @@ class Part:
         ]
 
 
-def parts():
+def parts() -> Iterator[tuple[str, Part]]:
     """The parts on the claims of README, in its order."""
     part = (ROOT / "README.md").read_text().split("## What is proved\n")[1].split("\n## ")[0]
     said, listed = CLAIM.findall(part), claims()
@@ -232,7 +243,7 @@ def parts():
         yield name, made
 
 
-def reading_order():
+def reading_order() -> list[str]:
     """The lines of DEFINITIONS.md."""
     made, shown_in = dict(parts()), {}
     for part in made.values():

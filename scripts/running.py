@@ -1,6 +1,8 @@
 """What scripts/answer, scripts/building.py and ./test share: the program that is called, a room for
 temporary files, and commands that end when the script does."""
 
+from __future__ import annotations
+
 import contextlib
 import os
 import re
@@ -10,6 +12,8 @@ import subprocess
 import sys
 import tempfile
 import time
+from collections.abc import Callable, Iterable, Iterator
+from typing import NoReturn
 
 from sources import crate_lines
 
@@ -23,7 +27,7 @@ class Program:
 
     kind = "program"
 
-    def __init__(self, launcher, crate, called):
+    def __init__(self, launcher: str, crate: str, called: str) -> None:
         # the path of its script, and how that was called
         self.launcher, self.called = launcher, called
         self.root, self.name = os.path.split(launcher)
@@ -33,30 +37,30 @@ class Program:
         self.made = crate
         self.times = times_of(self.root)
 
-    def say(self, text):
+    def say(self, text: str) -> None:
         print(f"{self.name}: {text}", file=sys.stderr, flush=True)
 
-    def is_fresh(self):
+    def is_fresh(self) -> tuple[bool, str]:
         """Whether it is built and newer than its sources, and else why it isn't."""
         words = [f"{self.root}/scripts/stale", self.root, self.crate, self.made]
         how = {"stdin": subprocess.DEVNULL, "stdout": subprocess.PIPE, "text": True}
         ran = subprocess.run(words, check=False, **how)
         return ran.returncode == 0, ran.stdout.strip()
 
-    def made_of(self, _, folder):
+    def made_of(self, _: str, folder: str) -> tuple[list[str], str]:
         """What the proofs in a copy have built, as a list of files, and what was said of that."""
         made = f"{folder}/crates/{self.crate}/out/{self.crate}"
         return [made] * os.path.isfile(made), ""
 
-    def build_time(self):
+    def build_time(self) -> str:
         return f"some {self.minutes('build'):g} minutes on four cores"
 
-    def minutes(self, what):
+    def minutes(self, what: str) -> float:
         """How long something takes: of this program, where that was measured, or of the first."""
         return self.times.get(f"{self.crate}_{what}", self.times[what])
 
 
-def times_of(root):
+def times_of(root: str) -> dict[str, float]:
     """The numbers of docs/times, by their names."""
     with open(f"{root}/docs/times", encoding="utf-8") as file:
         found = re.findall(r"(?m)^(\w+) (\d+)$", file.read())
@@ -66,12 +70,12 @@ def times_of(root):
 class Stopped(BaseException):
     """A signal ends this run."""
 
-    def __init__(self, number):
+    def __init__(self, number: int) -> None:
         super().__init__(number)
         self.number = number
 
 
-def stop(number, _):
+def stop(number: int, _: object) -> NoReturn:
     # what is cleared away then is cleared away in peace
     for each in SIGNALS:
         signal.signal(each, signal.SIG_IGN)
@@ -79,7 +83,7 @@ def stop(number, _):
 
 
 @contextlib.contextmanager
-def undisturbed():
+def undisturbed() -> Iterator[None]:
     """A signal waits until this is done."""
     came = []
     heard = [it for it in SIGNALS if signal.getsignal(it) is stop]
@@ -95,7 +99,7 @@ def undisturbed():
 
 
 @contextlib.contextmanager
-def room(program, places):
+def room(program: Program, places: list[str | None]) -> Iterator[str]:
     """A folder for all that a run writes, in the first place that can be written. It goes when the
     run ends, however that ends."""
     made = None
@@ -117,7 +121,7 @@ def room(program, places):
             shutil.rmtree(made or "", ignore_errors=True)
 
 
-def copy_crates(program, to, also=()):
+def copy_crates(program: Program, to: str, also: Iterable[str] = ()) -> dict[str, list[str]]:
     """Copies the crates that the program stands on and their lines of crates.txt, and returns what
     each stands on. The same of other crates, where they are there.
 
@@ -128,7 +132,7 @@ def copy_crates(program, to, also=()):
     for crate in also:
         crates |= crate_lines(program.root, crate)
 
-    def left_out(at, _):
+    def left_out(at: str, _: list[str]) -> list[str]:
         return ["out", "must-fail"] if os.path.dirname(at) == f"{program.root}/crates" else []
 
     os.mkdir(to)
@@ -144,7 +148,7 @@ def copy_crates(program, to, also=()):
     return {name: [it for it in line.split()[1:] if it in crates] for name, line in listed}
 
 
-def workers(at):
+def workers(at: str) -> list[int]:
     """The processes that were started for a room. They have the room in their environment, since
     their temporary files lie there."""
     found, mark = [], f"={at}/".encode()
@@ -155,7 +159,7 @@ def workers(at):
     return found
 
 
-def end(child, at):
+def end(child: subprocess.Popen, at: str) -> None:
     """Ends a command and all that it started for the room."""
     if child.returncode is None:
         # rt ends what it started when it is ended
@@ -175,7 +179,7 @@ def end(child, at):
 
 
 @contextlib.contextmanager
-def started(words, at, **how):
+def started(words: list[str], at: str, **how: object) -> Iterator[subprocess.Popen]:
     """A command whose temporary files lie in the room. It has a session of its own, so that Ctrl-C
     reaches this script alone. However this run ends, so does all that the command started."""
     os.makedirs(f"{at}/tmp", exist_ok=True)
@@ -193,7 +197,7 @@ def started(words, at, **how):
                 end(child, at)
 
 
-def run(task, launcher, crate, called, *more):
+def run(task: Callable[..., int], launcher: str, crate: str, called: str, *more: str) -> int:
     """Does the task for the program, and returns the status. A signal ends it by that signal."""
     name = os.path.basename(launcher)
     try:

@@ -8,6 +8,8 @@ to be a finding, or a refusal. A difference that is meant is of a class that MEA
 is a failure, and the status is then 1. The first failures are kept, and printed.
 """
 
+from __future__ import annotations
+
 import json
 import os
 import subprocess
@@ -35,10 +37,10 @@ OTHERS = ("different source paths", "invalid character", "failed to parse the ve
 class Judge:
     """Cargo in a folder of its own, which has no network."""
 
-    def __init__(self, folder):
+    def __init__(self, folder: str) -> None:
         self.env = without_network(f"{folder}/home")
 
-    def metadata(self, folder):
+    def metadata(self, folder: str) -> tuple[dict | None, str]:
         """What Cargo knows of the package in a folder, or why it refuses that."""
         words = ["cargo", "metadata", "--no-deps", "--offline", "--format-version", "1"]
         words += ["--manifest-path", f"{folder}/Cargo.toml"]
@@ -46,7 +48,7 @@ class Judge:
         return (json.loads(done.stdout), "") if done.returncode == 0 else (None, done.stderr)
 
 
-def of_package(package, root):
+def of_package(package: dict, root: str) -> dict:
     publish = package["publish"]
     if publish is not None:
         publish = ", ".join(publish) or "no"
@@ -55,11 +57,11 @@ def of_package(package, root):
     return values | {"folder": folder, "publish": publish or "yes"}
 
 
-def by_folder(one):
+def by_folder(one: dict) -> str:
     return one["folder"]
 
 
-def difference(judge, program, folder):
+def difference(judge: Judge, program: list[str], folder: str) -> str | None:
     """What differs of the workspace around a folder: nothing, the name of a class, or words."""
     known, why = judge.metadata(folder)
     done = subprocess.run(
@@ -89,11 +91,11 @@ def difference(judge, program, folder):
     return f"found\n{json.dumps(found, indent=1)}\nwanted\n{json.dumps(want, indent=1)}"
 
 
-def main():
+def main() -> int:
     comparison = Comparison(__doc__, MEANT, count=300)
     judge = Judge(comparison.folder)
 
-    def answer(folder, number):
+    def answer(folder: str, number: int) -> str | None:
         asked = OddWorkspaces(f"{comparison.seed}-{number}").write(folder)
         return difference(judge, comparison.program, asked)
 

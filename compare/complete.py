@@ -8,6 +8,8 @@ Of each workspace three manifests are completed. The status has to be the same, 
 the fault. Two faults of the original have words of their own where this crate says that nothing is
 there; they count as alike."""
 
+from __future__ import annotations
+
 import argparse
 import os
 import re
@@ -28,7 +30,7 @@ NOTHING_THERE = re.compile("Can't find workspace in .*|.*because it has no paren
 class Completions(Workspaces):
     """Workspaces whose members state products and have files for them."""
 
-    def product(self, kind):
+    def product(self, kind: str) -> list[str]:
         name = self.random.choice(NAMES)
         lines = [f'name = "{name}"'] if self.happens(0.8) else []
         if self.happens(0.4):
@@ -38,7 +40,7 @@ class Completions(Workspaces):
             lines.append(f"required-features = {listed(self.some(NAMES, 2))}")
         return lines
 
-    def package(self, number):
+    def package(self, number: int) -> list[str]:
         lines = super().package(number)
         for key in ["build", "readme"]:
             if self.happens(0.4):
@@ -50,7 +52,7 @@ class Completions(Workspaces):
             lines.append(f'workspace = "{self.random.choice(["..", "../..", "../../.."])}"')
         return lines
 
-    def member(self, number):
+    def member(self, number: int) -> list[str]:
         lines = super().member(number)
         if self.happens(0.2):
             lines += ["[lib]"] + self.product("lib")
@@ -59,7 +61,7 @@ class Completions(Workspaces):
                 lines += [f"[[{kind}]]"] + self.product(kind)
         return lines + (["[lints]", "workspace = true"] if self.happens(0.1) else [])
 
-    def add_files(self, folder):
+    def add_files(self, folder: str) -> None:
         files = [name for name in ALONE if self.happens(0.3)]
         for inner in KINDS.values():
             # one file for a name: of two, the original takes any
@@ -74,7 +76,7 @@ class Completions(Workspaces):
             if not os.path.exists(path) and not any(map(os.path.isfile, above)):
                 put(path, "")
 
-    def manifests(self, folder):
+    def manifests(self, folder: str) -> list[str]:
         """Some of the manifests of a workspace that is written into this folder."""
         self.write(folder)
         found = sorted(
@@ -85,12 +87,12 @@ class Completions(Workspaces):
         return self.random.sample(found, min(3, len(found)))
 
 
-def answer(program, manifest):
+def answer(program: str, manifest: str) -> tuple[int, str, str]:
     done = subprocess.run([program, "complete", manifest], capture_output=True, text=True)
     return done.returncode, done.stdout, NOTHING_THERE.sub("entity not found", done.stderr)
 
 
-def main():
+def main() -> None:
     parser = argparse.ArgumentParser(description=__doc__)
     parser.add_argument("program")
     parser.add_argument("other")

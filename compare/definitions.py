@@ -4,13 +4,16 @@ They are written once more and by other means. Nothing here follows the crate's 
 names and actions are found as paths in the whole graph of features, none of which is taken out.
 """
 
+from __future__ import annotations
+
 import itertools
 import tomllib
+from collections.abc import Iterable
 
 LIMIT = 2048
 
 
-def in_order(texts):
+def in_order(texts: Iterable[str]) -> list[str]:
     """Texts in the order of their bytes."""
     return sorted(texts, key=lambda text: text.encode())
 
@@ -145,7 +148,7 @@ class Graph:
         return found
 
 
-def listed(items):
+def listed(items: Iterable[str]) -> str:
     return ", ".join(items) if items else "-"
 
 
@@ -206,7 +209,7 @@ class Expected:
     def redirect(self, feature):
         return f"hidden {feature} | {listed(in_order(self.names_at_turn(feature)))}"
 
-    def difference(self, text):
+    def difference(self, text: str) -> tuple[str, str] | None:
         """The first line that isn't as it should be, and what should stand there, or nothing."""
         hidden = in_order(self.removed)
         wanted = [*map(self.line, self.kept), *map(self.redirect, hidden)]
@@ -218,6 +221,6 @@ class Expected:
         return None
 
 
-def difference(file, text, limit):
+def difference(file: str, text: str, limit: int | None) -> tuple[str, str] | None:
     with open(file, "rb") as opened:
         return Expected(tomllib.load(opened), limit or LIMIT).difference(text)

@@ -1,6 +1,8 @@
 """Random manifests for `cargo`: dependencies of every table and source, and features over them. Few
 names, so that they often meet."""
 
+from __future__ import annotations
+
 import random
 
 from judging import listed, quoted
@@ -21,18 +23,18 @@ TARGETS = ["", "", "", "target.'cfg(unix)'.", "target.x86_64-pc-windows-gnu."]
 
 
 class Manifests:
-    def __init__(self, seed):
+    def __init__(self, seed: object) -> None:
         self.random = random.Random(str(seed))
         self.edition, self.version = "2021", "0.0.0"
         self.keys = {}
 
-    def happens(self, chance):
+    def happens(self, chance: float) -> bool:
         return self.random.random() < chance
 
-    def one(self, of):
+    def one(self, of: list[str]) -> str:
         return self.random.choice(of)
 
-    def entry(self, key, table, path, is_member):
+    def entry(self, key: str, table: str, path: str | None, is_member: bool) -> tuple[str, bool]:
         """The entry of a dependency, and whether it is optional."""
         parts = [f'version = "{self.one(REQUIREMENTS)}"']
         if is_member and self.happens(0.2):
@@ -56,10 +58,10 @@ class Manifests:
             parts.append("optional = true")
         return f"{key} = {{ {', '.join(parts)} }}", is_optional
 
-    def some(self, of):
+    def some(self, of: list[str]) -> str:
         return listed(one for one in of if self.happens(0.5))
 
-    def tables(self, path, is_member):
+    def tables(self, path: str | None, is_member: bool) -> list[str]:
         """Tables of dependencies. One key has one source and is optional everywhere or nowhere."""
         lines, self.keys = [], {}
         for table in TABLES:
@@ -77,7 +79,7 @@ class Manifests:
                     lines += [f"[{target}{name}]", *entries]
         return lines
 
-    def text(self, name, names, is_odd):
+    def text(self, name: str, names: list[str], is_odd: bool) -> str | None:
         if is_odd and self.happens(0.1):
             return self.one(ODD_TEXTS + NAMES)
         kind = self.random.random()
@@ -91,7 +93,7 @@ class Manifests:
         others = [other for other in names if other != name]
         return self.one(others) if others else None
 
-    def features(self, is_odd):
+    def features(self, is_odd: bool) -> list[str]:
         names = [name for name in NAMES if name not in self.keys and self.happens(0.6)]
         if is_odd and self.happens(0.15):
             names.append(self.one(ODD_NAMES + KEYS))
@@ -108,7 +110,9 @@ class Manifests:
                     texts.append(self.one(implied))
         return ["[features]"] + [f"{quoted(k)} = {listed(v)}" for k, v in lists.items()]
 
-    def manifest(self, name, path=None, is_odd=False, is_member=False):
+    def manifest(
+        self, name: str, path: str | None = None, is_odd: bool = False, is_member: bool = False
+    ) -> str:
         self.edition = self.one(EDITIONS)
         lines = ["[package]", f'name = "{name}"', f'edition = "{self.edition}"']
         lines += ['description = "x"', 'license = "MIT"']
@@ -119,7 +123,7 @@ class Manifests:
         lines += self.features(is_odd)
         return "\n".join(lines) + "\n"
 
-    def values(self, is_member):
+    def values(self, is_member: bool) -> list[str]:
         """What a package states itself, or leaves to its workspace."""
         stated = {"version": f'"{self.one(VERSIONS)}"'} if self.happens(0.97) else {}
         if self.happens(0.2):
@@ -131,10 +135,10 @@ class Manifests:
         stated |= dict.fromkeys(left, "{ workspace = true }")
         return [f"{key} = {value}" for key, value in stated.items()]
 
-    def member(self, name, path):
+    def member(self, name: str, path: str) -> str:
         return self.manifest(name, path, is_odd=self.happens(0.15), is_member=True)
 
-    def root(self, members):
+    def root(self, members: list[str]) -> str:
         lines = ["[workspace]", f"members = {listed(members)}", 'resolver = "2"']
         lines += ["[workspace.package]", *(f"{key} = {GIVEN[key]}" for key in GIVEN)]
         lines.append("[workspace.dependencies]")

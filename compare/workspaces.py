@@ -1,6 +1,8 @@
 """Random workspaces on a disk, for complete.py and cargo_audit.py: members by patterns and by name,
 what they inherit, and what is odd of them. Few names, so that they often meet."""
 
+from __future__ import annotations
+
 import os
 import random
 
@@ -20,16 +22,16 @@ TABLES += ["target.'cfg(unix)'.dependencies"]
 
 
 class Workspaces:
-    def __init__(self, seed):
+    def __init__(self, seed: object) -> None:
         self.random = random.Random(seed)
 
-    def happens(self, chance):
+    def happens(self, chance: float) -> bool:
         return self.random.random() < chance
 
-    def some(self, of, most):
+    def some(self, of: list[str], most: int) -> list[str]:
         return [self.random.choice(of) for _ in range(self.random.randrange(most + 1))]
 
-    def given(self):
+    def given(self) -> list[str]:
         """The table `workspace.package`, as lines."""
         lines = ["[workspace.package]", 'version = "1.2.3"']
         if self.happens(0.7):
@@ -42,14 +44,14 @@ class Workspaces:
             lines.append(f"publish = {self.random.choice(PUBLISH)}")
         return lines
 
-    def shared(self):
+    def shared(self) -> list[str]:
         """The table `workspace.dependencies`, as lines."""
         lines = ["[workspace.dependencies]"]
         for key in filter(lambda _: self.happens(0.8), KEYS):
             lines.append(f"{key} = {self.requirement()}")
         return lines
 
-    def requirement(self):
+    def requirement(self) -> str:
         """A dependency with a requirement, at times under another key than its crate's name."""
         version = f'"{self.random.choice(REQUIREMENTS)}"'
         if self.happens(0.8):
@@ -70,7 +72,7 @@ class Workspaces:
             lines += self.shared()
         return lines
 
-    def inheritable(self, key, value):
+    def inheritable(self, key: str, value: str) -> list[str]:
         return [f"{key}.workspace = true" if self.happens(0.4) else f"{key} = {value}"]
 
     def package(self, number):
@@ -86,7 +88,7 @@ class Workspaces:
             lines += self.inheritable("publish", self.random.choice(PUBLISH))
         return lines
 
-    def dependencies(self):
+    def dependencies(self) -> list[str]:
         lines = []
         for table in TABLES:
             if self.happens(0.6):
@@ -102,7 +104,7 @@ class Workspaces:
             return ["[features]"]
         return self.package(number) + self.dependencies()
 
-    def write(self, folder):
+    def write(self, folder: str) -> str:
         """Writes a workspace into this folder, which isn't there yet."""
         root = f"{folder}/root"
         places = [f"{root}/{name}" for name in FOLDERS]
@@ -132,7 +134,7 @@ ODDITIES = 0.06
 class OddWorkspaces(Workspaces):
     """Workspaces as Cargo takes them, each with few things that it may refuse."""
 
-    def odd(self, often=1.0):
+    def odd(self, often: float=1.0) -> bool:
         return self.happens(ODDITIES * often)
 
     def entries(self, most):
@@ -143,7 +145,7 @@ class OddWorkspaces(Workspaces):
             chosen.append(self.random.choice(["../out", f"{self.top}/root/b", f"{self.top}/out"]))
         return chosen
 
-    def features(self):
+    def features(self) -> list[str]:
         texts = self.some(["std", "log", "dep:log", "log/std"] if self.odd(0.3) else ["std"], 2)
         return ["[features]", "std = []", f"all = {listed(texts)}"]
 
@@ -190,7 +192,7 @@ class OddWorkspaces(Workspaces):
             lines += ["[workspace]"]
         return lines + self.paths(place)
 
-    def root_lines(self):
+    def root_lines(self) -> list[str]:
         lines = ["[workspace]", f"members = {listed(self.entries(4))}", 'resolver = "2"']
         if self.happens(0.3):
             excluded = self.some(PLACES + ["c", "m", "m/a", "./a", "a/../b", "[ab]"], 2)
@@ -209,7 +211,7 @@ class OddWorkspaces(Workspaces):
             lines.append(f'{key.replace("/", "-")} = {{ path = "{key}"{optional} }}')
         return lines
 
-    def write(self, folder):
+    def write(self, folder: str) -> str:
         """Writes a workspace into this folder, and answers the folder that is asked for."""
         self.top, root = folder, f"{folder}/root"
         self.has_package, self.has_edition = self.happens(0.7), self.happens(0.7)
@@ -233,5 +235,5 @@ class OddWorkspaces(Workspaces):
         return f"{root}/{self.random.choice(PLACES)}" if self.odd(0.8) else root
 
 
-def put_manifest(folder, lines):
+def put_manifest(folder: str, lines: list[str]) -> None:
     put(f"{folder}/Cargo.toml", "".join(f"{line}\n" for line in lines))

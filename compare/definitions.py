@@ -8,9 +8,15 @@ from __future__ import annotations
 
 import itertools
 import tomllib
-from collections.abc import Iterable
+from collections.abc import Iterable, Iterator
+from typing import Optional
 
 LIMIT = 2048
+# An action: whether it is conditional, whether dep-only, and the features that it asks for.
+Action = tuple[bool, bool, set[str]]
+# Where a dependency stands: a kind and a target; and an entry there, behind its key.
+At = tuple[int, Optional[str]]
+Entry = tuple[str, At, object]
 
 
 def in_order(texts: Iterable[str]) -> list[str]:
@@ -18,7 +24,7 @@ def in_order(texts: Iterable[str]) -> list[str]:
     return sorted(texts, key=lambda text: text.encode())
 
 
-def mention(text):
+def mention(text: str) -> str | tuple[str, bool, bool, str]:
     """What one text of a feature's list says: a name; or a key, whether conditionally, whether
     dep-only, and a dependency feature."""
     front, slash, feature = text.partition("/")
@@ -30,24 +36,24 @@ def mention(text):
     return key, (key != name, is_dep_only, frozenset([feature] if slash else []))
 
 
-def enabled_by(written):
+def enabled_by(written: list | dict) -> list[str]:
     """The texts of a feature, which is written as a list or as a table."""
     return written.get("enables", []) if isinstance(written, dict) else written
 
 
-def said_of(written):
+def said_of(written: list | dict) -> tuple[bool, str | None]:
     """Whether a feature is public, and its text or nothing."""
     table = written if isinstance(written, dict) else {}
     return table.get("public", True), table.get("doc")
 
 
-def join(one, other):
+def join(one: Action | None, other: Action | None) -> Action | None:
     if one is None or other is None:
         return one or other
     return one[0] and other[0], one[1] or other[1], one[2] | other[2]
 
 
-def dependency_tables(manifest):
+def dependency_tables(manifest: dict) -> Iterator[tuple[dict, At]]:
     """The tables of dependencies in the order in which they count, each with its kind and
     target."""
     targets = manifest.get("target", {})
@@ -61,16 +67,16 @@ def dependency_tables(manifest):
         yield targets[target].get("dev-dependencies", {}), (2, target)
 
 
-def entries_of(manifest, limit):
+def entries_of(manifest: dict, limit: int) -> list[Entry]:
     tables = dependency_tables(manifest)
     return [(key, at, table[key]) for table, at in tables for key in in_order(table)[:limit]]
 
 
-def is_optional(dependency):
+def is_optional(dependency: str | dict) -> bool:
     return isinstance(dependency, dict) and dependency.get("optional", False)
 
 
-def is_redundant(dependency, feature):
+def is_redundant(dependency: str | dict, feature: str) -> bool:
     """Whether a dependency that is written as a table has the feature anyway."""
     if not isinstance(dependency, dict):
         return False
@@ -79,7 +85,7 @@ def is_redundant(dependency, feature):
     return feature in dependency.get("features", [])
 
 
-def first_targets(entries, mentioned):
+def first_targets(entries: list[Entry], mentioned: set[str]) -> dict[str, str | dict]:
     """For each recorded key the first dependency at its least target."""
     recorded = {}
     for key, (kind, target), dependency in entries:
@@ -92,7 +98,7 @@ def first_targets(entries, mentioned):
 class Graph:
     """The features of a manifest at a limit of items, and the edges between them."""
 
-    def __init__(self, manifest, limit):
+    def __init__(self, manifest: dict, limit: int) -> None:
         table = manifest.get("features", {})
         listed = in_order(table)[:limit]
         self.explicit = {*listed, "default"}
@@ -116,7 +122,7 @@ class Graph:
                     self.own_bins[feature].append(product.get("name", manifest["package"]["name"]))
         self.edges = {feature: self.targets(feature) for feature in self.names}
 
-    def add_dependencies(self, entries):
+    def add_dependencies(self, entries: list[Entry]) -> None:
         """Implied features; and what a dependency has anyway is left out of actions."""
         acted = {key for actions in self.actions.values() for key in actions}
         every = [entry for actions in self.actions.values() for entry in actions.items()]
@@ -132,12 +138,12 @@ class Graph:
                 self.names[key] = set()
                 self.actions[key] = {key: (False, False, frozenset())}
 
-    def targets(self, feature):
+    def targets(self, feature: str) -> set[str]:
         actions = self.actions[feature].items()
         plain = {key for key, action in actions if not action[0] and not action[1]}
         return {key for key in self.names[feature] | plain if key in self.names and key != feature}
 
-    def reached(self, feature, inner):
+    def reached(self, feature: str, inner: set[str]) -> set[str]:
         """What a path of at least one edge leads to, whose inner features are all among these."""
         found, left = set(), [*self.edges[feature]]
         while left:
@@ -152,7 +158,7 @@ def listed(items: Iterable[str]) -> str:
     return ", ".join(items) if items else "-"
 
 
-def written_action(key, action):
+def written_action(key: str, action: Action) -> str:
     marks = "?" * action[0] + "!" * action[1]
     return key + marks + "".join(f"/{feature}" for feature in in_order(action[2]))
 
@@ -160,18 +166,18 @@ def written_action(key, action):
 class Expected:
     """The lines of a manifest."""
 
-    def __init__(self, manifest, limit=LIMIT):
+    def __init__(self, manifest: dict, limit: int = LIMIT) -> None:
         self.graph = graph = Graph(manifest, limit)
         self.removed = {feature for feature in graph.names if feature.startswith("_")}
         self.kept = in_order(graph.names.keys() - self.removed)
         self.reached = {feature: graph.reached(feature, self.removed) for feature in graph.names}
         self.bins = self.passed_on()
 
-    def spoken_by(self, feature):
+    def spoken_by(self, feature: str) -> set[str]:
         """The feature, and the removed ones that it reaches through removed ones."""
         return {feature} | self.reached[feature] & self.removed
 
-    def line(self, feature):
+    def line(self, feature: str) -> str:
         graph = self.graph
         names, actions = set(), {}
         for source in self.spoken_by(feature):
@@ -188,7 +194,7 @@ class Expected:
         told = f" | doc: {text}" if text is not None else ""
         return line + " | private" * (not is_public) + told
 
-    def passed_on(self):
+    def passed_on(self) -> dict[str, list[str]]:
         """The binaries of each feature: in byte order each removed one passes the first ten of its
         list, as it then stands, on to what it then names."""
         lists = {feature: [*own] for feature, own in self.graph.own_bins.items()}
@@ -200,13 +206,13 @@ class Expected:
                         lists[target].append(name)
         return lists
 
-    def names_at_turn(self, feature):
+    def names_at_turn(self, feature: str) -> set[str]:
         """What a removed feature names once the smaller ones are taken out."""
         smaller = {source for source in self.removed if source.encode() < feature.encode()}
         sources = {feature} | self.graph.reached(feature, smaller) & smaller
         return {name for source in sources for name in self.graph.names[source]} - smaller
 
-    def redirect(self, feature):
+    def redirect(self, feature: str) -> str:
         return f"hidden {feature} | {listed(in_order(self.names_at_turn(feature)))}"
 
     def difference(self, text: str) -> tuple[str, str] | None:

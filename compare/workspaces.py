@@ -58,7 +58,7 @@ class Workspaces:
             return version
         return f'{{ version = {version}, package = "{self.random.choice(KEYS)}" }}'
 
-    def root(self):
+    def root(self) -> list[str]:
         entries = self.some(ENTRIES + FOLDERS, 4)
         if self.happens(0.2):
             entries.append(self.random.choice(OUTSIDE))
@@ -75,7 +75,7 @@ class Workspaces:
     def inheritable(self, key: str, value: str) -> list[str]:
         return [f"{key}.workspace = true" if self.happens(0.4) else f"{key} = {value}"]
 
-    def package(self, number):
+    def package(self, number: int) -> list[str]:
         lines = ["[package]", f'name = "member-{number}"']
         lines += self.inheritable("version", f'"0.{number}.0"')
         if self.happens(0.8):
@@ -99,7 +99,7 @@ class Workspaces:
                 lines.append(f"{key} = {own}" if self.happens(0.6) else f"{key}.workspace = true")
         return lines
 
-    def member(self, number):
+    def member(self, number: int) -> list[str]:
         if self.happens(0.05):
             return ["[features]"]
         return self.package(number) + self.dependencies()
@@ -137,7 +137,7 @@ class OddWorkspaces(Workspaces):
     def odd(self, often: float=1.0) -> bool:
         return self.happens(ODDITIES * often)
 
-    def entries(self, most):
+    def entries(self, most: int) -> list[str]:
         chosen = self.some(PLACES * 2 + PATTERNS, most)
         if self.odd(3):
             chosen.append(self.random.choice(ODD_ENTRIES))
@@ -149,7 +149,7 @@ class OddWorkspaces(Workspaces):
         texts = self.some(["std", "log", "dep:log", "log/std"] if self.odd(0.3) else ["std"], 2)
         return ["[features]", "std = []", f"all = {listed(texts)}"]
 
-    def paths(self, place):
+    def paths(self, place: str) -> list[str]:
         """Dependencies by paths, some of them of the workspace."""
         lines = []
         for table in TABLES:
@@ -168,7 +168,7 @@ class OddWorkspaces(Workspaces):
                     lines.append(f'{name} = {{ path = "{path}" }}')
         return lines
 
-    def crate(self, place):
+    def crate(self, place: str) -> list[str]:
         name = "same" if self.odd(0.3) else place.replace("/", "-").replace(".", "root")
         lines = ["[package]", f'name = "{name}"']
         version = ['version = "1.0.0"']

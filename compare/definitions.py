@@ -13,7 +13,7 @@ from typing import Optional
 
 LIMIT = 2048
 # An action: whether it is conditional, whether dep-only, and the features that it asks for.
-Action = tuple[bool, bool, set[str]]
+Action = tuple[bool, bool, frozenset[str]]
 # Where a dependency stands: a kind and a target; and an entry there, behind its key.
 At = tuple[int, Optional[str]]
 Entry = tuple[str, At, object]
@@ -24,7 +24,7 @@ def in_order(texts: Iterable[str]) -> list[str]:
     return sorted(texts, key=lambda text: text.encode())
 
 
-def mention(text: str) -> str | tuple[str, bool, bool, str]:
+def mention(text: str) -> tuple[str, Action | None]:
     """What one text of a feature's list says: a name; or a key, whether conditionally, whether
     dep-only, and a dependency feature."""
     front, slash, feature = text.partition("/")

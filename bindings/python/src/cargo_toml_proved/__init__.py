@@ -1,8 +1,8 @@
 """Reads a `Cargo.toml`, completes it and resolves its features, by a proved library.
 
-Each call is a function of what it is given: it reads no file, and keeps nothing. Texts are `str`,
-or `bytes` in UTF-8. A manifest that is refused raises `ManifestError`, whose `faults` are a list.
-Calls of several threads don't wait for each other.
+Each call is a function of what it is given: it reads no file, and keeps nothing but the room of its
+answer. Texts are `str`, or `bytes` in UTF-8. A manifest that is refused raises `ManifestError`,
+whose `faults` are a list. Calls of several threads don't wait for each other.
 """
 
 from __future__ import annotations

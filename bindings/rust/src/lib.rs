@@ -20,8 +20,7 @@
 //! an index doesn't take.
 #![deny(missing_docs, unsafe_code)]
 #![warn(clippy::pedantic)]
-// those of all calls are told above
-#![allow(clippy::missing_errors_doc)]
+#![allow(clippy::missing_errors_doc)] // those of all calls are told above
 
 mod answers;
 mod calls;

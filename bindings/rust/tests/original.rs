@@ -5,8 +5,7 @@ use cargo_toml_proved::{check, complete, read, Error, Feature, Features, Resolve
 use serde_json::Value;
 use std::collections::BTreeMap;
 
-const KINDS: &str = r#"
-[package]
+const KINDS: &str = r#"[package]
 name = "foo"
 
 [[bin]]

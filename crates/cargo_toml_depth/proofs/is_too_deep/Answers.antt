@@ -76,7 +76,7 @@ tokens-preserved-then-byte-eq35 c =
     let begins : (first text == 35) ≡ true = grind (arith, nat_tests, common_steps) in (
       search rules,
       rw (c.end_line.ensures, c.skip_blank-rest.ensures.rest)
-      (l.invariant.1 ∙ run ∙ past_comment (l.left - c.past_plain-count.result.0) (place_of l.place) text (omega arith) (search rules) begins),
+          (l.invariant.1 ∙ run ∙ past_comment (l.left - c.past_plain-count.result.0) (place_of l.place) text (omega arith) (search rules) begins),
     )
 
 pub tokens-preserved-then-is_at_header : goal.tokens-preserved-then-is_at_header
@@ -90,7 +90,7 @@ tokens-preserved-then-is_at_header c =
     let fits : enter h.parts h.is_of_array (place_of l.place) ≡ Some (place_of c.enter.new.self) = grind (arith, nat_tests, common_steps) in (
       search rules,
       l.invariant.1 ∙ run
-      ∙ past_header (l.left - c.past_plain-count.result.0) (place_of l.place) (place_of c.enter.new.self) text h.parts h.is_of_array c.in-Some-2.after.now (omega arith) near read fits,
+          ∙ past_header (l.left - c.past_plain-count.result.0) (place_of l.place) (place_of c.enter.new.self) text h.parts h.is_of_array c.in-Some-2.after.now (omega arith) near read fits,
     )
 
 pub tokens-preserved : goal.tokens-preserved
@@ -103,5 +103,5 @@ tokens-preserved c =
     let fits : pass (first text) (place_of l.place) ≡ Some (place_of c.pass.new.self) = grind (arith, nat_tests, common_steps) in (
       search rules,
       rw c.skip-rest.ensures.rest
-      (l.invariant.1 ∙ run ∙ past_byte (l.left - c.past_plain-count.result.0) (place_of l.place) (place_of c.pass.new.self) text (omega arith) near goes fits),
+          (l.invariant.1 ∙ run ∙ past_byte (l.left - c.past_plain-count.result.0) (place_of l.place) (place_of c.pass.new.self) text (omega arith) near goes fits),
     )

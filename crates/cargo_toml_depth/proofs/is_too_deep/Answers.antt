@@ -1,4 +1,4 @@
-use Rattle.std.proofs.Common.{◌≡◌, ◌==◌, rules, arith, sym, ◌∙◌, ◌+◌, ◌-◌, true, false, Some, None}
+use Rattle.std.proofs.Common.{◌≡◌, ◌==◌, rules, arith, sym, ◌∙◌, ◌-◌, true, false, Some, None}
 use Rattle.std.proofs.lemmas.Grind.{common_steps}
 use Rattle.std.proofs.lemmas.Bool.Decides.{nat_tests}
 use Rattle.cargo_toml_depth.specs.Places.{place_of}

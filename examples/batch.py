@@ -10,11 +10,9 @@ refused has its words on standard error, and the status is then 1.
 
 from __future__ import annotations
 
-import json
 import multiprocessing
 import os
 import sys
-import tarfile
 from typing import List, Tuple
 
 import cargo_toml_proved as cargo_toml
@@ -26,10 +24,9 @@ SHARE = 64
 def line_of(path: str) -> Tuple[bool, str]:
     """The line of an archive, or why it has none."""
     try:
-        line = cargo_toml.from_crate(path).index()
-    except (OSError, EOFError, ValueError, tarfile.TarError) as fault:
+        return True, cargo_toml.from_crate(path).line()
+    except (OSError, ValueError) as fault:
         return False, f"error: {path}: {fault}"
-    return True, json.dumps(line, separators=(",", ":"), ensure_ascii=False)
 
 
 def main(words: List[str]) -> int:

@@ -37,16 +37,14 @@ def _metadata() -> str:
 
 def _files(library: str) -> Dict[str, bytes]:
     """Each file of the wheel by its path, but RECORD."""
-    with open(library, "rb") as file:
-        files = {f"{NAME}/libcargo_toml.so": file.read()}
+    files = {f"{NAME}/libcargo_toml.so": _bytes_of(os.path.abspath(library))}
     for name in sorted(os.listdir(os.path.join(HERE, "src", NAME))):
         if name.endswith(".py") or name == "py.typed":
             files[f"{NAME}/{name}"] = _bytes_of("src", NAME, name)
     about = f"{NAME}-{VERSION}.dist-info"
     files[f"{about}/METADATA"] = _metadata().encode()
-    files[f"{about}/WHEEL"] = (
-        f"Wheel-Version: 1.0\nGenerator: wheel_of\nRoot-Is-Purelib: false\nTag: {TAG}\n".encode()
-    )
+    about_wheel = f"Wheel-Version: 1.0\nGenerator: wheel_of\nRoot-Is-Purelib: false\nTag: {TAG}\n"
+    files[f"{about}/WHEEL"] = about_wheel.encode()
     return files
 
 

@@ -2,18 +2,18 @@
 
 from __future__ import annotations
 
-import gzip
+import concurrent.futures
 import hashlib
 import io
+import json
 import os
 import pickle
 import subprocess
 import sys
 import tarfile
 import tempfile
-import threading
 import unittest
-from typing import Any, Dict, List
+from typing import Dict
 
 import cargo_toml_proved as cargo_toml
 
@@ -28,18 +28,6 @@ fast = ["log/std"]
 [dependencies]
 log = { version = "0.4", optional = true }
 """
-HERE = os.path.dirname(os.path.abspath(__file__))
-
-
-def archive(folder: str, files: Dict[str, str]) -> bytes:
-    """A `.crate` with these files."""
-    made = io.BytesIO()
-    with tarfile.open(fileobj=made, mode="w") as entries:
-        for path, text in files.items():
-            entry = tarfile.TarInfo(f"{folder}/{path}")
-            entry.size = len(text.encode())
-            entries.addfile(entry, io.BytesIO(text.encode()))
-    return gzip.compress(made.getvalue())
 
 
 class Calls(unittest.TestCase):
@@ -82,24 +70,17 @@ class Calls(unittest.TestCase):
         again = pickle.loads(pickle.dumps(caught.exception))
         self.assertEqual(again.faults, caught.exception.faults)
 
-    def test_check_and_lint(self) -> None:
+    def test_check_lint_and_document(self) -> None:
         self.assertEqual(cargo_toml.check(DUNCE), [])
         self.assertEqual([it["code"] for it in cargo_toml.lint(DUNCE)], ["implied"])
+        self.assertIn("fast", [row["name"] for row in cargo_toml.document(DUNCE)])
 
-    def test_document(self) -> None:
-        rows = cargo_toml.document(DUNCE)
-        self.assertIn("fast", [row["name"] for row in rows])
-
-    def test_bytes_that_are_no_text(self) -> None:
-        with self.assertRaises(cargo_toml.ManifestError):
-            cargo_toml.features(b"\xff")
-
-    def test_depth(self) -> None:
-        deep = "x = " + "{a.a.a=" * 2000 + "1" + "}" * 2000
-        calls = (cargo_toml.read, cargo_toml.features, cargo_toml.lint, cargo_toml.index)
-        for call in calls:
-            with self.assertRaises(cargo_toml.ManifestError):
-                call(deep)
+    def test_texts_that_are_no_manifest(self) -> None:
+        deep = b"x = " + b"{a.a.a=" * 2000 + b"1" + b"}" * 2000
+        for call in (cargo_toml.read, cargo_toml.features, cargo_toml.lint, cargo_toml.index):
+            for text in (deep, b"\xff"):
+                with self.assertRaises(cargo_toml.ManifestError):
+                    call(text)
 
     def test_long_answers(self) -> None:
         names = "".join(f"feature_{n} = ['feature_{n - 1}']\n" for n in range(1, 2000))
@@ -107,13 +88,9 @@ class Calls(unittest.TestCase):
         self.assertEqual(len(found["features"]), 2001)
 
     def test_threads(self) -> None:
-        expected, answers = cargo_toml.features(DUNCE), []  # type: Any, List[Any]
-        rounds = [lambda: answers.extend(cargo_toml.features(DUNCE) for _ in range(200))] * 8
-        threads = [threading.Thread(target=it) for it in rounds]
-        for it in threads:
-            it.start()
-        for it in threads:
-            it.join()
+        expected = cargo_toml.features(DUNCE)
+        with concurrent.futures.ThreadPoolExecutor(8) as pool:
+            answers = [*pool.map(cargo_toml.features, [DUNCE] * 1600)]
         self.assertEqual(answers, [expected] * 1600)
 
 
@@ -123,15 +100,19 @@ class Archives(unittest.TestCase):
         self.addCleanup(room.cleanup)
         self.room = room.name
 
-    def made(self, name: str, folder: str, files: Dict[str, str]) -> str:
-        path = os.path.join(self.room, name)
-        with open(path, "wb") as file:
-            file.write(archive(folder, files))
+    def made(self, folder: str, files: Dict[str, str]) -> str:
+        """The path of a `.crate` with these files."""
+        path = os.path.join(self.room, f"{folder}.crate")
+        with tarfile.open(path, "w:gz") as entries:
+            for name, text in files.items():
+                entry = tarfile.TarInfo(f"{folder}/{name}")
+                entry.size = len(text.encode())
+                entries.addfile(entry, io.BytesIO(text.encode()))
         return path
 
     def test_crate(self) -> None:
         files = {"Cargo.toml": DUNCE, "src/lib.rs": "", "src/bin/tool.rs": ""}
-        path = self.made("dunce-0.1.0.crate", "dunce-0.1.0", files)
+        path = self.made("dunce-0.1.0", files)
         crate = cargo_toml.from_crate(path)
         with open(path, "rb") as file:
             self.assertEqual(crate.checksum, hashlib.sha256(file.read()).hexdigest())
@@ -139,25 +120,22 @@ class Archives(unittest.TestCase):
         line = crate.index()
         self.assertEqual((line["name"], line["vers"]), ("dunce", "0.1.0"))
         self.assertEqual(line["cksum"], crate.checksum)
+        self.assertEqual(json.loads(crate.line()), line)
 
     def test_crate_of_another_name(self) -> None:
-        path = self.made("evil-1.0.0.crate", "evil-1.0.0", {"Cargo.toml": DUNCE})
+        path = self.made("evil-1.0.0", {"Cargo.toml": DUNCE})
         with self.assertRaisesRegex(ValueError, "evil-1.0.0.*dunce-0.1.0"):
             cargo_toml.from_crate(path).index()
 
     def test_crate_without_a_manifest(self) -> None:
         with self.assertRaises(ValueError):
-            cargo_toml.from_crate(self.made("a-1.crate", "a-1", {"src/lib.rs": ""}))
+            cargo_toml.from_crate(self.made("a-1", {"src/lib.rs": ""}))
 
     def test_command_line(self) -> None:
-        path = self.made("dunce-0.1.0.crate", "dunce-0.1.0", {"Cargo.toml": DUNCE})
+        path = self.made("dunce-0.1.0", {"Cargo.toml": DUNCE})
         words = [sys.executable, "-m", "cargo_toml_proved"]
         done = subprocess.run([*words, "features", path], capture_output=True, check=True)
         self.assertIn(b'"fast"', done.stdout)
         done = subprocess.run([*words, "index", path, "/none"], capture_output=True, check=False)
         self.assertEqual(done.returncode, 1)
         self.assertIn(b"/none", done.stderr)
-
-
-if __name__ == "__main__":
-    unittest.main()

@@ -75,11 +75,8 @@ impl Feature {
             if enabled.features.insert(&feature.key, feature).is_some() {
                 continue;
             }
-            for (key, action) in feature
-                .enables_deps
-                .iter()
-                .filter(|it| !it.1.is_conditional)
-            {
+            let actions = feature.enables_deps.iter();
+            for (key, action) in actions.filter(|it| !it.1.is_conditional) {
                 let actions = enabled.dependencies.entry(key.as_str()).or_default();
                 actions.push((&feature.key, action));
             }
@@ -101,39 +98,30 @@ pub struct Enabled<'a> {
 }
 
 /// The features of a manifest.
-#[derive(Debug, Clone, PartialEq, Eq)]
+#[derive(Debug, Clone, PartialEq, Eq, Deserialize)]
 #[non_exhaustive]
 pub struct Features {
     /// Those that are left, by their names.
     pub features: BTreeMap<String, Feature>,
     /// Those that were removed, each with the features that stand for it.
+    #[serde(rename = "hidden")]
     pub hidden_features: BTreeMap<String, BTreeSet<String>>,
     /// Whether there are such.
+    #[serde(skip)]
     pub removed_hidden_features: bool,
     /// Whether the manifest has more than the limit, so that some of it doesn't count.
+    #[serde(rename = "cut")]
     pub is_cut: bool,
 }
 
-/// As the library answers.
-#[derive(Deserialize)]
-pub(crate) struct Answer {
-    cut: bool,
-    features: BTreeMap<String, Feature>,
-    hidden: BTreeMap<String, BTreeSet<String>>,
-}
-
-impl From<Answer> for Features {
-    fn from(answer: Answer) -> Features {
-        let mut features = answer.features;
-        for (name, feature) in &mut features {
+impl Features {
+    /// The same, with what the answer doesn't tell twice.
+    pub(crate) fn with_names(mut self) -> Features {
+        for (name, feature) in &mut self.features {
             feature.key.clone_from(name);
         }
-        Features {
-            features,
-            removed_hidden_features: !answer.hidden.is_empty(),
-            hidden_features: answer.hidden,
-            is_cut: answer.cut,
-        }
+        self.removed_hidden_features = !self.hidden_features.is_empty();
+        self
     }
 }
 

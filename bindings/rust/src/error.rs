@@ -21,14 +21,9 @@ pub struct Fault {
 /// The place, the key and the words.
 impl fmt::Display for Fault {
     fn fmt(&self, f: &mut fmt::Formatter<'_>) -> fmt::Result {
-        let Fault {
-            line,
-            column,
-            key,
-            words,
-        } = self;
-        let colon = if key.is_empty() { "" } else { ": " };
-        write!(f, "{line}:{column}: {key}{colon}{words}")
+        let colon = if self.key.is_empty() { "" } else { ": " };
+        let (key, words) = (&self.key, &self.words);
+        write!(f, "{}:{}: {key}{colon}{words}", self.line, self.column)
     }
 }
 
@@ -65,16 +60,12 @@ impl Error {
 impl fmt::Display for Error {
     fn fmt(&self, f: &mut fmt::Formatter<'_>) -> fmt::Result {
         match self {
-            Error::Refused { words, faults } if faults.is_empty() => f.write_str(words),
-            Error::Refused { faults, .. } => {
-                for (count, fault) in faults.iter().enumerate() {
-                    let line = if count == 0 { "" } else { "\n" };
-                    write!(f, "{line}{fault}")?;
-                }
-                Ok(())
+            Error::Refused { faults, .. } if !faults.is_empty() => {
+                let lines: Vec<String> = faults.iter().map(Fault::to_string).collect();
+                f.write_str(&lines.join("\n"))
             }
             Error::OutOfMemory => f.write_str("out of memory"),
-            Error::BadArgument(words) => f.write_str(words),
+            Error::Refused { words, .. } | Error::BadArgument(words) => f.write_str(words),
             Error::Shape(fault) => write!(f, "the answer doesn't fit: {fault}"),
         }
     }

@@ -1,12 +1,11 @@
 //! What the original crate's own tests ask of reading, completing and resolving, asked of the
 //! library: a manifest of every kind of feature, a virtual manifest, and what is inherited.
 
-use cargo_toml_proved::{check, complete, read, Error, Feature, Resolver, Workspace};
+use cargo_toml_proved::{check, complete, read, Error, Feature, Features, Resolver, Workspace};
 use serde_json::Value;
 use std::collections::BTreeMap;
 
-const KINDS: &str = r#"
-[package]
+const KINDS: &str = r#"[package]
 name = "foo"
 
 [[bin]]
@@ -36,28 +35,35 @@ __hidden2 = ["dep:depend", "depend/with_x", "depend?/with_y", "__hidden0"]
 __hidden0 = ["a"]
 enables_hidden = ["__hidden0"]
 __feature_for_hidden = ["feature_for_hidden"]
-
 loop1 = ["loop2"]
 loop2 = ["loop3", "a_dep?/maybe", "a_dep?/maybe_too", "depend/with_loop"]
 loop3 = ["loop1", "implied_referenced/from_loop_3"]
 "#;
 
+fn resolved(resolver: &Resolver) -> Features {
+    resolver.parse(KINDS).expect("a manifest")
+}
+
 fn features() -> BTreeMap<String, Feature> {
-    let found = Resolver::new().parse(KINDS).expect("a manifest");
+    let found = resolved(&Resolver::new());
     assert!(found.removed_hidden_features);
     found.features
 }
 
-fn names<'a>(of: impl IntoIterator<Item = &'a String>) -> Vec<&'a str> {
-    of.into_iter().map(String::as_str).collect()
+/// What a feature turns on: the keys of dependencies, and features; and what turns it on.
+fn around(feature: &Feature) -> [Vec<&str>; 3] {
+    let [names, users] =
+        [&feature.enables_features, &feature.enabled_by].map(|it| it.iter().map(|name| &**name));
+    let keys = feature.enables_deps.keys().map(|key| &**key);
+    [keys.collect(), names.collect(), users.collect()]
 }
 
 #[test]
 fn no_hidden_name_is_left() {
     for (name, feature) in features() {
-        let enabled = feature.enables_features.iter().chain(&feature.enabled_by);
-        let all = enabled.chain(feature.enables_deps.keys()).chain([&name]);
-        assert!(all.into_iter().all(|it| !it.starts_with('_')), "{name}");
+        let all = around(&feature).concat();
+        let is_hidden = |it: &&str| it.starts_with('_');
+        assert!(!all.iter().chain([&&*name]).any(is_hidden), "{name}");
     }
 }
 
@@ -77,38 +83,26 @@ fn features_are_those_that_are_listed_or_implied() {
 #[test]
 fn what_hidden_features_enable_is_handed_on() {
     let found = features();
-    assert_eq!(
-        names(found["x"].enables_deps.keys()),
-        ["depend", "not_optional"]
-    );
-    assert_eq!(names(&found["x"].enables_features), ["a", "c"]);
-    assert_eq!(
-        names(&found["a"].enabled_by),
-        ["b", "c", "enables_hidden", "x"]
-    );
-    assert!(found["a"].enables_deps.is_empty());
-    assert!(found["a"].enables_features.is_empty());
+    let [dependencies, names, _] = around(&found["x"]);
+    assert_eq!(dependencies, ["depend", "not_optional"]);
+    assert_eq!(names, ["a", "c"]);
+    let users = vec!["b", "c", "enables_hidden", "x"];
+    assert_eq!(around(&found["a"]), [vec![], vec![], users]);
 }
 
 #[test]
 fn features_in_a_ring_keep_their_order() {
     let found = features();
-    let ring = [("loop1", "loop2"), ("loop2", "loop3"), ("loop3", "loop1")];
-    for (one, next) in ring {
-        assert_eq!(names(&found[one].enables_features), [next]);
-        assert_eq!(names(&found[next].enabled_by), [one]);
+    let ring = [
+        ("loop1", vec![], "loop2", "loop3"),
+        ("loop2", vec!["a_dep", "depend"], "loop3", "loop1"),
+        ("loop3", vec!["implied_referenced"], "loop1", "loop2"),
+    ];
+    for (name, keys, next, last) in ring {
+        assert_eq!(around(&found[name]), [keys, vec![next], vec![last]]);
     }
-    assert!(found["loop1"].enables_deps.is_empty());
-    assert_eq!(
-        names(found["loop2"].enables_deps.keys()),
-        ["a_dep", "depend"]
-    );
-    assert!(found["loop2"].enables_deps["a_dep"].is_conditional);
-    assert!(!found["loop2"].enables_deps["depend"].is_conditional);
-    assert_eq!(
-        names(found["loop3"].enables_deps.keys()),
-        ["implied_referenced"]
-    );
+    let actions = &found["loop2"].enables_deps;
+    assert!(actions["a_dep"].is_conditional && !actions["depend"].is_conditional);
 }
 
 #[test]
@@ -118,8 +112,9 @@ fn a_ring_is_followed_once() {
     for name in ["loop1", "loop2", "loop3"] {
         assert_eq!(enabled.features[name].key, name);
     }
-    assert_eq!(enabled.dependencies["implied_referenced"][0].0, "loop3");
-    assert_eq!(enabled.dependencies["depend"][0].0, "loop2");
+    for (key, feature) in [("implied_referenced", "loop3"), ("depend", "loop2")] {
+        assert_eq!(enabled.dependencies[key][0].0, feature);
+    }
     assert!(!enabled.dependencies.contains_key("a_dep"));
 }
 
@@ -133,28 +128,17 @@ fn a_virtual_manifest_has_no_package() {
 
 #[test]
 fn a_filter_keeps_hidden_features() {
-    let resolver = Resolver::new().keep(|name| name == "__hidden2");
-    let found = resolver.parse(KINDS).expect("a manifest");
-    assert_eq!(
-        names(&found.features["x"].enables_features),
-        ["__hidden2", "c"]
-    );
+    let found = resolved(&Resolver::new().keep(|name| name == "__hidden2"));
+    assert_eq!(around(&found.features["x"])[1], ["__hidden2", "c"]);
     assert_eq!(found.features["__hidden2"].required_by_bins, ["thebin"]);
     assert!(!found.hidden_features.contains_key("__hidden2"));
 }
 
 #[test]
 fn a_limit_counts_features() {
-    let found = Resolver::new()
-        .max_items(1)
-        .parse(KINDS)
-        .expect("a manifest");
-    assert!(found.is_cut);
-    let fault = Resolver::new()
-        .max_items(0)
-        .parse(KINDS)
-        .expect_err("no limit");
-    assert!(matches!(fault, Error::BadArgument(_)), "{fault}");
+    assert!(resolved(&Resolver::new().max_items(1)).is_cut);
+    let fault = Resolver::new().max_items(0).parse(KINDS);
+    assert!(matches!(fault, Err(Error::BadArgument(_))), "{fault:?}");
 }
 
 #[test]
@@ -162,10 +146,8 @@ fn what_is_inherited_comes_from_the_workspace() {
     let text = "[package]\nname = 'a'\nversion.workspace = true\n\
         [dependencies]\nlog = { workspace = true, optional = true }\n";
     let root = b"[workspace.package]\nversion = '1.2.3'\n[workspace.dependencies]\nlog = '0.4'\n";
-    let workspace = Workspace {
-        path: "/w/Cargo.toml",
-        text: root,
-    };
+    let path = "/w/Cargo.toml";
+    let workspace = Workspace { path, text: root };
     let paths = ["Cargo.toml", "src/lib.rs", "src/bin/tool.rs"];
     let manifest: Value = complete(text, paths, Some(workspace)).expect("a manifest");
     assert_eq!(manifest["package"]["version"], "1.2.3");
@@ -178,10 +160,10 @@ fn what_is_inherited_comes_from_the_workspace() {
 #[test]
 fn a_fault_has_its_place_and_key() {
     let text = "[package]\nname = 'a'\nedition = 2021\n";
-    let fault = read::<Value>(text).expect_err("no manifest");
-    let faults = fault.faults();
-    assert_eq!(faults.len(), 1);
-    assert_eq!((faults[0].line, faults[0].column), (3, 1));
-    assert_eq!(faults[0].key, "package.edition");
-    assert_eq!(check(text).expect("faults"), faults);
+    let refusal = read::<Value>(text).expect_err("no manifest");
+    assert_eq!(refusal.faults().len(), 1);
+    let fault = &refusal.faults()[0];
+    assert_eq!((fault.line, fault.column), (3, 1));
+    assert_eq!(fault.key, "package.edition");
+    assert_eq!(check(text).expect("faults"), refusal.faults());
 }

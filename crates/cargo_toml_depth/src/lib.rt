@@ -13,7 +13,7 @@ ghost use Rattle.cargo_toml_depth.specs.Nesting as spec;
 
 use place::Place;
 use std::alloc::{AllocError, Global};
-use tokens::{after_mark, after_string, header_of, is_beyond};
+use tokens::{after_mark, after_string, header_of, is_beyond, past_plain};
 use toml_parser::starts_string;
 use toml_parser::text::{first, skip, skip_blank};
 
@@ -32,18 +32,24 @@ pub fn is_too_deep(alloc: Global, text: &str) -> Result<bool, AllocError>
 {
     let mut place = Place::new(alloc);
     let mut rest = after_mark(text);
-    'tokens: for _token in 0..text.len() {
-        let byte = first(rest);
-        if starts_string(rest) {
-            let Some(after) = after_string(alloc, rest)? else {
+    let mut left = text.len();
+    'tokens: loop {
+        let (count, token) = past_plain(rest);
+        if left <= count {
+            return Ok(false);
+        }
+        left = left - count - 1;
+        let byte = first(token);
+        if starts_string(token) {
+            let Some(after) = after_string(alloc, token)? else {
                 return Ok(false);
             };
             rest = after;
         } else if byte == b'#' {
             place.end_line();
-            rest = skip_blank(rest, true);
+            rest = skip_blank(token, true);
         } else if place.is_at_header(byte) {
-            let Some((header, after)) = header_of(alloc, rest)? else {
+            let Some((header, after)) = header_of(alloc, token)? else {
                 return Ok(false);
             };
             if !place.enter(header) {
@@ -53,10 +59,9 @@ pub fn is_too_deep(alloc: Global, text: &str) -> Result<bool, AllocError>
         } else if is_beyond(byte) {
             return Ok(false);
         } else if place.pass(byte)? {
-            rest = skip(rest, 1);
+            rest = skip(token, 1);
         } else {
             return Ok(true);
         }
     }
-    Ok(false)
 }

@@ -1,8 +1,8 @@
 """Reads a `Cargo.toml`, completes it and resolves its features, by a proved library.
 
-Each call is a function of what it is given: it reads no file, and keeps nothing. Texts are `str`,
-or `bytes` in UTF-8. A manifest that is refused raises `ManifestError`, whose `faults` are a list.
-Calls of several threads don't wait for each other.
+Each call is a function of what it is given: it reads no file, and keeps nothing but the room of its
+answer. Texts are `str`, or `bytes` in UTF-8. A manifest that is refused raises `ManifestError`,
+whose `faults` are a list. Calls of several threads don't wait for each other.
 """
 
 from __future__ import annotations
@@ -10,42 +10,18 @@ from __future__ import annotations
 import json
 from typing import Any, Iterable, List, Optional, Tuple
 
-from ._library import ManifestError, Text, answer, text_of
-from .archive import Crate, from_crate
+from ._library import ManifestError as ManifestError, Text as Text, answer
+from .archive import Crate as Crate, from_crate as from_crate
 from .types import (
-    DepAction,
-    DocumentedFeature,
-    Fault,
-    Feature,
-    Features,
-    Finding,
-    IndexEntry,
-    Manifest,
+    DepAction as DepAction,
+    DocumentedFeature as DocumentedFeature,
+    Fault as Fault,
+    Feature as Feature,
+    Features as Features,
+    Finding as Finding,
+    IndexEntry as IndexEntry,
+    Manifest as Manifest,
 )
-
-__all__ = [
-    "Crate",
-    "DepAction",
-    "DocumentedFeature",
-    "Fault",
-    "Feature",
-    "Features",
-    "Finding",
-    "IndexEntry",
-    "MAX_ITEMS",
-    "Manifest",
-    "ManifestError",
-    "Text",
-    "check",
-    "complete",
-    "document",
-    "features",
-    "from_crate",
-    "index",
-    "lint",
-    "read",
-    "version",
-]
 
 #: How many features, texts of one, and keys of a table of dependencies count, unless another limit
 #: is given.
@@ -54,12 +30,12 @@ MAX_ITEMS = 2048
 
 def version() -> str:
     """The version of the library."""
-    return answer("version", [], [], False)
+    return answer("version")
 
 
 def read(text: Text) -> Manifest:
     """The manifest that a text is. Nothing is inherited, and no target is added."""
-    return _value("manifest", [text_of(text)])
+    return _value("manifest", text)
 
 
 def complete(
@@ -71,10 +47,9 @@ def complete(
     `workspace` is the path of the workspace's `Cargo.toml`, and its text. A manifest that inherits
     something needs it, unless it has a workspace of its own.
     """
-    listed = "".join(f"{path}\0" for path in paths).encode()
+    listed = "".join(f"{path}\0" for path in paths)
     path, root = workspace if workspace is not None else ("", "")
-    texts = [text_of(text), listed, text_of(root), path.encode()]
-    return _value("complete", texts)
+    return _value("complete", text, listed, root, path)
 
 
 def features(text: Text, *, keep: Iterable[str] = (), max_items: int = MAX_ITEMS) -> Features:
@@ -83,18 +58,17 @@ def features(text: Text, *, keep: Iterable[str] = (), max_items: int = MAX_ITEMS
     Hidden are names that begin with `_`, except those in `keep`. `max_items` is the limit of
     features, texts of one, and keys of a table of dependencies; what is beyond it doesn't count.
     """
-    kept = "\n".join(keep).encode()
-    return _value("features", [text_of(text), kept], [max_items], keyed=True)
+    return _value("features", text, "\n".join(keep), max_items)
 
 
 def check(text: Text) -> List[Fault]:
     """What keeps a text from being read as a manifest, in the order of the places."""
-    return _value("check", [text_of(text)])["faults"]
+    return _value("check", text)["faults"]
 
 
 def lint(text: Text) -> List[Finding]:
     """What is amiss with the features of a manifest."""
-    return _value("lint", [text_of(text)], keyed=True)["findings"]
+    return _value("lint", text)["findings"]
 
 
 def index(text: Text, checksum: Optional[str] = None) -> IndexEntry:
@@ -103,13 +77,13 @@ def index(text: Text, checksum: Optional[str] = None) -> IndexEntry:
     `checksum` is the archive's SHA-256, 64 hex digits in lower case. Without it the line has no
     `cksum`, and Cargo doesn't take it.
     """
-    return _value("index", [text_of(text), (checksum or "").encode()], keyed=True)
+    return _value("index", text, checksum or "")
 
 
 def document(text: Text) -> List[DocumentedFeature]:
     """The features that users may ask for, with all that each leads to, in byte order."""
-    return _value("document", [text_of(text)], keyed=True)["features"]
+    return _value("document", text)["features"]
 
 
-def _value(name: str, texts: List[bytes], numbers: List[int] = [], keyed: bool = False) -> Any:
-    return json.loads(answer(name, texts, numbers, keyed))
+def _value(name: str, *arguments: Any) -> Any:
+    return json.loads(answer(name, *arguments))

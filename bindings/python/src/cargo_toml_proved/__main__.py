@@ -5,18 +5,12 @@ from __future__ import annotations
 import argparse
 import json
 import sys
-from typing import Any, Callable, Dict, List, Optional
+from typing import Any, Callable, List, Optional
 
 from . import ManifestError, check, document, features, from_crate, index, lint, read, version
 
-COMMANDS: Dict[str, Callable[[bytes], Any]] = {
-    "read": read,
-    "features": features,
-    "check": check,
-    "lint": lint,
-    "index": index,
-    "document": document,
-}
+CALLS: List[Callable[[bytes], Any]] = [read, features, check, lint, index, document]
+COMMANDS = {call.__name__: call for call in CALLS}
 
 
 def _done(command: str, name: str) -> bool:
@@ -28,23 +22,20 @@ def _done(command: str, name: str) -> bool:
         else:
             with sys.stdin.buffer if name == "-" else open(name, "rb") as file:
                 value = COMMANDS[command](file.read())
-    except ManifestError as fault:
-        for it in fault.faults:
+    except (OSError, ValueError) as fault:
+        faults = fault.faults if isinstance(fault, ManifestError) else []
+        for it in faults:
             key = f"{it['key']}: " if it["key"] else ""
             print(f"{name}:{it['line']}:{it['column']}: {key}{it['words']}", file=sys.stderr)
-        if not fault.faults:
+        if not faults:
             print(f"error: {name}: {fault}", file=sys.stderr)
-        return False
-    except (OSError, ValueError) as fault:
-        print(f"error: {name}: {fault}", file=sys.stderr)
         return False
     print(json.dumps(value, separators=(",", ":"), ensure_ascii=False))
     return True
 
 
 def main(words: Optional[List[str]] = None) -> int:
-    """Runs the command line. The status is 1 where a file is refused, 2 where the words are no
-    command."""
+    """The status of a command: 1 where a file is refused, 2 where the words are none."""
     parser = argparse.ArgumentParser(
         prog="python -m cargo_toml_proved",
         description="Prints a line of JSON for each FILE, a Cargo.toml or a .crate.",

@@ -11,13 +11,11 @@ pub use Rattle.cargo_toml_graph.proofs.JoinLaws.{join_option_assoc, join_option_
 pub use Rattle.cargo_toml_graph.proofs.Joins.{join_alike, join_halves, join_one}
 pub use Rattle.cargo_toml_graph.proofs.Members.{label_within, reaches_within, resolved_alike}
 pub use Rattle.cargo_toml_graph.proofs.SortedTexts.{first_below, none_ascend, others_ascend, texts_ascend}
-pub use Rattle.cargo_toml_graph.proofs.Split.{joined, label_split, split, widen}
 pub use Rattle.cargo_toml_graph.specs.Action.{Action, IsJoin, Text, join_option}
 pub use Rattle.cargo_toml_graph.specs.Graph.{Edge, IsEnabledBy, IsKept, IsPlain, IsResolved, IsUnremoved, KeepsName, ReachesThrough, Resolution, Says, Table}
 pub use Rattle.cargo_toml_graph.specs.Kept.{KeepsEnabling, LosesNothing, NoneIsLeft}
-pub use Rattle.cargo_toml_graph.specs.Reach.{Among, Gathers, GathersLabel, Reaches, With}
+pub use Rattle.cargo_toml_graph.specs.Reach.{Among, Gathers, GathersLabel, Reaches}
 pub use Rattle.cargo_toml_graph.specs.Removal.{SameKept, is_removed, lists_text, pass_all, put_each, unremoved, without_all}
-pub use Rattle.cargo_toml_resolve.specs.Bits.{AreWide, HasBit, Holds, words_of}
 pub use Rattle.cargo_toml_resolve.specs.Enabling.{AreSameButEnablers, EnablesThrough, GainEnabler, Leader, LeaderBelow, LeadsTo, LearnBy, LearnEach}
 pub use Rattle.cargo_toml_resolve.specs.Filter.{Answers, Asked, FilterTells, HasNameFilter, IsFlagOf, IsHiddenName}
 pub use Rattle.cargo_toml_resolve.specs.Holding.{AllTakeOver, ComesToHold, DoesAt, HasTextsOf, HaveOwnSets, IsTextOf, TakesOver}
@@ -30,11 +28,10 @@ pub use Rattle.cargo_toml_resolve.specs.Passing.{AreKnown, AreSameButBins, Knows
 pub use Rattle.cargo_toml_resolve.specs.Placed.{AreHashed, ArePlaced, HasThose, Shows}
 pub use Rattle.cargo_toml_resolve.specs.Removed.{AgreesWithAll, IsAnswerBy, IsRemovedBy}
 pub use Rattle.std.proofs.Common.{Bool, Bor, Err, Global, IfOk, IfSome, IsFalse, IsSome, IsTrue, List, None, Ok, OnOk, Option, Result, Some, Vec, [], ap, arith, below_more, bytes_eq, codes, cond, drop, eq-eqb, eqb-true, false, get_or, hash_map_len, if◌then◌else◌, inl, inr, is_some, length, length-append, length-set, map}
-pub use Rattle.std.proofs.Common.{max, nat_eq, not, option_map, refl, replicate, rules, set, slice_get, subst, suc, sym, take, take_all, tests, true, unwrap_or, w64, zero, ℕ, ◌%◌, ◌&&◌, ◌*◌, ◌++◌, ◌+◌, ◌/◌, ◌<◌, ◌^◌, ◌||◌, ◌↔◌, ◌∙◌, ◌∷◌, ◌≡◌, ◌≢◌, ◌≤◌, ◌⊎◌}
+pub use Rattle.std.proofs.Common.{nat_eq, not, option_map, refl, replicate, rules, set, slice_get, subst, suc, sym, take, take_all, tests, true, unwrap_or, zero, ℕ, ◌&&◌, ◌++◌, ◌+◌, ◌<◌, ◌||◌, ◌↔◌, ◌∙◌, ◌∷◌, ◌≡◌, ◌≢◌, ◌≤◌, ◌⊎◌}
 pub use Rattle.std.proofs.Math.Seq.{drop-cons, get_or-append_seam, map-set_same}
 pub use Rattle.std.proofs.lemmas.Bool.{and_from, and_parts, cases_Bool, cases_eq, cases_lt, false_from_ne_true, false≢true, or_cases, or_left, or_right}
-pub use Rattle.std.proofs.lemmas.List.{get_or-replicate, get_or-set_other, get_or-set_same, get_or-take, get_or_append_left, get_or_past, length-drop, length-map, length-replicate, length-take-le, map-set, map_more, map_push, nil_from_length, take-append-le, take-map, take-take, take_at, take_more, with_items_is}
-pub use Rattle.std.proofs.lemmas.Nat.Bits.{bit_at-lt, bit_at-zero, bit_at_or, bit_at_set_other, bit_at_set_same}
+pub use Rattle.std.proofs.lemmas.List.{get_or-replicate, get_or-set_other, get_or-set_same, get_or-take, get_or_append_left, get_or_past, length-drop, length-map, length-replicate, length-take-le, map-set, map_more, map_push, nil_from_length, take-append-le, take-map, take-take, take_at, take_more}
 pub use Rattle.std.proofs.lemmas.Option.{get_or_from_slice_get, same_Some, slice_get-get_or, slice_get-map, slice_get_cases, slice_get_past, slice_get_read, slice_get_within}
 pub use Rattle.std.specs.BTreeMap.{BTreeMap, btree_map_len, is_at}
 pub use Rattle.std.specs.Cmp.Lexicographic.{on_texts, on_texts_equal, slice_cmp}
@@ -45,8 +42,8 @@ pub use Rattle.cargo_toml_features.{specs.declared.features.DepAction.DepAction,
 pub use Rattle.cargo_toml_graph.{proofs.Closure.chained, proofs.Edges.unremoved_is, proofs.Elimination.all_taken_out, proofs.OneRemoval.target, proofs.PassedBins.grown_weaker, proofs.PassedBins.passed_alike, proofs.RedirectsInOrder.below_one_way, proofs.Texts.by_true, proofs.Texts.bytes_eq_sym, proofs.Unremoved.resolved_unremoved}
 pub use Rattle.cargo_toml_graph.{specs.Admitted.Listed, specs.Admitted.is_below, specs.Ascending.Ascend, specs.Bins.ArePassedOn, specs.Reach.Reaches.edge, specs.Reach.Reaches.through, specs.Redirects.RedirectsTo}
 pub use Rattle.cargo_toml_package.{specs.Details.plain_detail}
-pub use Rattle.cargo_toml_resolve.{specs.Dense.AreRedirects, specs.Dense.IsTable, specs.Texts.texts_now, specs.declared.graph.Graph.Graph, specs.declared.graph.Walked.Walked}
+pub use Rattle.cargo_toml_resolve.{specs.Texts.texts_now, specs.declared.graph.Graph.Graph, specs.declared.graph.Walked.Walked}
 pub use Rattle.std.{proofs.Math.Bool.or-false, proofs.Math.ListN.get_or-map, proofs.lemmas.Bool.Decides.nat_tests, proofs.lemmas.Grind.common_steps, proofs.lemmas.Iterator.YieldsList-from_slice, proofs.lemmas.Iterator.YieldsList-from_zip, proofs.lemmas.Iterator.Search.any_from_yields_List}
 pub use Rattle.std.{proofs.lemmas.List.Folds.list_any-append, proofs.lemmas.List.Sums.sum_by-set, proofs.lemmas.Map.Iter.btree_map_turn, proofs.lemmas.Map.Iter.iter_end, proofs.lemmas.Map.Made.is_some-lookup, proofs.lemmas.Map.Text.is_eq-slice_cmp, proofs.lemmas.Map.Text.text_keys}
-pub use Rattle.std.{proofs.lemmas.Map.Views.All-values_from_lookup, proofs.lemmas.Result.on_ok_weaker, proofs.lemmas.Simd.map-map, proofs.lemmas.Slice.Eq.bytes_eq-Decides, specs.BTreeSet.BTreeSet, specs.BTreeSet.btree_set_len, specs.HashMap.HashMap, specs.Int.bit_at, specs.List.Sorted.IsStrictlySortedBy}
-pub use Rattle.std.{specs.Map.lookup, specs.Map.Iter.deref_pair, specs.Ordering.nat_cmp, specs.Prelude.bit_or, specs.Vec.with_items}
+pub use Rattle.std.{proofs.lemmas.Map.Views.All-values_from_lookup, proofs.lemmas.Result.on_ok_weaker, proofs.lemmas.Simd.map-map, proofs.lemmas.Slice.Eq.bytes_eq-Decides, specs.BTreeSet.BTreeSet, specs.BTreeSet.btree_set_len, specs.HashMap.HashMap, specs.List.Sorted.IsStrictlySortedBy}
+pub use Rattle.std.{specs.Map.lookup, specs.Map.Iter.deref_pair, specs.Ordering.nat_cmp}

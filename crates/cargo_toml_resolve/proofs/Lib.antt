@@ -1,7 +1,6 @@
 pub mod Steps
 mod Spans
 pub mod RowsInOrder
-mod Tabled
 pub mod Sets
 pub mod InOrder
 pub mod NumberRows

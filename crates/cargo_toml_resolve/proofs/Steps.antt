@@ -1,6 +1,6 @@
 -- Steps of a walk over numbers, by marks, and the walk.
-use Rattle.cargo_toml_resolve.proofs.Cited.{Among, AreMarked, Bool, FindsNamed, Gathers, GathersLabel, HasLabel, IsPassed, IsWanted, Leads, List, Reaches, Vec, [], among-either, among-first, among-second, ap, arith, cases_eq, cases_lt, chained, edge, false, get_or, get_or-set_other, get_or-set_same, get_or_from_slice_get, get_or_past, inl, inr, length, length-append}
-use Rattle.cargo_toml_resolve.proofs.Cited.{length-set, map, map-set, nat_eq, nat_tests, option_map_or, refl, replicate, set, slice_get_read, subst, suc, sum_by-set, sym, take, take-append-le, take_more, through, true, words_of, zero, ℕ, ◌++◌, ◌+◌, ◌<◌, ◌↔◌, ◌∙◌, ◌∷◌, ◌≡◌, ◌≢◌, ◌≤◌, ◌⊎◌}
+use Rattle.cargo_toml_resolve.proofs.Cited.{Among, AreMarked, Bool, FindsNamed, Gathers, GathersLabel, HasLabel, IsPassed, IsWanted, Leads, List, Reaches, [], among-either, among-first, among-second, ap, arith, cases_eq, cases_lt, chained, edge, false, get_or, get_or-set_other, get_or-set_same, get_or_from_slice_get, get_or_past, inl, inr, length, length-append}
+use Rattle.cargo_toml_resolve.proofs.Cited.{length-set, map, map-set, nat_eq, nat_tests, refl, replicate, set, slice_get_read, subst, suc, sum_by-set, sym, take, take-append-le, take_more, through, true, zero, ℕ, ◌++◌, ◌+◌, ◌<◌, ◌↔◌, ◌∙◌, ◌∷◌, ◌≡◌, ◌≢◌, ◌≤◌, ◌⊎◌}
 use Rattle.std.proofs.lemmas.List.{take_all}
 use Rattle.cargo_toml_features.proofs.ByPlace as places
 
@@ -20,19 +20,12 @@ among_at xs i lt = places.among_at xs i 0 lt
 pub read_at : {X : Type 0} (xs : List X) (i : ℕ) (d x : X) → i < length xs → x ≡ get_or xs i x → get_or xs i d ≡ x
 read_at xs i d x lt e = get_or_from_slice_get xs i x d (slice_get_read xs (length xs) i x refl lt e)
 
-pub list_read : {Z : Type 0} (edges : List (Vec ℕ Z)) (i : ℕ) (v : Vec ℕ Z) → i < length edges → v ≡ get_or edges i v → words_of edges i ≡ v.items
-list_read edges i v lt e = ap (λ o. option_map_or (λ w. w.items) o []) (slice_get_read edges (length edges) i v refl lt e)
-
 -- an element of a list, and its place
 pub item_is : (xs : List ℕ) (i x : ℕ) → i < length xs → x ≡ get_or xs i x → x ≡ get_or xs i 0
 item_is xs i x lt is = sym (read_at xs i 0 x lt is)
 
 pub item_at : (xs : List ℕ) (i x p : ℕ) → i < length xs → x ≡ get_or xs i x → p ≡ x → p ≡ get_or xs i 0
 item_at xs i x p lt is at = at ∙ item_is xs i x lt is
-
--- a row of a table that is read at the place of a node
-pub row_read : {Z : Type 0} (rows : List (Vec ℕ Z)) (i p : ℕ) (v : Vec ℕ Z) → i < length rows → p ≡ i → v ≡ get_or rows p v → words_of rows i ≡ v.items
-row_read rows i p v lt at is = list_read rows i v lt (subst (λ n. v ≡ get_or rows n v) at is)
 
 -- a row past the end is empty
 pub has_row : (rows : List (List ℕ)) (a b : ℕ) → Leads rows a b → a < length rows

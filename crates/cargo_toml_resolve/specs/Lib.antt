@@ -4,8 +4,6 @@ pub mod Removed
 -- the code's own steps, in contracts of functions that `cargo_toml` doesn't hand on: nothing here
 -- has to be believed
 pub mod Numbers
-pub mod Bits
-pub mod Dense
 pub mod Spans
 pub mod Holding
 pub mod KeptFeatures

@@ -4,11 +4,8 @@
 //! [`resolve`] is the whole of it. Callers use it by `cargo_toml::features::Resolver`.
 #![tactic(auto)]
 
-mod bits;
-mod dense;
 mod enabling;
 pub mod filter;
-mod finder;
 mod flags;
 mod graph;
 mod hashing;
@@ -24,7 +21,6 @@ mod removal;
 mod resolution;
 mod rows;
 mod span;
-mod tables;
 mod taking_over;
 mod walk;
 

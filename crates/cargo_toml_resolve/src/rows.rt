@@ -54,12 +54,6 @@ impl Rows {
         self.spans.len()
     }
 
-    /// How many nodes the rows have, where none was replaced. It decides speed alone, so no clause
-    /// says it.
-    pub fn total(&self) -> usize {
-        self.nodes.len()
-    }
-
     /// The row of a vertex.
     pub fn row(&self, at: Node) -> &[Node]
         requires { at < length self.now }

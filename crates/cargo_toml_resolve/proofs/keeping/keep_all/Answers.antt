@@ -16,18 +16,18 @@ loop-own-preserved c =
     elim c.if-not-index.branch [
       | then-not-index+in_ok-keep w ↦
           let kept : IsWanted fs false own = search rules in
-          rw (w.features-is, w.finder-is) (record {
+          rw (w.features-is, w.walk-is) (record {
             taken = one_more_takes_over g.edges g.names fs ts own vs c.loop-own.features.items old.taken kept w.keep.new.features.items (rw w.at.ensures at w.in_ok-keep.ensures.kept);
-            finds = w.in_ok-keep.ensures.finder;
+            room = w.in_ok-keep.ensures.room ∙ old.room;
           })
       | else-not-index w ↦
           let on : c.index.result.now ≡ true = grind arith in
           let below : own < length fs =
           let l = c.loop-own-test.true in let e = c.len-own-end.ensures in let m = g.features_count in let n = g.flags_count in omega (arith, l, e, m, n) in
           let gone : IsWanted fs true own = read_at fs own false c.index.result.now below c.index.ensures ∙ on in
-          rw (w.features-is, w.finder-is) (record {
+          rw (w.features-is, w.walk-is) (record {
             taken = skipped g.edges g.names fs ts own vs c.loop-own.features.items old.taken gone;
-            finds = old.finds;
+            room = old.room;
           })
     ]
 

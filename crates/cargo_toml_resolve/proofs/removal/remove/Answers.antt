@@ -1,5 +1,5 @@
 -- What features hold in their places once walks have been made and binaries are passed on.
-use Rattle.cargo_toml_resolve.proofs.Cited.{AllTakeOver, Among, ArePassedAt, AreRedirects, AreSameButBins, Ascend, Bool, Feature, FindsRedirects, HasNumber, HaveNoEnablers, IsKeptFeature, IsTrue, IsWanted, KeepsName, Leads, List, RedirectsTo, Said, Some, StandFor, Table, Text, [], all_taken_out, among-either, among-first, among-second, ap, arith, ascending_last, ascending_once, below_one_way, bins_of, but_bins, by_true, cases_eq, common_steps, cond, deeds_of, false}
+use Rattle.cargo_toml_resolve.proofs.Cited.{AllTakeOver, Among, ArePassedAt, AreSameButBins, Ascend, Bool, Feature, FindsRedirects, HasNumber, HaveNoEnablers, IsKeptFeature, IsRedirect, IsTrue, IsWanted, KeepsName, Leads, List, RedirectsTo, Said, Some, StandFor, Table, Text, [], all_taken_out, among-either, among-first, among-second, ap, arith, ascending_last, ascending_once, below_one_way, bins_of, but_bins, by_true, cases_eq, common_steps, cond, deeds_of, false}
 use Rattle.cargo_toml_resolve.proofs.Cited.{feature_at, inr, is_below, label_within, last_passes, length, list_any, map, nat_eq, none_ascend, nth_text, option_map, option_map_or, own_bins, pass_all, passed_below, refl, row_items, rules, set_has, slice_get, slice_get_within, slice_index_or, subst, suc, sym, texts_now, true, unremoved, unremoved_is, without_all, zero, ℕ, ◌++◌, ◌<◌, ◌↔◌, ◌∙◌, ◌∷◌, ◌≡◌, ◌≤◌}
 use Rattle.cargo_toml_resolve.proofs.InPlace.{found_at, no_enabler, alike_at, alike_len, alike_place, stood, alike_too}
 use Rattle.cargo_toml_resolve.proofs.{BinTurns.stands_true, BinTurns.true_stands, Answered.is_kept_feature}
@@ -108,7 +108,11 @@ module _ (t : Table) (removed : Text → Bool) (old : List Feature) (texts : Lis
   abbrev R : Text → Type 0
   R v = IsTrue (removed v)
 
-  redirects_there : (rows : List (List ℕ)) → AreRedirects edges names flags rows → (r : ℕ) (x : Text) → r < length edges → IsWanted flags true r →
+  -- what stands for each removed vertex
+  abbrev AreRedirects : List (List ℕ) → Type 0
+  AreRedirects rows = (r x : ℕ) → r < length edges → IsWanted flags true r → Leads rows r x ↔ IsRedirect edges flags names r x
+
+  redirects_there : (rows : List (List ℕ)) → AreRedirects rows → (r : ℕ) (x : Text) → r < length edges → IsWanted flags true r →
       HasNumber texts (length texts) (Leads rows r) x ↔ RedirectsTo t R (λ a b. IsTrue (is_below a b)) (nth_text texts r) x
   redirects_there rows are_redirects r x lt gone =
       let to = numbered.redirects_to t R texts edges names flags stand.numbered r x lt gone in (
@@ -137,22 +141,18 @@ module _ (t : Table) (removed : Text → Bool) (old : List Feature) (texts : Lis
     same_bins i lt = alike_at (λ (v : Feature). v.required_by_bins) old left l.same (λ p. map (λ b. b.now) p.1.items) [] i
         ∙ sym (ap (λ o. option_map_or (λ v. map (λ b. b.now) v.required_by_bins.items) o []) (ap (feature_at old) (stand.vertices i (vertex_place i lt)) ∙ found_at old stand.in_order i (vertex_place i lt)))
 
-    bins_there : (rows : List (List ℕ)) → AreRedirects edges names flags rows →
+    bins_there : (rows : List (List ℕ)) → AreRedirects rows →
         ((y : ℕ) → y < length left → bins_of new y ≡ passed_below rows flags (length left) (bins_of left) y) → ArePassedAt t removed (own_bins old) texts flags new
     bins_there rows are_redirects has = passed_at t removed old texts edges names rows flags stand (redirects_there rows are_redirects) (own_bins old) (bins_of left) same_bins new
         (alike_len but_bins left new s ∙ long) (λ i lt. has i (subst (λ n. i < n) (sym long) lt) ∙ ap (λ n. passed_below rows flags n (bins_of left) i) long)
 
-pub redirects-requires-clause-within : goal.redirects-requires-clause-within
-redirects-requires-clause-within c = grind (arith, common_steps)
+pub find_redirects-requires-clause-within : goal.find_redirects-requires-clause-within
+find_redirects-requires-clause-within c = grind (arith, common_steps)
 
-pub keep_all-requires-clause-finder : goal.keep_all-requires-clause-finder
-keep_all-requires-clause-finder c = record { tables = c.in_ok-tables.ensures; room = search rules }
-
-pub redirects-requires-clause-room : goal.redirects-requires-clause-room
-redirects-requires-clause-room c = c.in_ok-keep_all.ensures.finder.room ∙ sym (ap length c.as_slice-is_removed.ensures.value)
-
-pub redirects-requires-clause-tables : goal.redirects-requires-clause-tables
-redirects-requires-clause-tables c = grind (arith, common_steps)
+pub find_redirects-requires-clause-room : goal.find_redirects-requires-clause-room
+find_redirects-requires-clause-room c =
+    let room : length c.in_ok-walk.walk.met ≡ length c.args.graph.flags.items = search rules in
+    c.in_ok-keep_all.ensures.room ∙ room ∙ sym (ap length c.as_slice-is_removed.ensures.value)
 
 pub returns : goal.returns
 returns c =
@@ -164,13 +164,13 @@ returns c =
     let es = g.edges in
     let ns = g.names in
     let fs = g.flags.items in
-    let r = c.in_ok-rows.field-0 in
-    let found : FindsRedirects es ns fs r.moved.items r.rows = subst (λ f. FindsRedirects es ns f r.moved.items r.rows) c.as_slice-is_removed.ensures.value c.in_ok-rows.ensures in
+    let r = c.in_ok-found.found in
+    let found : FindsRedirects es ns fs r.moved.items r.rows = subst (λ f. FindsRedirects es ns f r.moved.items r.rows) c.as_slice-is_removed.ensures.value c.in_ok-found.ensures in
     let leaves = c.in_ok-keep_all.ensures.kept in
     let others = c.in_ok-pass_bins.ensures.others in
     let passed : (y : ℕ) → y < length left → bins_of new y ≡ passed_below r.rows fs (length left) (bins_of left) y =
     subst (λ f. (y : ℕ) → y < length left → bins_of new y ≡ passed_below r.rows f (length left) (bins_of left) y) c.as_slice-is_removed.ensures.value c.in_ok-pass_bins.ensures.bins in
-    let are : AreRedirects es ns fs r.rows = λ x z lt gone. found.redirects x z (subst (λ n. x < n) (sym g.names_count) lt) gone in
+    let are : (x z : ℕ) → x < length es → IsWanted fs true x → Leads r.rows x z ↔ IsRedirect es fs ns x z = λ x z lt gone. found.redirects x z (subst (λ n. x < n) (sym g.names_count) lt) gone in
     record {
       texts = refl;
       flags = refl;
@@ -184,4 +184,4 @@ returns c =
     }
 
 pub invariant_of-result : goal.invariant_of-result
-invariant_of-result c = search (rules, c.in_ok-rows.ensures)
+invariant_of-result c = search (rules, c.in_ok-found.ensures)

@@ -78,7 +78,8 @@ need() {
     fi
 }
 
-# What stands in for the program: scripts/answer or scripts/building.py, with the words it takes further.
+# What stands in for the program: scripts/answer or scripts/building.py, with the words it takes
+# further.
 stand_in() {
     need python3 "install the system's package \`python3\`"
     need rt 'it is in `bin` of the Rattle kit, so put that folder on the PATH'

@@ -20,8 +20,9 @@ macro_rules! calls {
             -> (Status, usize)
         {
             let (out, size, mut needed) = (answer.as_mut_ptr(), answer.capacity(), 0);
-            // SAFETY: each text is read alone, up to its length. The library writes to `needed`, and
-            // to at most `size` bytes from `out` on, which are reserved. So many are then written.
+            // SAFETY: each text is read alone, up to its length. The library writes to `needed`,
+            // and to at most `size` bytes from `out` on, which are reserved. So many are then
+            // written.
             unsafe {
                 let status = $function($($text.as_ptr(), $text.len(),)* $($number,)*
                     out, size, &mut needed);

@@ -1,6 +1,7 @@
 //! What isn't passed byte by byte: the mark of the encoding, strings, headers, and runs of bytes
 //! that change nothing.
-ghost use Rattle.std.specs.Prelude.{◌≡◌, ◌≤◌, ◌-◌, ℕ, IfOk, IfSome, Some, false, length, option_map};
+ghost use Rattle.std.specs.Prelude.{◌≡◌, ◌≤◌, ◌-◌, ℕ, IfOk, IfSome, Some, false, length};
+ghost use Rattle.std.specs.Prelude.{option_map};
 ghost use Rattle.std.specs.{Prelude.true, List.prefix_len};
 ghost use Rattle.cargo_toml_depth.specs.Nesting as spec;
 ghost use Rattle.cargo_toml_depth.specs.{Nesting.Place, Places.is_plain};
@@ -31,8 +32,8 @@ pub(crate) fn after_mark(text: &str) -> &str
     }
 }
 
-/// Whether a byte outside of strings and comments changes nothing: it is one of a bare key or value,
-/// or a blank.
+/// Whether a byte outside of strings and comments changes nothing: it is one of a bare key or
+/// value, or a blank.
 fn is_plain(byte: u8) -> bool
     ensures { result ≡ is_plain byte }
 {

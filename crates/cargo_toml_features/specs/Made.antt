@@ -1,5 +1,6 @@
 -- Features that are made of vertices and of what their lists say.
-use Rattle.std.specs.Prelude.{◌≡◌, ◌≤◌, ℕ, false, ◌∷◌, [], if◌then◌else◌, List, map, fold, Option, Some, None}
+use Rattle.std.specs.Prelude.{◌≡◌, ◌≤◌, ℕ, false, ◌∷◌, [], if◌then◌else◌, List, map, fold}
+use Rattle.std.specs.Prelude.{Option, Some, None}
 use Rattle.std.specs.Prelude.{bytes_eq}
 use Rattle.std.specs.{List.list_any, List.slice_range}
 use Rattle.cargo_toml_features.specs.{declared.said.ListItem.ListItem, Said.said_by}

@@ -1,7 +1,8 @@
 //! Which dependencies an answer has.
 ghost use Rattle.std.specs.Prelude.{◌≡◌, ◌↔◌, ◌<◌, Bool, IfOk, IsTrue, OnOk, Some, bytes_eq};
 ghost use Rattle.std.specs.{Prelude.if◌then◌else◌, Prelude.length, Prelude.map, List.list_any};
-ghost use Rattle.cargo_toml_graph.specs.{Action.Text, Ascending.Ascend, Reach.Among, Admitted.Listed};
+ghost use Rattle.cargo_toml_graph.specs.{Action.Text, Ascending.Ascend, Reach.Among};
+ghost use Rattle.cargo_toml_graph.specs.{Admitted.Listed};
 ghost use Rattle.cargo_toml_features.specs.{Recorded.is_mentioned, Vertices.vertex_names};
 ghost use Rattle.cargo_toml_features.specs.Recorded.{entries_at, recorded_of};
 ghost use Rattle.cargo_toml_features.specs.FullGraph.{counts_alone, counts_at, is_mentioned_in};

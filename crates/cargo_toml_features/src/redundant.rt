@@ -1,6 +1,7 @@
 //! Features of dependencies that are on anyway.
 ghost use Rattle.std.specs.Prelude.{◌≡◌, IfOk, List, OnOk, Option, Some, bytes_eq, length, map};
-ghost use Rattle.std.specs.{Prelude.option_map, Prelude.string_bytes, List.list_any, Option.ForSome};
+ghost use Rattle.std.specs.{Prelude.option_map, Prelude.string_bytes, List.list_any};
+ghost use Rattle.std.specs.{Option.ForSome};
 ghost use Rattle.cargo_toml_package.specs.Dependencies.{dependency_meaning};
 ghost use Rattle.cargo_toml_graph.specs.Action.{Text};
 ghost use Rattle.cargo_toml_features.specs.Recorded.{Entry, first_target, is_redundant};

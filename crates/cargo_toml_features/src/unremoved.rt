@@ -35,8 +35,8 @@ pub struct Unremoved<'m, 'd> {
 /// Resolves the full graph: features as they are listed, with entries of whatever dependency tables
 /// and what binaries require. None of them is removed.
 ///
-/// Listings stand in the byte order of their names. No feature has its enablers yet: `cargo_toml_resolve` sets them. It
-/// fails only when out of memory.
+/// Listings stand in the byte order of their names. No feature has its enablers yet:
+/// `cargo_toml_resolve` sets them. It fails only when out of memory.
 pub fn resolve_all<'m: 'd, 'd>(
     alloc: Global,
     listings: &[Listing<'m>],

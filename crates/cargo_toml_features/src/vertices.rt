@@ -1,5 +1,6 @@
 //! The features of a manifest, in the byte order of their names.
-ghost use Rattle.std.specs.Prelude.{◌≡◌, ◌+◌, ◌<◌, ◌^◌, ◌++◌, ◌∷◌, [], ◌||◌, List, IfOk, OnOk, IfSome};
+ghost use Rattle.std.specs.Prelude.{◌≡◌, ◌+◌, ◌<◌, ◌^◌, ◌++◌, ◌∷◌, [], ◌||◌, List, IfOk, OnOk};
+ghost use Rattle.std.specs.Prelude.{IfSome};
 ghost use Rattle.std.specs.Prelude.{Some, bytes_eq, codes, map, length, false, true, string_bytes};
 ghost use Rattle.std.specs.Prelude.{if◌then◌else◌};
 ghost use Rattle.std.specs.{Option.option_map_or};
@@ -11,7 +12,8 @@ ghost use Rattle.cargo_toml_features.specs.{Said.texts_in, Searching.has_key, Se
 ghost use Rattle.cargo_toml_features.specs.{Views.entry_of, Views.listed_of, Vertices.AreVertices};
 ghost use Rattle.cargo_toml_features.specs.Vertices.{IsAtBound, IsMerged, IsMergedInOrder};
 ghost use Rattle.cargo_toml_features.specs.Vertices.{IsSameMerge, Told, default_before, left_keys};
-ghost use Rattle.cargo_toml_features.specs.Vertices.{listing_names, taken_keys, told_names, told_of};
+ghost use Rattle.cargo_toml_features.specs.Vertices.{listing_names, taken_keys, told_names};
+ghost use Rattle.cargo_toml_features.specs.Vertices.{told_of};
 ghost use Rattle.cargo_toml_features.specs.Vertices.{vertex_at, vertex_names};
 
 use crate::acted::Acted;
